@@ -1,0 +1,59 @@
+-- `channels::channels_fine` meets its contract. The loop's invariant: `ok` is the test over the rows passed. Assumes nothing.
+use borrow.Author.Needs.{needs}
+use mathlib.Core.Path.{_≡_, refl}
+use Prim.Native.Nat.{_-_, _≤_}
+use native.Mathlib.Omega.{arith}
+use Rattle.rows.specs.Lists.{all-more, at, below, upTo}
+use Rattle.rows.specs.Tests.{channelRow}
+use Rattle.rows.proofs.channels.channels_fine.Statement.{statement}
+use Rattle.rows.proofs.channels.channels_fine.Tie as tie
+
+abbrev Inv-loop : tie.InvT-loop
+Inv-loop opened known channels ok₀ i₀ ok i = (i ≤ opened) × (ok ≡ below i (channelRow channels known))
+
+abbrev μ-loop : tie.MeasureT-loop
+μ-loop opened known channels ok₀ i₀ ok i = opened - i
+
+loop-holds : tie.Need-loop-holds Inv-loop μ-loop
+loop-holds c = (search needs, refl)
+
+mul-c : tie.Need-mul-c Inv-loop μ-loop
+mul-c c = search needs
+
+array-copy-out-c : tie.Need-array-copy-out-c Inv-loop μ-loop
+array-copy-out-c c = search needs
+
+wide-requires : tie.Need-wide-requires Inv-loop μ-loop
+wide-requires c κs = search needs
+
+number-new-requires : tie.Need-number-new-requires Inv-loop μ-loop
+number-new-requires c κs = search needs
+
+add-i : tie.Need-add-i Inv-loop μ-loop
+add-i c = search needs
+
+loop-less : tie.Need-loop-less Inv-loop μ-loop
+loop-less c = search needs
+
+loop-again : tie.Need-loop-again Inv-loop μ-loop
+loop-again c = let s = c .before .before .before .before .before .before .args in (search needs, rw (c .before .before .wide .ensures .0, c .before .number-new .ensures) (all-more (channelRow (s .t1) (s .known)) _ _ (c .before .before .before .before .before .loop .inv .1)))
+
+returns : tie.Need-returns Inv-loop μ-loop
+unfolding upTo
+returns c = let e : c .before .loop .i ≡ c .before .before .args .opened = omega arith in rw e at (c .before .loop .inv .1)
+
+pub channels-fine-spec : {M : Type 1} → statement M
+channels-fine-spec =
+    tie.close
+    (tie.spec
+    Inv-loop
+    μ-loop
+    loop-holds
+    mul-c
+    array-copy-out-c
+    wide-requires
+    number-new-requires
+    add-i
+    loop-less
+    loop-again
+    returns)

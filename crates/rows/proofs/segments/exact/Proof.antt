@@ -1,0 +1,64 @@
+-- `segments::exact` meets its contract. The loop's invariant: `ok` is the test over the rows passed, with the counts for the tallies. Assumes nothing.
+use borrow.Author.Needs.{needs}
+use mathlib.Core.Path.{_∙_, _≡_, refl}
+use Prim.Native.Nat.{_-_, _≤_}
+use native.Mathlib.Omega.{arith}
+use Rattle.rows.specs.Lists.{all-more, at, below, below-same, upTo}
+use Rattle.rows.specs.Tests.{exactRow, standsRow}
+use Rattle.rows.proofs.segments.exact.Statement.{statement}
+use Rattle.rows.proofs.segments.exact.Tie as tie
+
+abbrev Inv-loop : tie.InvT-loop
+Inv-loop held last n classes times ok₀ i₀ ok i = (i ≤ 32) × (ok ≡ below i (λ j. standsRow (at classes j) (at times j) last n j))
+
+abbrev μ-loop : tie.MeasureT-loop
+μ-loop held last n classes times ok₀ i₀ ok i = 32 - i
+
+tallies-requires : tie.Need-tallies-requires Inv-loop μ-loop
+tallies-requires c κs = search needs
+
+loop-holds : tie.Need-loop-holds Inv-loop μ-loop
+loop-holds c = (search needs, refl)
+
+array-read-c : tie.Need-array-read-c Inv-loop μ-loop
+array-read-c c = search needs
+
+array-read-k : tie.Need-array-read-k Inv-loop μ-loop
+array-read-k c = search needs
+
+add-i : tie.Need-add-i Inv-loop μ-loop
+add-i c = search needs
+
+loop-less : tie.Need-loop-less Inv-loop μ-loop
+loop-less c = search needs
+
+loop-again : tie.Need-loop-again Inv-loop μ-loop
+loop-again c =
+    let s = c .before .before .before .args in
+    let times = c .before .before .tallies .result in
+    (search needs, all-more (λ j. standsRow (at (s .t1) j) (at times j) (s .last) (s .n) j) _ _ (c .before .loop .inv .1))
+
+returns : tie.Need-returns Inv-loop μ-loop
+unfolding upTo
+returns c =
+    let s = c .before .before .before .args in
+    let times = c .before .before .tallies in
+    let e : c .before .loop .i ≡ 32 = omega arith in
+    (rw e at (c .before .loop .inv .1))
+    ∙ below-same 32 (λ j. standsRow (at (s .t1) j) (at (times .result) j) (s .last) (s .n) j) (exactRow (s .t1) (s .chain) (s .held) (s .last) (s .n))
+    (λ j h. rw (times .ensures j h))
+
+pub exact-spec : {M : Type 1} → statement M
+exact-spec =
+    tie.close
+    (tie.spec
+    Inv-loop
+    μ-loop
+    tallies-requires
+    loop-holds
+    array-read-c
+    array-read-k
+    add-i
+    loop-less
+    loop-again
+    returns)

@@ -1,0 +1,155 @@
+-- Searches, counts and tests over lists, which antt computes, and their laws. Assumes nothing.
+use mathlib.Core.Path.{_≡_, refl, ap, subst}
+use mathlib.Core.Bool.{Bool, true, false, cond, _&&_, false≢true}
+use mathlib.Core.List.{List, [], _∷_, _++_}
+use Prim.Native.Nat.{ℕ, zero, suc, _+_, _-_, _≤_, _<_, suc-le-suc}
+use native.Mathlib.Nat.{not-suc-le-zero, le-of-suc-le-suc}
+use native.Mathlib.Numerals.{add-one}
+use native.Mathlib.Omega.{arith}
+use native.Mathlib.Decide.{decLt}
+use borrow.Author.Tests.{eq-eqb, ne-eqb, lt-ltb}
+use lib.ListN.{length, getD, take, drop, replicate}
+use lib.Dec.{ltb, eqb}
+
+-- what stands at a place of a list of numbers, 0 beyond its end
+abbrev pub at : List ℕ → ℕ → ℕ
+at xs i = getD xs i 0
+
+-- the list with zeros behind it, up to n
+abbrev pub padded : ℕ → List ℕ → List ℕ
+padded n xs = xs ++ replicate {A = ℕ} (n - length xs) 0
+
+-- the list without row i, the later rows moved up, and z behind
+abbrev pub without : {A : Type 0} → ℕ → List A → A → List A
+without i xs z = (take i xs ++ drop (suc i) xs) ++ (z ∷ [])
+
+-- every element passes the test
+abbrev pub every : {A : Type 0} → (A → Bool) → List A → Bool
+every p [] = true
+every p (x ∷ xs) = p x && every p xs
+
+-- the place of the first element that passes the test, or the length where there is none
+abbrev pub firstWhere : {A : Type 0} → (A → Bool) → List A → ℕ
+firstWhere p [] = 0
+firstWhere p (x ∷ xs) = elim (p x) [ true ↦ 0 | false ↦ suc (firstWhere p xs) ]
+
+-- the place of the first k
+abbrev pub firstOf : ℕ → List ℕ → ℕ
+firstOf k xs = firstWhere (λ (x : ℕ). eqb x k) xs
+
+-- one more than the place of the last k, or 0 where there is none
+abbrev pub lastOf : ℕ → List ℕ → ℕ
+lastOf k [] = 0
+lastOf k (x ∷ xs) = let r = lastOf k xs in cond (ltb 0 r) (suc r) (cond (eqb x k) 1 0)
+
+-- how many elements are k
+abbrev pub tally : ℕ → List ℕ → ℕ
+tally k [] = 0
+tally k (x ∷ xs) = cond (eqb x k) 1 0 + tally k xs
+
+-- all the tests of a list pass
+abbrev pub allOf : List Bool → Bool
+allOf [] = true
+allOf (b ∷ bs) = b && allOf bs
+
+-- the test passes at each number below n
+abbrev pub below : ℕ → (ℕ → Bool) → Bool
+below zero p = true
+below (suc n) p = below n p && p n
+
+-- the same, shut: at a literal bound `below` computes to as many tests
+unfoldable pub upTo : ℕ → (ℕ → Bool) → Bool
+upTo n p = below n p
+
+-- a test that passed, as what it tested
+pub and-left : (a b : Bool) → a && b ≡ true → a ≡ true
+and-left true b e = refl
+and-left false b e = e
+
+pub and-right : (a b : Bool) → a && b ≡ true → b ≡ true
+and-right true b e = e
+and-right false b e = absurd (false≢true e)
+
+pub nth : (bs : List Bool) → allOf bs ≡ true → (k : ℕ) → k < length bs → getD bs k true ≡ true
+nth [] e k h = refl
+nth (b ∷ bs) e zero h = and-left b (allOf bs) e
+nth (b ∷ bs) e (suc k) h = nth bs (and-right b (allOf bs) e) k (le-of-suc-le-suc h)
+
+pub every-at : {A : Type 0} (p : A → Bool) (xs : List A) (d : A) → every p xs ≡ true → (k : ℕ) → k < length xs → p (getD xs k d) ≡ true
+every-at p [] d t k h = absurd (not-suc-le-zero h)
+every-at p (x ∷ xs) d t zero h = and-left (p x) (every p xs) t
+every-at p (x ∷ xs) d t (suc k) h = every-at p xs d (and-right (p x) (every p xs) t) k (le-of-suc-le-suc h)
+
+-- the bounded test as the statement, and back
+pub below→all : (n : ℕ) (p : ℕ → Bool) → below n p ≡ true → (i : ℕ) → i < n → p i ≡ true
+below→all zero p t i h = absurd (not-suc-le-zero h)
+below→all (suc n) p t i h =
+    elim (decLt i n) [
+      | yes g ↦ below→all n p (and-left (below n p) (p n) t) i g
+      | no g ↦ let e : n ≡ i = omega arith in subst (λ (k : ℕ). p k ≡ true) e (and-right (below n p) (p n) t)
+    ]
+
+pub all→below : (n : ℕ) (p : ℕ → Bool) → ((i : ℕ) → i < n → p i ≡ true) → below n p ≡ true
+all→below zero p f = refl
+all→below (suc n) p f = rw (all→below n p (λ i h. f i (omega arith)), f n (omega arith))
+
+-- the same test, row by row
+pub below-same : (n : ℕ) (p q : ℕ → Bool) → ((i : ℕ) → i < n → p i ≡ q i) → below n p ≡ below n q
+below-same zero p q f = refl
+below-same (suc n) p q f = rw (below-same n p q (λ i h. f i (omega arith)), f n (omega arith))
+
+-- one more row asked
+pub all-more : (p : ℕ → Bool) (i : ℕ) (ok : Bool) → ok ≡ below i p → ok && p i ≡ below (i + 1) p
+all-more p i ok e = rw (add-one, e)
+
+-- firstWhere: where the first stands, and where there is none
+pub where-here : {A : Type 0} (p : A → Bool) (xs : List A) (d : A) (i n : ℕ) → i < n → n ≤ length xs
+    → ((j : ℕ) → j < i → p (getD xs j d) ≡ false) → p (getD xs i d) ≡ true → firstWhere p (take n xs) ≡ i
+where-here p [] d i n h l not e = absurd (omega arith)
+where-here p (x ∷ xs) d i zero h l not e = absurd (not-suc-le-zero h)
+where-here p (x ∷ xs) d zero (suc n) h l not e = rw (firstWhere, e)
+where-here p (x ∷ xs) d (suc i) (suc n) h l not e =
+    rw (firstWhere, not 0 (omega arith))
+    (ap suc (where-here p xs d i n (le-of-suc-le-suc h) (le-of-suc-le-suc l) (λ j g. not (suc j) (suc-le-suc g)) e))
+
+pub where-none : {A : Type 0} (p : A → Bool) (xs : List A) (d : A) (n : ℕ) → n ≤ length xs
+    → ((j : ℕ) → j < n → p (getD xs j d) ≡ false) → firstWhere p (take n xs) ≡ n
+where-none p [] d zero l not = refl
+where-none p [] d (suc n) l not = absurd (not-suc-le-zero l)
+where-none p (x ∷ xs) d zero l not = refl
+where-none p (x ∷ xs) d (suc n) l not =
+    rw (firstWhere, not 0 (omega arith)) (ap suc (where-none p xs d n (le-of-suc-le-suc l) (λ j g. not (suc j) (suc-le-suc g))))
+
+-- firstWhere: the test passes there; and where it gives the length, nowhere
+found-by : {A : Type 0} (p : A → Bool) (x : A) (xs : List A) (d : A) (b : Bool) → p x ≡ b
+    → (firstWhere p xs < length xs → p (getD xs (firstWhere p xs) d) ≡ true)
+    → firstWhere p (x ∷ xs) < length (x ∷ xs) → p (getD (x ∷ xs) (firstWhere p (x ∷ xs)) d) ≡ true
+found-by p x xs d true e r h = rw (firstWhere, e) e
+found-by p x xs d false e r h = rw (firstWhere, e) (r (le-of-suc-le-suc (rw (firstWhere, e) at h)))
+
+pub where-found : {A : Type 0} (p : A → Bool) (xs : List A) (d : A) → firstWhere p xs < length xs → p (getD xs (firstWhere p xs) d) ≡ true
+where-found p [] d h = absurd (not-suc-le-zero h)
+where-found p (x ∷ xs) d h = found-by p x xs d (p x) refl (where-found p xs d) h
+
+absent-by : {A : Type 0} (p : A → Bool) (x : A) (xs : List A) (d : A) (b : Bool) → p x ≡ b
+    → (length xs ≤ firstWhere p xs → (i : ℕ) → i < length xs → p (getD xs i d) ≡ false)
+    → length (x ∷ xs) ≤ firstWhere p (x ∷ xs) → (i : ℕ) → i < length (x ∷ xs) → p (getD (x ∷ xs) i d) ≡ false
+absent-by p x xs d true e r h i l = absurd (not-suc-le-zero (rw (firstWhere, e) at h))
+absent-by p x xs d false e r h zero l = e
+absent-by p x xs d false e r h (suc i) l = r (le-of-suc-le-suc (rw (firstWhere, e) at h)) i (le-of-suc-le-suc l)
+
+pub where-absent : {A : Type 0} (p : A → Bool) (xs : List A) (d : A) → length xs ≤ firstWhere p xs → (i : ℕ) → i < length xs → p (getD xs i d) ≡ false
+where-absent p [] d h i l = absurd (not-suc-le-zero l)
+where-absent p (x ∷ xs) d h i l = absent-by p x xs d (p x) refl (where-absent p xs d) h i l
+
+-- lastOf: where there is none, and where the last k stands
+pub last-none : (k : ℕ) (xs : List ℕ) → ((j : ℕ) → j < length xs → getD xs j 0 ≡ k → ⊥) → lastOf k xs ≡ 0
+last-none k [] not = refl
+last-none k (x ∷ xs) not = rw (lastOf, last-none k xs (λ j g. not (suc j) (suc-le-suc g)), ne-eqb x k (not 0 (omega arith)))
+
+pub last-here : (k : ℕ) (xs : List ℕ) (i : ℕ) → i < length xs → ((j : ℕ) → i < j → j < length xs → getD xs j 0 ≡ k → ⊥)
+    → getD xs i 0 ≡ k → lastOf k xs ≡ suc i
+last-here k [] i h not e = absurd (omega arith)
+last-here k (x ∷ xs) zero h not e = rw (lastOf, last-none k xs (λ j g. not (suc j) (omega arith) (suc-le-suc g)), eq-eqb x k e)
+last-here k (x ∷ xs) (suc i) h not e =
+    rw (lastOf, last-here k xs i (le-of-suc-le-suc h) (λ j g l. not (suc j) (suc-le-suc g) (suc-le-suc l)) e, lt-ltb 0 (suc i) (omega arith))

@@ -1,0 +1,119 @@
+// The rows of channels, in line order.
+ghost use mathlib.Core.Path.{_≡_};
+ghost use Prim.Native.Nat.{_≤_, _<_};
+ghost use lib.ListN.{take};
+ghost use Rattle.rows.specs.Lists.{without, upTo};
+ghost use Rattle.rows.specs.Channels.{noChannel, sumOf, placeIn, foundAt};
+ghost use Rattle.rows.specs.Tests.{restChannel, differRow, channelRow, channelTest};
+use super::Channel;
+use super::Place;
+use super::numbers::wide;
+use super::numbers::wide16;
+
+// The length of the first `count` records.
+pub fn total(channels: [Channel; 32], count: usize) -> usize
+    requires { ⌜ count ≤ 32 ⌝ }
+    ensures { λ r. ⌜ (r ≡ sumOf (take count channels)) × (r ≤ 2097632) ⌝ }
+{
+    let mut sum: usize = 0;
+    let mut i: usize = 0;
+    while i < count {
+        let c = channels[i];
+        sum = sum + 16 + wide16(c.n);
+        i = i + 1;
+    }
+    sum
+}
+
+// Where the channel `ch` stands among the first `opened` rows.
+pub fn channel_place(channels: [Channel; 32], opened: usize, ch: u8) -> Place
+    requires { ⌜ opened ≤ 32 ⌝ }
+    ensures { λ r. ⌜ r ≡ foundAt (placeIn (take opened channels) ch) opened ⌝ }
+{
+    let mut i: usize = 0;
+    while i < opened {
+        let c = channels[i];
+        if c.number == ch {
+            return Place::At(i);
+        }
+        i = i + 1;
+    }
+    Place::Nowhere
+}
+
+// The rows without the one at `i`, the later ones moved up, and an empty row at the end.
+pub fn without_row(channels: [Channel; 32], i: usize) -> [Channel; 32]
+    requires { ⌜ i < 32 ⌝ }
+    ensures { λ r. ⌜ r ≡ without i channels noChannel ⌝ }
+{
+    let mut rows = channels;
+    let mut j = i;
+    while j < 31 {
+        let c = rows[j + 1];
+        rows[j] = c;
+        j = j + 1;
+    }
+    rows[j] = Channel {
+        number: 0,
+        device: 0,
+        unit: 0,
+        n: 0,
+    };
+    rows
+}
+
+// Rows from `opened` on are empty.
+fn empty_from(channels: [Channel; 32], opened: usize) -> bool
+    ensures { λ r. ⌜ r ≡ upTo 32 (restChannel channels opened) ⌝ }
+{
+    let mut ok = true;
+    let mut i: usize = 0;
+    while i < 32 {
+        let c = channels[i];
+        ok = ok & ((i < opened) | ((c.number == 0) & (c.device == 0) & (c.unit == 0) & (c.n == 0)));
+        i = i + 1;
+    }
+    ok
+}
+
+// No row before `i` has its number.
+fn number_new(channels: [Channel; 32], i: usize) -> bool
+    requires { ⌜ i < 32 ⌝ }
+    ensures { λ r. ⌜ r ≡ upTo i (differRow channels i) ⌝ }
+{
+    let c = channels[i];
+    let mut ok = true;
+    let mut j: usize = 0;
+    while j < i {
+        let d = channels[j];
+        ok = ok & !(d.number == c.number);
+        j = j + 1;
+    }
+    ok
+}
+
+// The first `opened` rows are channels, each with a number of its own and a device in the table.
+fn channels_fine(channels: [Channel; 32], opened: usize, known: usize) -> bool
+    requires { ⌜ opened ≤ 32 ⌝ }
+    ensures { λ r. ⌜ r ≡ upTo opened (channelRow channels known) ⌝ }
+{
+    let mut ok = true;
+    let mut i: usize = 0;
+    while i < opened {
+        let c = channels[i];
+        let d = wide(c.device);
+        let new = number_new(channels, i);
+        ok = ok & ((c.number < 255) & (d < known) & new);
+        i = i + 1;
+    }
+    ok
+}
+
+pub fn channel_test(channels: [Channel; 32], opened: usize, known: usize) -> bool
+    ensures { λ r. ⌜ r ≡ channelTest channels opened known ⌝ }
+{
+    if 32 < opened {
+        return false;
+    }
+    channels_fine(channels, opened, known) & empty_from(channels, opened)
+}

@@ -1,0 +1,236 @@
+// The rows of devices, and names: 28 bytes, of which the first `length` count.
+ghost use mathlib.Core.Path.{_≡_};
+ghost use mathlib.Core.List.{map};
+ghost use Prim.Native.Nat.{_≤_, _<_};
+ghost use lib.ListN.{take};
+ghost use Rattle.rows.specs.Lists.{upTo};
+ghost use Rattle.rows.specs.Channels.{foundAt};
+ghost use Rattle.rows.specs.Devices.{builtIn, sameName, sameBytes, muted, answers, deviceIn};
+ghost use Rattle.rows.specs.Tests.{letterRow, nameTest, defaultTest, zeroRow, restDevice, aliasRow, deviceRow, builtTest, deviceTest};
+use super::Device;
+use super::Place;
+use super::numbers::wide;
+
+const VIDEO: [u8; 28] = *b"VIDEO\0\0\0\0\0\0\0\0\0\0\0\0\0\0\0\0\0\0\0\0\0\0\0";
+
+const NET: [u8; 28] = *b"NET\0\0\0\0\0\0\0\0\0\0\0\0\0\0\0\0\0\0\0\0\0\0\0\0\0";
+
+const KEYBOARD: [u8; 28] = *b"KEYBOARD\0\0\0\0\0\0\0\0\0\0\0\0\0\0\0\0\0\0\0\0";
+
+// The devices that are built in, and unused rows behind them.
+pub fn built_in() -> [Device; 16]
+    ensures { λ r. ⌜ r ≡ builtIn ⌝ }
+{
+    let mut rows = [Device {
+        name: [0; 28],
+        length: 0,
+        enabled: false,
+    }; 16];
+    rows[0] = Device {
+        name: VIDEO,
+        length: 5,
+        enabled: true,
+    };
+    rows[1] = Device {
+        name: NET,
+        length: 3,
+        enabled: true,
+    };
+    rows[2] = Device {
+        name: KEYBOARD,
+        length: 8,
+        enabled: true,
+    };
+    rows
+}
+
+fn same_bytes(a: [u8; 28], b: [u8; 28]) -> bool
+    ensures { λ r. ⌜ r ≡ upTo 28 (sameBytes a b) ⌝ }
+{
+    let mut ok = true;
+    let mut k: usize = 0;
+    while k < 28 {
+        ok = ok & (a[k] == b[k]);
+        k = k + 1;
+    }
+    ok
+}
+
+// Bytes are compared only where the lengths agree.
+pub fn same_name(a: [u8; 28], la: u8, b: [u8; 28], lb: u8) -> bool
+    ensures { λ r. ⌜ r ≡ sameName a la b lb ⌝ }
+{
+    if la != lb {
+        return false;
+    }
+    same_bytes(a, b)
+}
+
+// `d` is enabled and has this name, which is not empty.
+fn has_name(d: Device, name: [u8; 28], length: u8) -> bool
+    ensures { λ r. ⌜ r ≡ answers name length d ⌝ }
+{
+    let other = d.name;
+    (0 < length) & (d.enabled & same_name(other, d.length, name, length))
+}
+
+// Where the first enabled device of this name stands among the first `known` rows.
+pub fn device_place(devices: [Device; 16], known: usize, name: [u8; 28], length: u8) -> Place
+    requires { ⌜ known ≤ 16 ⌝ }
+    ensures { λ r. ⌜ r ≡ foundAt (deviceIn (take known devices) name length) known ⌝ }
+{
+    let mut i: usize = 0;
+    while i < known {
+        let d = devices[i];
+        if has_name(d, name, length) {
+            return Place::At(i);
+        }
+        i = i + 1;
+    }
+    Place::Nowhere
+}
+
+fn disable_one(d: Device, name: [u8; 28], length: u8) -> Device
+    ensures { λ r. ⌜ r ≡ muted name length d ⌝ }
+{
+    let other = d.name;
+    let on = d.enabled & !same_name(other, d.length, name, length);
+    Device {
+        name: other,
+        length: d.length,
+        enabled: on,
+    }
+}
+
+// Each device of this name is disabled.
+pub fn disable(devices: [Device; 16], name: [u8; 28], length: u8) -> [Device; 16]
+    ensures { λ r. ⌜ r ≡ map (muted name length) devices ⌝ }
+{
+    let mut rows = devices;
+    let mut i: usize = 0;
+    while i < 16 {
+        let d = disable_one(devices[i], name, length);
+        rows[i] = d;
+        i = i + 1;
+    }
+    rows
+}
+
+fn letters(name: [u8; 28], n: usize) -> bool
+    ensures { λ r. ⌜ r ≡ upTo 28 (letterRow name n) ⌝ }
+{
+    let mut ok = true;
+    let mut i: usize = 0;
+    while i < 28 {
+        let c = name[i];
+        ok = ok & (((n <= i) & (c == 0)) | ((i < n) & (65 <= c) & (c <= 90)));
+        i = i + 1;
+    }
+    ok
+}
+
+// A capital below the length, zero from it on.
+pub fn name_test(name: [u8; 28], length: u8) -> bool
+    ensures { λ r. ⌜ r ≡ nameTest name length ⌝ }
+{
+    (length <= 28) & letters(name, wide(length))
+}
+
+pub fn default_test(name: [u8; 28], length: u8, unit: u8) -> bool
+    ensures { λ r. ⌜ r ≡ defaultTest name length unit ⌝ }
+{
+    name_test(name, length) & ((0 < length) | (unit == 0))
+}
+
+fn nameless(name: [u8; 28]) -> bool
+    ensures { λ r. ⌜ r ≡ upTo 28 (zeroRow name) ⌝ }
+{
+    let mut ok = true;
+    let mut i: usize = 0;
+    while i < 28 {
+        ok = ok & (name[i] == 0);
+        i = i + 1;
+    }
+    ok
+}
+
+// Rows from `known` on are empty.
+fn unused_from(devices: [Device; 16], known: usize) -> bool
+    ensures { λ r. ⌜ r ≡ upTo 16 (restDevice devices known) ⌝ }
+{
+    let mut ok = true;
+    let mut i: usize = 0;
+    while i < 16 {
+        let d = devices[i];
+        let name = d.name;
+        ok = ok & ((i < known) | ((d.length == 0) & !d.enabled & nameless(name)));
+        i = i + 1;
+    }
+    ok
+}
+
+// No later one of the first `known` has the name of row `i`.
+fn latest(devices: [Device; 16], known: usize, i: usize) -> bool
+    requires { ⌜ (known ≤ 16) × (i < 16) ⌝ }
+    ensures { λ r. ⌜ r ≡ upTo known (aliasRow devices i) ⌝ }
+{
+    let d = devices[i];
+    let name = d.name;
+    let length = d.length;
+    let mut ok = true;
+    let mut j: usize = 0;
+    while j < known {
+        let e = devices[j];
+        let other = e.name;
+        ok = ok & ((j <= i) | !same_name(other, e.length, name, length));
+        j = j + 1;
+    }
+    ok
+}
+
+// The first `known` rows are devices, each with a name, and enabled exactly if no later one has its name.
+fn devices_fine(devices: [Device; 16], known: usize) -> bool
+    requires { ⌜ known ≤ 16 ⌝ }
+    ensures { λ r. ⌜ r ≡ upTo known (deviceRow devices known) ⌝ }
+{
+    let mut ok = true;
+    let mut i: usize = 0;
+    while i < known {
+        let d = devices[i];
+        let name = d.name;
+        let length = d.length;
+        let on = d.enabled;
+        let fine = name_test(name, length);
+        let last = latest(devices, known, i);
+        ok = ok & ((1 <= length) & fine & ((on & last) | (!on & !last)));
+        i = i + 1;
+    }
+    ok
+}
+
+// The devices that are built in stand in the first three rows.
+fn built_named(devices: [Device; 16]) -> bool
+    ensures { λ r. ⌜ r ≡ builtTest devices ⌝ }
+{
+    let a = devices[0];
+    let b = devices[1];
+    let c = devices[2];
+    let x = a.name;
+    let y = b.name;
+    let z = c.name;
+    same_name(x, a.length, VIDEO, 5)
+        & same_name(y, b.length, NET, 3)
+        & same_name(z, c.length, KEYBOARD, 8)
+}
+
+pub fn device_test(devices: [Device; 16], known: usize) -> bool
+    ensures { λ r. ⌜ r ≡ deviceTest devices known ⌝ }
+{
+    if known < 3 {
+        return false;
+    }
+    if 16 < known {
+        return false;
+    }
+    built_named(devices) & devices_fine(devices, known) & unused_from(devices, known)
+}
