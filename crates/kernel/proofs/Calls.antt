@@ -1,0 +1,51 @@
+-- A public call: refused for its tables, or what the call does on good ones. Assumes nothing.
+use mathlib.Core.Path.{_≡_, refl, sym, _∙_}
+use mathlib.Core.Bool.{Bool, true, false, cond, not, _||_}
+use mathlib.Core.List.{List}
+use Prim.Native.Nat.{ℕ}
+use borrow.Author.Tests.{not-true, not-false, eqb-true}
+use lib.Dec.{eqb}
+use lib.ListN.{length}
+use Rattle.rows.specs.Lists.{and-right}
+use Rattle.kernel.specs.Definition.Tables.{ramSize}
+use Rattle.kernel.specs.Definition.Good.{Good, goodTest}
+use Rattle.kernel.specs.Definition.Answers.{gives, granted}
+use Rattle.kernel.specs.Definition.Calls.{Call, isStart}
+use Rattle.kernel.specs.Definition.Step.{accepted, heard, decided, ramAfter, outputAfter, result, completed, step}
+use Rattle.kernel.specs.declared.Tables.{Tables}
+use Rattle.kernel.specs.declared.Outcome.{Outcome}
+use Rattle.kernel.specs.declared.Answer.the-variants.{BadTables}
+
+-- what `accepts` told, once its answer is yes
+pub accepted-good : (t : Tables) (b : Bool) → (b ≡ true → Good t) → not b ≡ false → Good t
+accepted-good t b f n = f (not-false b n)
+
+pub accepted-size : (t : Tables) (ram : ℕ) (b : Bool) → b ≡ accepted t ram → not b ≡ false → ram ≡ ramSize t
+accepted-size t ram b e n = eqb-true ram (ramSize t) (and-right (goodTest t) (eqb ram (ramSize t)) (sym e ∙ not-false b n))
+
+module _ (t : Tables) (ram : List ℕ) (c : Call) (out : List ℕ) (b : Bool) (e : b ≡ accepted t (length ram)) where
+  pub call-refused : isStart c ≡ false → not b ≡ true → (r : Outcome) → r ≡ gives BadTables t → result r ram out ≡ step t ram c out
+  unfolding step decided completed
+  call-refused s n r q = let a : accepted t (length ram) ≡ false = sym e ∙ not-true b n in rw (q, s, a)
+
+  heard-by : (s : Bool) → accepted t (length ram) ≡ true → (o : Outcome) → cond (not (s || accepted t (length ram))) (gives BadTables t) o ≡ o
+  heard-by true a o = refl
+  heard-by false a o = rw a
+
+  step-heard : not b ≡ false → completed t (heard t (length ram) (length out) c) ram c out ≡ step t ram c out
+  unfolding step decided
+  step-heard n = rw (heard-by (isStart c) (sym e ∙ not-false b n) (heard t (length ram) (length out) c))
+
+  pub call-done : not b ≡ false → (r : Outcome) (ram' out' : List ℕ) → result r ram' out' ≡ completed t (heard t (length ram) (length out) c) ram c out
+      → result r ram' out' ≡ step t ram c out
+  call-done n r ram' out' q = q ∙ step-heard n
+
+  -- a call that touches neither the RAM nor the output
+  pub call-quiet : not b ≡ false → (r : Outcome) → ramAfter t (r .tables) ram c ≡ ram → outputAfter t ram c out ≡ out
+      → r ≡ heard t (length ram) (length out) c → result r ram out ≡ step t ram c out
+  unfolding completed
+  call-quiet n r p q h = call-done n r ram out (rw (← h) (sym (quiet (granted (r .answer)))))
+    where
+      quiet : (d : Bool) → result r (cond d (ramAfter t (r .tables) ram c) ram) (cond d (outputAfter t ram c out) out) ≡ result r ram out
+      quiet true = rw (p, q)
+      quiet false = refl

@@ -1,0 +1,69 @@
+-- The branches of close, as the code takes them. Assumes nothing.
+use mathlib.Core.Path.{_≡_, sym, _∙_}
+use mathlib.Core.List.{List}
+use Prim.Native.Nat.{ℕ, _+_, _-_, _≤_, _<_}
+use native.Mathlib.Omega.{arith}
+use borrow.Author.Tests.{le-leb, lt-leb}
+use lib.ListN.{take}
+use Rattle.rows.specs.Lists.{without}
+use Rattle.rows.specs.Channels.{noChannel, sumOf, placeIn, foundAt, found-at, found-nowhere}
+use Rattle.rows.specs.Sizes.{chainLength, length-some}
+use Rattle.rows.specs.declared.Channel.{Channel}
+use Rattle.rows.specs.declared.Place.{Place}
+use Rattle.rows.specs.declared.Place.the-variants.{At, Nowhere}
+use Rattle.line.specs.Line.{Chain, closed}
+use Rattle.kernel.specs.Definition.Tables.{channelAt, ramSize, withChannels}
+use Rattle.kernel.specs.Definition.Good.{Good}
+use Rattle.kernel.specs.Definition.Line.{recordAt, sizeAt, shrunk, closing}
+use Rattle.kernel.specs.Definition.Answers.{gives}
+use Rattle.kernel.specs.Definition.Calls.{onClose, close}
+use Rattle.kernel.specs.Definition.Step.{completed, result, ramClosed}
+use Rattle.kernel.specs.Laws.Facts.{Fit, fit}
+use Rattle.kernel.specs.Laws.Chains.{good-chain}
+use Rattle.kernel.specs.Laws.Records.{record-within}
+use Rattle.kernel.specs.declared.Tables.{Tables}
+use Rattle.kernel.specs.declared.Answer.the-variants.{Done, NoChannel}
+
+-- the tables without the channel in row i
+module _ (t : Tables) (line keep held gone : ℕ) (rows : List Channel) (k : keep ≡ chainLength (t .room) line) (m : held ≡ t .held) (d : gone ≡ held - keep) where
+  pub rows-fit : Good t → Fit (withChannels t (t .opened - 1) rows) × (gone < t .held)
+  rows-fit g =
+      let f = fit t g in (
+        record { one = f .one; segments = f .segments; holds = f .holds; held = f .held; rows = f .rows; opened = omega (arith, f .opened); known = f .known },
+        omega (arith, length-some (t .room) line, f .holds),
+      )
+
+  pub rows-closed : (i left : ℕ) (after : Tables) → rows ≡ without i (t .channels) noChannel → left ≡ t .opened - 1 → line ≡ sumOf (take left rows)
+      → after ≡ shrunk gone (withChannels t (t .opened - 1) rows) → after ≡ closing t i
+  unfolding closing
+  rows-closed i left after r l s a = rw (a, d, m, k, s, l, r)
+
+-- the RAM without the record of row i
+module _ (t : Tables) (i start n opened line room : ℕ) (s : start ≡ recordAt t i) (p : n ≡ sizeAt t i) (o : opened ≡ t .opened)
+    (l : line ≡ sumOf (take opened (t .channels))) (r : room ≡ t .room) where
+  pub record-chain : (size : ℕ) → Good t → i < t .opened → size ≡ ramSize t → (start + (16 + n) ≤ line) × Chain (t .chain) room line size
+  record-chain size g h e = rw (s, p, l, o, r) (record-within t i g h, good-chain t size g e)
+
+  pub record-closed : (ram after : List ℕ) → after ≡ closed (t .chain) room ram start (16 + n) line → after ≡ ramClosed t ram i
+  record-closed ram after a = rw (a, s, p, l, o, r)
+
+-- the channel's row, as the code finds it
+module _ (t : Tables) (channel opened : ℕ) (place : Place) (o : opened ≡ t .opened)
+    (f : place ≡ foundAt (placeIn (take opened (t .channels)) channel) opened) where
+  pub place-at : (i : ℕ) → place ≡ At i → (channelAt t channel ≡ i) × (i < t .opened)
+  place-at i e =
+      let q = found-at (channelAt t channel) (t .opened) i (sym (rw o at f) ∙ e) in
+      (q .0, omega (arith, q .0, q .1))
+
+  pub place-gone : place ≡ Nowhere → t .opened ≤ channelAt t channel
+  place-gone e = found-nowhere (channelAt t channel) (t .opened) (sym (rw o at f) ∙ e)
+
+module _ (t : Tables) (channel : ℕ) (ram out : List ℕ) where
+  pub close-gone : t .opened ≤ channelAt t channel → result (gives NoChannel t) ram out ≡ completed t (onClose t channel) ram (close channel) out
+  unfolding completed onClose
+  close-gone h = rw (le-leb _ _ h)
+
+  pub close-done : (i : ℕ) (next : Tables) (after : List ℕ) → channelAt t channel ≡ i → i < t .opened → next ≡ closing t i → after ≡ ramClosed t ram i
+      → result (gives (Done 0 0) next) after out ≡ completed t (onClose t channel) ram (close channel) out
+  unfolding completed onClose
+  close-done i next after e h n a = rw (n, a, e, lt-leb _ _ h)

@@ -1,0 +1,107 @@
+-- The branches of link, as the code takes them. Assumes nothing.
+use mathlib.Core.Path.{_≡_, refl, sym, _∙_}
+use mathlib.Core.Bool.{Bool, true, false, not, _||_, true≢false}
+use mathlib.Core.List.{List, map}
+use Prim.Native.Nat.{ℕ, _+_, _-_, _≤_, _<_}
+use native.Mathlib.Omega.{arith}
+use borrow.Author.Tests.{lt-ltb, le-ltb, le-leb, lt-leb, ltb-false, not-true, not-false}
+use lib.Dec.{ltb}
+use lib.ListN.{length, take, set}
+use lib.Seq.{take-all}
+use Rattle.rows.specs.Channels.{sumOf}
+use Rattle.rows.specs.Devices.{muted}
+use Rattle.rows.specs.Sizes.{chainLength}
+use Rattle.rows.specs.declared.Device.{Device}
+use Rattle.names.specs.Runs.{link-right}
+use Rattle.names.specs.Tests.{linkTest}
+use Rattle.names.specs.Words.{wordOf}
+use Rattle.line.specs.Line.{Chain, linked}
+use Rattle.kernel.specs.Definition.Tables.{ramSize, withDevices}
+use Rattle.kernel.specs.Definition.Good.{Good}
+use Rattle.kernel.specs.Definition.Line.{totalOf, grown, roomFor}
+use Rattle.kernel.specs.Definition.Devices.{linking}
+use Rattle.kernel.specs.Definition.Answers.{gives}
+use Rattle.kernel.specs.Definition.Calls.{link, onLink}
+use Rattle.kernel.specs.Definition.Step.{completed, result}
+use Rattle.kernel.specs.Laws.Links.{Links, roomToLink, linking-room, linking-held, linking-chain}
+use Rattle.kernel.specs.declared.Tables.{Tables}
+use Rattle.kernel.specs.declared.Answer.the-variants.{Done, BadName, Full, NoRoom}
+
+twice : (x : Bool) → not (not x) ≡ x
+twice true = refl
+twice false = refl
+
+neither : (x y : Bool) → (x || y) ≡ false → (x ≡ false) × (y ≡ false)
+neither true y e = absurd (true≢false e)
+neither false y e = (refl, e)
+
+-- the device added
+module _ (t : Tables) (m : ℕ) (name : List ℕ) (count end long held more : ℕ) (a : count ≡ t .opened) (b : end ≡ sumOf (take count (t .channels)))
+    (e : long ≡ chainLength (t .room - m) end) (f : held ≡ t .held) (d : more ≡ long - held) where
+  growth : more ≡ chainLength (t .room - m) (totalOf t) - t .held
+  growth = rw (d, f, e, b, a)
+
+  pub device-held : Good t → Links t m name → t .held + more ≤ 32
+  device-held g l = rw growth (linking-held t m name g l)
+
+  pub device-made : (bytes : List ℕ) (rows : List Device) (known : ℕ) (after : Tables) → bytes ≡ wordOf (take (length name) name)
+      → rows ≡ map (muted bytes (length name)) (t .devices) → known ≡ t .known
+      → after ≡ grown more (withDevices t (t .room - m) (t .known + 1) (set rows known (record { name = bytes; length = length name; enabled = true })))
+      → after ≡ linking t m (wordOf name) (length name)
+  unfolding linking
+  device-made bytes rows known after p q k h =
+      let w : bytes ≡ wordOf name = p ∙ rw (take-all (length name) name (omega arith)) in
+      rw (h, growth, k, q, w)
+
+-- the room rule
+module _ (t : Tables) (m room size : ℕ) (a : room ≡ t .room) (b : size ≡ m) where
+  pub room-low : room < 256 + size → false ≡ roomToLink t m
+  room-low h = let g : t .room < 256 + m = rw (a, b) at h in rw (lt-ltb _ _ g)
+
+  pub room-left : (count end : ℕ) (ok : Bool) → 256 + size ≤ room → count ≡ t .opened → end ≡ sumOf (take count (t .channels)) → ok ≡ roomFor t (t .room - m) end
+      → ok ≡ roomToLink t m
+  room-left count end ok h c e r =
+      let g : 256 + m ≤ t .room = rw (a, b) at h in
+      rw (le-ltb _ _ g, twice) (rw (r, e, c))
+
+-- the name, the number of devices, and the room
+module _ (t : Tables) (m : ℕ) (name : List ℕ) (ok : Bool) (n : ok ≡ linkTest name) where
+  pub link-unnamed : not ok ≡ true → onLink t m name ≡ gives BadName t
+  unfolding onLink
+  link-unnamed h = rw (← n, h)
+
+  module _ (named : not ok ≡ false) where
+    pub link-full : 16 ≤ t .known → onLink t m name ≡ gives Full t
+    unfolding onLink
+    link-full h = rw (← n, named, le-leb _ _ h)
+
+    module _ (few : t .known < 16) (fits : Bool) (r : fits ≡ roomToLink t m) where
+      pub link-none : not fits ≡ true → onLink t m name ≡ gives NoRoom t
+      unfolding onLink
+      link-none h =
+          let k : (ltb (t .room) (256 + m) || not (roomFor t (t .room - m) (totalOf t))) ≡ true = not-false _ (sym r ∙ not-true _ h) in
+          rw (← n, named, lt-leb _ _ few, k)
+
+      room-rule : not fits ≡ false → (ltb (t .room) (256 + m) || not (roomFor t (t .room - m) (totalOf t))) ≡ false
+      room-rule h = not-true _ (sym r ∙ not-false _ h)
+
+      pub link-answer : not fits ≡ false → onLink t m name ≡ gives (Done (t .known) (t .room - m)) (linking t m (wordOf name) (length name))
+      unfolding onLink
+      link-answer h = rw (← n, named, lt-leb _ _ few, room-rule h)
+
+      pub links-of : not fits ≡ false → Links t m name
+      links-of h =
+          let (x, y) = neither _ _ (room-rule h) in
+          record { named = link-right name (sym n ∙ not-false _ named); few = few; least = ltb-false _ _ x; room = not-false _ y }
+
+-- the line moved
+module _ (t : Tables) (m : ℕ) (name : List ℕ) (g : Good t) (l : Links t m name) (next : Tables) (e : next ≡ linking t m (wordOf name) (length name))
+    (room size end : ℕ) (a : room ≡ t .room) (b : size ≡ m) (d : end ≡ totalOf t) where
+  pub link-chain : (bytes : ℕ) → bytes ≡ ramSize t → (size ≤ room) × Chain (next .chain) room (end + size) bytes
+  link-chain bytes h = (omega (arith, l .least), rw (a, b, d, e) (linking-chain t m name g l bytes h))
+
+  pub link-done : (ram after out : List ℕ) → after ≡ linked (next .chain) room size ram end
+      → onLink t m name ≡ gives (Done (t .known) (t .room - m)) (linking t m (wordOf name) (length name))
+      → result (gives (Done (t .known) (next .room)) next) after out ≡ completed t (onLink t m name) ram (link m name) out
+  unfolding completed
+  link-done ram after out h o = rw (h, a, b, d, o, e, linking-room t m name g l)

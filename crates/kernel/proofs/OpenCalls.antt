@@ -1,0 +1,217 @@
+-- The branches of open, as the code takes them. Assumes nothing.
+use mathlib.Core.Path.{_≡_, refl, sym, ap, _∙_}
+use mathlib.Core.Bool.{Bool, true, false, not}
+use mathlib.Core.List.{List, [], _∷_}
+use Prim.Native.Nat.{ℕ, _+_, _-_, _%_, _≤_, _<_}
+use native.Mathlib.Omega.{arith}
+use borrow.Author.Tests.{lt-ltb, le-ltb, le-leb, lt-leb, ne-eqb, ltb-false, not-false}
+use lib.Dec.{ltb}
+use lib.ListN.{length, take, set, length-take}
+use Rattle.rows.specs.Channels.{sumOf, placeIn, foundAt, found-at, found-nowhere}
+use Rattle.rows.specs.Devices.{deviceIn}
+use Rattle.rows.specs.Sizes.{chainLength}
+use Rattle.rows.specs.declared.Channel.{Channel}
+use Rattle.rows.specs.declared.Place.{Place}
+use Rattle.rows.specs.declared.Place.the-variants.{At, Nowhere}
+use Rattle.names.specs.Read.{reading}
+use Rattle.names.specs.Parts.{partsOf}
+use Rattle.names.specs.Places.{parts-refused}
+use Rattle.names.specs.Words.{wordOf}
+use Rattle.names.specs.declared.UnitNumber.{UnitNumber}
+use Rattle.names.specs.declared.UnitNumber.the-variants.{Given, Absent}
+use Rattle.names.specs.declared.Parts.{Parts}
+use Rattle.names.specs.declared.Parts.the-variants.{Refused, Read}
+use Rattle.line.specs.Line.{Chain, opened}
+use Rattle.kernel.specs.Definition.Tables.{ramSize, channelAt, withChannels}
+use Rattle.kernel.specs.Definition.Good.{Good}
+use Rattle.kernel.specs.Definition.Line.{totalOf, grown, roomFor, opening}
+use Rattle.kernel.specs.Definition.Names.{Wanted, wantedBy}
+use Rattle.kernel.specs.Definition.Answers.{gives}
+use Rattle.kernel.specs.Definition.Calls.{«open», onOpen, onOpenNamed, onOpenTo}
+use Rattle.kernel.specs.Definition.Step.{Result, completed, result, ramOpened}
+use Rattle.kernel.specs.Laws.Opens.{New, Fits, onOpenRow, opening-held, opening-row, opening-chain}
+use Rattle.kernel.specs.Laws.Wants.{wantedOf, parts-few, meant}
+use Rattle.kernel.specs.declared.Tables.{Tables}
+use Rattle.kernel.specs.declared.open.Sought.{Sought}
+use Rattle.kernel.specs.declared.Answer.the-variants.{Done, NoChannel, Exists, BadName, NoDevice, Driver, Full, NoRoom}
+use Rattle.kernel.specs.declared.Outcome.{Outcome}
+
+-- a call's body says no more than its answer and the next tables
+pub onward : (t : Tables) (o p : Outcome) (r : Result) (ram out : List ℕ) (a b c d e f : ℕ) (s u : List ℕ) → p ≡ o → r ≡ completed t o ram («open» a b c s) out
+    → r ≡ completed t p ram («open» d e f u) out
+unfolding completed
+onward t o p r ram out a b c d e f s u q h = rw q h
+
+-- the RAM after an open that was done is what the next tables say
+done : (t : Tables) (o : Outcome) (u : Tables) (a b : ℕ) (ram after out : List ℕ) (d e f : ℕ) (s : List ℕ) → o ≡ gives (Done a b) u → after ≡ ramOpened t u ram
+    → result (gives (Done a b) u) after out ≡ completed t o ram («open» d e f s) out
+unfolding completed
+done t o u a b ram after out d e f s q h = rw (q, h)
+
+module _ (t : Tables) (ch n : ℕ) (place : Place) (count : n ≡ t .opened) (f : place ≡ foundAt (placeIn (take n (t .channels)) ch) n) where
+  pub open-yes : (i : ℕ) → place ≡ At i → true ≡ ltb (channelAt t ch) (t .opened)
+  open-yes i e =
+      let h : channelAt t ch < t .opened = rw count at (found-at _ n i (sym f ∙ e) .1) in
+      sym (lt-ltb _ _ h)
+
+  pub open-no : place ≡ Nowhere → false ≡ ltb (channelAt t ch) (t .opened)
+  open-no e =
+      let h : t .opened ≤ channelAt t ch = rw count at (found-nowhere _ n (sym f ∙ e)) in
+      sym (le-ltb _ _ h)
+
+-- the device and the unit, where the string has no letters and where it has some
+module _ (t : Tables) (s : List ℕ) (letters : ℕ) (number : UnitNumber) where
+  pub default-given : (unit : ℕ) → letters ≡ 0 → number ≡ Given unit
+      → _≡_ {A = Wanted} (record { name = t .name; length = t .length; unit = unit }) (wantedBy t (take letters s) number)
+  default-given unit e f = rw (e, f)
+
+  pub default-absent : letters ≡ 0 → number ≡ Absent
+      → _≡_ {A = Wanted} (record { name = t .name; length = t .length; unit = t .unit }) (wantedBy t (take letters s) number)
+  default-absent e f = rw (e, f)
+
+wanted-given : (t : Tables) (xs : List ℕ) (unit : ℕ) → 1 ≤ length xs
+    → _≡_ {A = Wanted} (record { name = wordOf xs; length = length xs; unit = unit }) (wantedBy t xs (Given unit))
+wanted-given t [] unit h = absurd (omega arith)
+wanted-given t (x ∷ xs) unit h = refl
+
+wanted-absent : (t : Tables) (xs : List ℕ) → 1 ≤ length xs
+    → _≡_ {A = Wanted} (record { name = wordOf xs; length = length xs; unit = 0 }) (wantedBy t xs Absent)
+wanted-absent t [] h = absurd (omega arith)
+wanted-absent t (x ∷ xs) h = refl
+
+module _ (t : Tables) (s : List ℕ) (letters : ℕ) (number : UnitNumber) (word : List ℕ) (some : letters ≡ 0 → ⊥) (within : letters ≤ length s) (e : word ≡ wordOf (take letters s)) where
+  long : length (take letters s) ≡ letters
+  long = omega (arith, length-take letters s)
+
+  pub named-given : (unit : ℕ) → number ≡ Given unit
+      → _≡_ {A = Wanted} (record { name = word; length = letters; unit = unit }) (wantedBy t (take letters s) number)
+  named-given unit f =
+      let h : 1 ≤ letters = omega arith in
+      let w = wanted-given t (take letters s) unit (rw long h) in
+      let v : _≡_ {A = Wanted} (record { name = wordOf (take letters s); length = letters; unit = unit }) (wantedBy t (take letters s) (Given unit)) = rw long at w in
+      rw (e, f) v
+
+  pub named-absent : number ≡ Absent → _≡_ {A = Wanted} (record { name = word; length = letters; unit = 0 }) (wantedBy t (take letters s) number)
+  named-absent f =
+      let h : 1 ≤ letters = omega arith in
+      let w = wanted-absent t (take letters s) (rw long h) in
+      let v : _≡_ {A = Wanted} (record { name = wordOf (take letters s); length = letters; unit = 0 }) (wantedBy t (take letters s) Absent) = rw long at w in
+      rw (e, f) v
+
+-- the row appended
+module _ (t : Tables) (c : Channel) (count end size long held more : ℕ) (a : count ≡ t .opened) (b : end ≡ sumOf (take count (t .channels))) (d : size ≡ c .n)
+    (e : long ≡ chainLength (t .room) (end + (16 + size))) (f : held ≡ t .held) (m : more ≡ long - held) where
+  growth : more ≡ chainLength (t .room) (totalOf t + (16 + c .n)) - t .held
+  growth = rw (m, f, e, d, b, a)
+
+  pub append-held : Good t → New t c → Fits t c → t .held + more ≤ 32
+  append-held g new fits = rw growth (opening-held t c g new fits)
+
+  pub append-made : (after : Tables) → after ≡ grown more (withChannels t (t .opened + 1) (set (t .channels) count c)) → after ≡ opening t c
+  unfolding opening
+  append-made after h = rw (h, growth, a)
+
+-- the row, against the number of channels and the room
+module _ (t : Tables) (c : Channel) where
+  pub row-full : 32 ≤ t .opened → onOpenRow t c ≡ gives Full t
+  unfolding onOpenRow
+  row-full h = rw (le-leb _ _ h)
+
+  module _ (count end size : ℕ) (ok : Bool) (few : t .opened < 32) (a : count ≡ t .opened) (b : end ≡ sumOf (take count (t .channels))) (d : size ≡ c .n)
+      (r : ok ≡ roomFor t (t .room) (end + (16 + size))) where
+    room-is : ok ≡ roomFor t (t .room) (totalOf t + (16 + c .n))
+    room-is = rw (r, d, b, a)
+
+    pub row-none : not ok ≡ true → onOpenRow t c ≡ gives NoRoom t
+    unfolding onOpenRow
+    row-none n = rw (lt-leb _ _ few, ← room-is, n)
+
+    pub row-fits : not ok ≡ false → Fits t c
+    row-fits n = record { few = few; room = sym room-is ∙ not-false _ n }
+
+  module _ (g : Good t) (new : New t c) (fits : Fits t c) (next : Tables) (e : next ≡ opening t c) where
+    pub row-chain : (room end size : ℕ) → room ≡ t .room → end ≡ totalOf t → size ≡ ramSize t → Chain (next .chain) room (end + 16 + c .n) size
+    row-chain room end size a b d =
+        let z : end + 16 + c .n ≡ totalOf t + (16 + c .n) = omega arith in
+        rw (z, a, e) (opening-chain t c g new fits size d)
+
+    row-answer : onOpenRow t c ≡ gives (Done (c .device) (c .unit)) next
+    unfolding onOpenRow
+    row-answer = rw (lt-leb _ _ (fits .few), fits .room, e)
+
+    row-ram : (ram : List ℕ) → opened (next .chain) (t .room) ram (totalOf t) (c .number) (c .device) (c .unit) (c .n) ≡ ramOpened t next ram
+    row-ram ram = rw (e, opening-row t c g new fits)
+
+    pub row-done : (room end : ℕ) (ram after out : List ℕ) → room ≡ t .room → end ≡ totalOf t
+        → after ≡ opened (next .chain) room ram end (c .number) (c .device) (c .unit) (c .n)
+        → result (gives (Done (c .device) (c .unit)) next) after out ≡ completed t (onOpenRow t c) ram («open» (c .number) 0 (c .n) []) out
+    row-done room end ram after out a b h =
+        let k : opened (next .chain) room ram end (c .number) (c .device) (c .unit) (c .n) ≡ ramOpened t next ram = rw (a, b) (row-ram ram) in
+        done t (onOpenRow t c) next (c .device) (c .unit) ram after out (c .number) 0 (c .n) [] row-answer (h ∙ k)
+
+-- the device, and the status of its driver
+module _ (t : Tables) (channel driver n : ℕ) (w : Sought) (known : ℕ) (place : Place) (count : known ≡ t .known)
+    (f : place ≡ foundAt (deviceIn (take known (t .devices)) (w .name) (w .length)) known) where
+  pub to-none : place ≡ Nowhere → onOpenTo t channel driver n (wantedOf w) ≡ gives NoDevice t
+  unfolding onOpenTo
+  to-none e =
+      let h : t .known ≤ deviceIn (take (t .known) (t .devices)) (w .name) (w .length) = rw count at (found-nowhere _ known (sym f ∙ e)) in
+      rw (le-leb _ _ h)
+
+  module _ (row : ℕ) (e : place ≡ At row) where
+    row-is : (deviceIn (take (t .known) (t .devices)) (w .name) (w .length) ≡ row) × (row < t .known)
+    row-is =
+        let h = found-at _ known row (sym f ∙ e) in
+        let a : deviceIn (take (t .known) (t .devices)) (w .name) (w .length) ≡ row = rw count at (h .0) in
+        let b : deviceIn (take (t .known) (t .devices)) (w .name) (w .length) < t .known = rw count at (h .1) in
+        (a, rw a at b)
+
+    pub to-driver : (driver ≡ 0 → ⊥) → onOpenTo t channel driver n (wantedOf w) ≡ gives (Driver driver) t
+    unfolding onOpenTo
+    to-driver z = rw (row-is .0, lt-leb _ _ (row-is .1), ne-eqb driver 0 z)
+
+    module _ (g : Good t) where
+      fitting : row % 256 ≡ row
+      fitting = omega (arith, row-is .1, g .devices .most)
+
+      pub to-row : driver ≡ 0 → onOpenTo t channel driver n (wantedOf w) ≡ onOpenRow t (record { number = channel; device = row % 256; unit = w .unit; n = n })
+      unfolding onOpenTo onOpenRow
+      to-row z = rw (fitting, row-is .0, lt-leb _ _ (row-is .1), z)
+
+      pub to-new : channel < 255 → t .opened ≤ channelAt t channel → New t (record { number = channel; device = row % 256; unit = w .unit; n = n })
+      to-new c a = record { number = c; device = rw fitting (row-is .1); absent = a }
+
+-- the string
+pub letters-few : (s : List ℕ) (parts : Parts) → parts ≡ partsOf (reading s) → (letters : ℕ) (unit : UnitNumber) (file : ℕ) → parts ≡ Read letters unit file
+    → (letters ≤ 28) × (letters ≤ length s)
+letters-few s parts f letters unit file e = parts-few s letters unit file (sym f ∙ e)
+
+module _ (t : Tables) (channel driver n : ℕ) (s : List ℕ) (parts : Parts) (f : parts ≡ partsOf (reading s)) where
+  pub named-none : parts ≡ Refused → onOpenNamed t channel driver n (reading s) ≡ gives BadName t
+  unfolding onOpenNamed
+  named-none e = rw (parts-refused (reading s) (sym f ∙ e))
+
+  pub named-to : (letters : ℕ) (unit : UnitNumber) (file : ℕ) (w : Sought) → parts ≡ Read letters unit file → wantedOf w ≡ wantedBy t (take letters s) unit
+      → onOpenNamed t channel driver n (reading s) ≡ onOpenTo t channel driver n (wantedOf w)
+  unfolding onOpenNamed
+  named-to letters unit file w e q =
+      let (r, h, k) = meant t s letters unit file (sym f ∙ e) in
+      rw h (ap (λ (v : Wanted). onOpenTo t channel driver n v) (sym (q ∙ k)))
+
+-- the channel
+pub absent : (t : Tables) (channel : ℕ) (found : Bool) → found ≡ ltb (channelAt t channel) (t .opened) → found ≡ false → t .opened ≤ channelAt t channel
+absent t channel found f e = ltb-false _ _ (sym f ∙ e)
+
+module _ (t : Tables) (channel driver n : ℕ) (s : List ℕ) where
+  pub good-none : channel ≡ 255 → onOpen t channel driver n s ≡ gives NoChannel t
+  unfolding onOpen
+  good-none e = rw e
+
+  module _ (some : channel ≡ 255 → ⊥) (found : Bool) (f : found ≡ ltb (channelAt t channel) (t .opened)) where
+    pub good-exists : found ≡ true → onOpen t channel driver n s ≡ gives Exists t
+    unfolding onOpen
+    good-exists e = rw (ne-eqb channel 255 some, sym f ∙ e)
+
+    pub good-named : found ≡ false → onOpen t channel driver n s ≡ onOpenNamed t channel driver n (reading s)
+    unfolding onOpen
+    good-named e = rw (ne-eqb channel 255 some, sym f ∙ e)

@@ -1,0 +1,147 @@
+-- Where the bytes of a call lie: in the buffer of an open channel, or in a segment that the user reaches. Assumes nothing.
+use mathlib.Core.Path.{_≡_, refl, sym, _∙_}
+use mathlib.Core.Bool.{Bool, true, false, cond, _||_, not}
+use mathlib.Core.List.{List, [], _∷_}
+use Prim.Native.Nat.{ℕ, zero, suc, _+_, _-_, _*_, _≤_, _<_}
+use native.Mathlib.Nat.{le-of-suc-le-suc, not-suc-le-zero}
+use native.Mathlib.Decide.{decLe, decLt}
+use native.Mathlib.Omega.{arith}
+use borrow.Author.Tests.{lt-ltb, le-ltb, lt-leb, ne-eqb, ltb-true, ltb-false, not-false}
+use lib.Dec.{eqb, ltb, leb}
+use lib.ListN.{take}
+use Rattle.line.specs.Line.{Chain}
+use Rattle.line.proofs.Places.{chain-less}
+use Rattle.rows.specs.Lists.{firstOf, and-left}
+use Rattle.rows.specs.Classes.{USER, SHARED}
+use Rattle.rows.specs.Channels.{noChannel, sumOf, placeIn, foundAt, found-at, found-nowhere}
+use Rattle.rows.specs.Rows.{sum-more}
+use Rattle.rows.specs.Sizes.{edgeAt, edge-low, edge-high}
+use Rattle.rows.specs.declared.Channel.{Channel}
+use Rattle.rows.specs.declared.Place.{Place}
+use Rattle.rows.specs.declared.Place.the-variants.{At, Nowhere}
+use Rattle.kernel.specs.Definition.Tables.{SEGMENT, ramSize, classAt, rowOf, channelAt}
+use Rattle.kernel.specs.Definition.Good.{Good}
+use Rattle.kernel.specs.Definition.Line.{totalOf, sizeAt, bufferAt}
+use Rattle.kernel.specs.Definition.Segments.{mayReach, reachOf}
+use Rattle.kernel.specs.Laws.Chains.{good-chain}
+use Rattle.kernel.specs.declared.Tables.{Tables}
+
+-- `beyond`: the bytes end beyond n, without a sum that may be too large
+pub beyond-is : (n from count rest : ℕ) → rest ≡ n - from → ltb n from || ltb rest count ≡ ltb n (from + count)
+beyond-is n from count rest e =
+    elim (decLt n from) [
+      | yes h ↦ rw (lt-ltb n from h, lt-ltb n (from + count) (omega arith))
+      | no h ↦ elim (decLt rest count) [
+        | yes k ↦ rw (le-ltb n from (omega arith), lt-ltb rest count k, lt-ltb n (from + count) (omega arith))
+        | no k ↦ rw (le-ltb n from (omega arith), le-ltb rest count (omega arith), le-ltb n (from + count) (omega arith))
+      ]
+    ]
+
+-- the bytes end within n, once the test has failed
+pub within : (n from count : ℕ) (far : Bool) → far ≡ ltb n (from + count) → far ≡ false → from + count ≤ n
+within n from count far e f = ltb-false n (from + count) (sym e ∙ f)
+
+pub or-left : (a b : Bool) → a || b ≡ false → a ≡ false
+or-left false b e = refl
+or-left true b e = e
+
+pub or-right : (a b : Bool) → a || b ≡ false → b ≡ false
+or-right false b e = e
+or-right true b e = absurd (let z : _≡_ {A = ℕ} 0 1 = cc in omega arith)
+
+-- what the lookup of a channel found
+
+pub record Open (t : Tables) (channel i : ℕ) : Type 0 where
+  pub here : channelAt t channel ≡ i
+  pub found : leb (t .opened) (channelAt t channel) ≡ false
+  pub among : i < t .opened
+  pub row : i < 32
+
+pub open-at : (t : Tables) (n channel i : ℕ) (p : Place) → Good t → n ≡ t .opened → p ≡ foundAt (placeIn (take n (t .channels)) channel) n → p ≡ At i
+    → Open t channel i
+open-at t n channel i p g e f a =
+    let w : foundAt (channelAt t channel) (t .opened) ≡ At i = sym (rw e at f) ∙ a in
+    let q = found-at (channelAt t channel) (t .opened) i w in
+    record { here = q .0; found = lt-leb (t .opened) (channelAt t channel) (q .1); among = omega arith; row = omega (arith, g .channels .most) }
+
+pub open-none : (t : Tables) (n channel : ℕ) (p : Place) → n ≡ t .opened → p ≡ foundAt (placeIn (take n (t .channels)) channel) n → p ≡ Nowhere
+    → t .opened ≤ channelAt t channel
+open-none t n channel p e f a = found-nowhere (channelAt t channel) (t .opened) (sym (rw e at f) ∙ a)
+
+-- a record's buffer lies inside the line
+
+sum-rises : (cs : List Channel) (i n : ℕ) → i ≤ n → sumOf (take i cs) ≤ sumOf (take n cs)
+sum-rises cs zero n h = omega arith
+sum-rises cs (suc i) zero h = absurd (not-suc-le-zero h)
+sum-rises [] (suc i) (suc n) h = omega arith
+sum-rises (c ∷ cs) (suc i) (suc n) h = omega (arith, sum-rises cs i n (le-of-suc-le-suc h))
+
+pub buffer-inside : (t : Tables) (i : ℕ) → Good t → i < t .opened → bufferAt t i + sizeAt t i ≤ totalOf t
+buffer-inside t i g h =
+    omega (
+      arith,
+      sum-rises (t .channels) (i + 1) (t .opened) (omega arith),
+      sum-more (t .channels) i noChannel (omega (arith, g .sized .channels, g .channels .most)),
+    )
+
+-- what `get`, `put`, `lend` and `lent_at` ask
+module _ (t : Tables) (i room start n : ℕ) (g : Good t) (h : i < t .opened) (r : room ≡ t .room) (s : start ≡ bufferAt t i) (is : n ≡ sizeAt t i) where
+  part-chain : (end size : ℕ) → size ≡ ramSize t → end ≤ start + n → Chain (t .chain) room end size
+  part-chain end size e f =
+      rw r (chain-less (t .chain) (t .room) (totalOf t) size end size (omega (arith, buffer-inside t i g h)) refl (good-chain t size g e))
+
+  pub bytes-chain : (from count size : ℕ) (far : Bool) → size ≡ ramSize t → far ≡ ltb n (from + count) → far ≡ false → Chain (t .chain) room (start + from + count) size
+  bytes-chain from count size far e b f = part-chain (start + from + count) size e (omega (arith, within n from count far b f))
+
+  pub buffer-chain : (size : ℕ) → size ≡ ramSize t → Chain (t .chain) room (start + n) size
+  buffer-chain size e = part-chain (start + n) size e (omega arith)
+
+  pub buffer-low : (room ≤ 16384) × (start + n ≤ room + 16384 * 31)
+  buffer-low = let c = buffer-chain (ramSize t) refl in (c .small, omega (arith, c .enough, c .few, c .some))
+
+-- which segments the user reaches, and how far
+
+pub reach-none : (t : Tables) (n row : ℕ) → n ≡ t .segments → n ≤ row → false ≡ mayReach t row
+reach-none t n row e h = rw (le-ltb row (t .segments) (omega arith))
+
+pub reach-some : (t : Tables) (n row : ℕ) → n ≡ t .segments → row < n → eqb row 0 || eqb (classAt t row) USER || eqb (classAt t row) SHARED ≡ mayReach t row
+reach-some t n row e h = rw (lt-ltb row (t .segments) (omega arith))
+
+pub reach-shared : (t : Tables) (row user : ℕ) → classAt t row ≡ SHARED → user ≡ t .user → user ≡ reachOf t row
+reach-shared t row user c e = rw (c, e)
+
+pub reach-whole : (t : Tables) (row : ℕ) → (classAt t row ≡ SHARED → ⊥) → SEGMENT ≡ reachOf t row
+reach-whole t row c = rw (ne-eqb (classAt t row) SHARED c)
+
+pub record Reached (t : Tables) (segment row : ℕ) : Type 0 where
+  pub here : rowOf t segment ≡ row
+  pub may : mayReach t row ≡ true
+  pub among : row < t .segments
+  pub below : row < 32
+
+pub reached : (t : Tables) (n segment row : ℕ) (may : Bool) → Good t → n ≡ t .segments → row ≡ firstOf segment (take n (t .list)) → may ≡ mayReach t row → not may ≡ false
+    → Reached t segment row
+reached t n segment row may g e f m h =
+    let yes-may : mayReach t row ≡ true = sym m ∙ not-false may h in
+    let less : row < t .segments = ltb-true row (t .segments) (and-left (ltb row (t .segments)) (eqb row 0 || eqb (classAt t row) USER || eqb (classAt t row) SHARED) yes-may) in
+    record { here = sym (rw e at f); may = yes-may; among = less; below = omega (arith, g .list .most) }
+
+edge-most : (r n : ℕ) → r ≤ 16384 → edgeAt r n ≤ 16384
+edge-most r n h = elim (decLe n r) [ yes a ↦ omega (arith, edge-low r n a) | no a ↦ omega (arith, edge-high r n (omega arith)) ]
+
+cond-most : (b : Bool) (x y m : ℕ) → x ≤ m → y ≤ m → cond b x y ≤ m
+cond-most true x y m h k = h
+cond-most false x y m h k = k
+
+reach-most : (t : Tables) (row : ℕ) → Good t → reachOf t row ≤ 16384
+reach-most t row g =
+    cond-most (eqb (classAt t row) SHARED) (t .user) SEGMENT 16384
+    (omega (arith, g .user .most, edge-most (t .room) (totalOf t) (omega (arith, g .room .most, g .room .top)))) (omega arith)
+
+-- what `store` and `load` ask
+pub reach-inside : (t : Tables) (segment row reach from count size : ℕ) (far : Bool) → Good t → Reached t segment row → reach ≡ reachOf t row → far ≡ ltb reach (from + count)
+    → far ≡ false → size ≡ ramSize t → (16384 * row + from + count ≤ size) × (from + count ≤ 16384)
+reach-inside t segment row reach from count size far g x k b f e =
+    let w = within reach from count far b f in
+    let m : reach ≤ 16384 = rw k (reach-most t row g) in
+    (omega (arith, x .among), omega arith)

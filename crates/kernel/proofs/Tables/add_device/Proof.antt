@@ -1,0 +1,70 @@
+-- `Tables::add_device` meets its contract. Assumes nothing.
+use borrow.Author.Needs.{needs}
+use Rattle.kernel.proofs.LinkCalls.{device-held, device-made}
+use Rattle.kernel.proofs.Tables.add_device.Statement.{statement}
+use Rattle.kernel.proofs.Tables.add_device.Tie as tie
+
+wide-requires : tie.Need-wide-requires
+wide-requires c κs = search needs
+
+total-requires : tie.Need-total-requires
+total-requires c κs = search needs
+
+sub-room : tie.Need-sub-room
+sub-room c = search needs
+
+chain-length-requires : tie.Need-chain-length-requires
+chain-length-requires c κs = search needs
+
+wide-requires-2 : tie.Need-wide-requires-2
+wide-requires-2 c κs = search needs
+
+less-requires : tie.Need-less-requires
+less-requires c κs = search needs
+
+word-requires : tie.Need-word-requires
+word-requires c κs = search needs
+
+cast-length : tie.Need-cast-length
+cast-length c = search needs
+
+disable-requires : tie.Need-disable-requires
+disable-requires c κs = search needs
+
+wide-requires-3 : tie.Need-wide-requires-3
+wide-requires-3 c κs = search needs
+
+mul-rows : tie.Need-mul-rows
+mul-rows c = search needs
+
+array-set-from-rows : tie.Need-array-set-from-rows
+array-set-from-rows c = search needs
+
+add-next : tie.Need-add-next
+add-next c = search needs
+
+grow-requires : tie.Need-grow-requires
+grow-requires c κs = device-held (c .before .before .before .before .before .before .before .before .before .before .before .before .before .args .self) (c .before .before .before .before .before .before .before .before .before .before .before .before .before .args .m) _ _ _ _ _ _ (c .before .before .before .before .before .before .before .before .before .before .wide .ensures .0) (c .before .before .before .before .before .before .before .before .before .total .ensures .0) (c .before .before .before .before .before .before .before .chain-length .ensures) (c .before .before .before .before .before .before .wide2 .ensures .0) (c .before .before .before .before .before .less .ensures) (c .before .before .before .before .before .before .before .before .before .before .before .before .before .pre .0) (c .before .before .before .before .before .before .before .before .before .before .before .before .before .pre .1)
+
+returns : tie.Need-returns
+returns c = device-made (c .before .before .before .before .before .before .before .before .before .before .before .before .before .before .args .self) (c .before .before .before .before .before .before .before .before .before .before .before .before .before .before .args .m) _ _ _ _ _ _ (c .before .before .before .before .before .before .before .before .before .before .before .wide .ensures .0) (c .before .before .before .before .before .before .before .before .before .before .total .ensures .0) (c .before .before .before .before .before .before .before .before .chain-length .ensures) (c .before .before .before .before .before .before .before .wide2 .ensures .0) (c .before .before .before .before .before .before .less .ensures) _ _ _ _ (c .before .before .before .before .before .word .ensures) (c .before .before .before .disable .ensures) (c .before .before .wide3 .ensures .0) (c .grow .ensures)
+
+pub add-device-spec : {M : Type 1} → statement M
+add-device-spec =
+    tie.close
+    (tie.spec
+    wide-requires
+    total-requires
+    sub-room
+    chain-length-requires
+    wide-requires-2
+    less-requires
+    word-requires
+    cast-length
+    disable-requires
+    wide-requires-3
+    mul-rows
+    array-set-from-rows
+    add-next
+    grow-requires
+    returns)

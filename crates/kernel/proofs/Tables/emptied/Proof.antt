@@ -1,0 +1,24 @@
+-- `Tables::emptied` meets its contract. Assumes nothing.
+use Rattle.kernel.proofs.Resetting.{none-fit, none-left}
+use borrow.Author.Needs.{needs}
+use Rattle.kernel.proofs.Tables.emptied.Statement.{statement}
+use Rattle.kernel.proofs.Tables.emptied.Tie as tie
+
+wide-requires : tie.Need-wide-requires
+wide-requires c κs = search needs
+
+sub-gone : tie.Need-sub-gone
+sub-gone c = search needs
+
+shrink-requires : tie.Need-shrink-requires
+shrink-requires c κs =
+    let s = c .before in
+    none-fit (s .args .self) _ (c .wide .ensures .0) _ (s .pre)
+
+returns : tie.Need-returns
+returns c =
+    let s = c .before .before in
+    none-left (s .args .self) _ (c .before .wide .ensures .0) _ (c .shrink .ensures)
+
+pub emptied-spec : {M : Type 1} → statement M
+emptied-spec = tie.close (tie.spec wide-requires sub-gone shrink-requires returns)

@@ -1,0 +1,23 @@
+-- `Tables::lent` meets its contract. Assumes nothing.
+use mathlib.Core.Path.{sym, _∙_}
+use borrow.Author.Tests.{not-true, not-false}
+use Rattle.kernel.proofs.Calls.{accepted-good}
+use Rattle.kernel.proofs.ByteCalls.{lent-refused, lent-accepted}
+use borrow.Author.Needs.{needs}
+use Rattle.kernel.proofs.Tables.lent.Statement.{statement}
+use Rattle.kernel.proofs.Tables.lent.Tie as tie
+
+accepts-requires : tie.Need-accepts-requires
+accepts-requires c κs = search needs
+
+returns : tie.Need-returns
+returns c = lent-refused _ _ _ (sym (c .before .accepts .ensures .0) ∙ not-true _ (c .if1 .taken))
+
+lent-good-requires : tie.Need-lent-good-requires
+lent-good-requires c κs = accepted-good _ _ (c .before .accepts .ensures .1) (c .if1 .left)
+
+returns-2 : tie.Need-returns-2
+returns-2 c = c .lent-good .ensures ∙ lent-accepted _ _ _ (sym (c .before .before .accepts .ensures .0) ∙ not-false _ (c .before .if1 .left))
+
+pub lent-spec : {M : Type 1} → statement M
+lent-spec = tie.close (tie.spec accepts-requires returns lent-good-requires returns-2)

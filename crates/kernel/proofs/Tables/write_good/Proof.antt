@@ -1,0 +1,90 @@
+-- `write_good` meets its contract: each refusal and the write are a branch of `onWrite`, and the buffer lies inside the line.
+use native.Mathlib.Omega.{arith}
+use denote.Ref.{now}
+use lib.ListN.{length}
+use Rattle.kernel.proofs.Spans.{Open, open-at, open-none, within, bytes-chain}
+use Rattle.kernel.proofs.ByteCalls.{write-closed, write-beyond, write-done}
+use borrow.Author.Needs.{needs}
+use Rattle.kernel.proofs.Tables.write_good.Statement.{statement}
+use Rattle.kernel.proofs.Tables.write_good.Tie as tie
+
+-- where the channel stands
+placed : (c : tie.After-known-told) → Open (c .before .before .before .before .before .before .before .before .args .self) (c .before .before .before .before .before .before .before .before .args .channel) (c .before .i .given .0 .0)
+placed c = open-at _ _ _ _ _ (c .before .before .before .before .before .before .before .before .pre .0) (c .before .before .before .before .wide .ensures .0) (c .before .before .before .channel-place .ensures) (c .before .i .given .1)
+
+wide-requires : tie.Need-wide-requires
+wide-requires c κs = search needs
+
+channel-place-requires : tie.Need-channel-place-requires
+channel-place-requires c κs = search needs
+
+enum-known-i : tie.Need-enum-known-i
+enum-known-i c = search needs
+
+enum-told : tie.Need-enum-told
+enum-told c = search needs
+
+refuse-requires : tie.Need-refuse-requires
+refuse-requires c κs = search needs
+
+returns : tie.Need-returns
+returns c = rw (c .refuse .ensures) (write-closed _ _ (now (c .before .before .before .before .before .before .before .before .args .bytes)) _ _ (open-none (c .before .before .before .before .before .before .before .before .args .self) _ _ _ (c .before .before .before .before .wide .ensures .0) (c .before .before .before .channel-place .ensures) (c .before .enum-told .given .1)))
+
+wide16-requires : tie.Need-wide16-requires
+wide16-requires c κs = search needs
+
+size-at-requires : tie.Need-size-at-requires
+size-at-requires c κs = placed (c .before) .row
+
+beyond-requires : tie.Need-beyond-requires
+beyond-requires c κs = search needs
+
+refuse-requires-2 : tie.Need-refuse-requires-2
+refuse-requires-2 c κs = search needs
+
+returns-2 : tie.Need-returns-2
+returns-2 c = rw (c .refuse2 .ensures) (write-beyond _ _ (now (c .before .before .before .before .before .before .before .before .before .before .before .before .before .args .bytes)) _ _ _ (placed (c .before .before .before .before .before)) _ _ _ (c .before .before .before .size-at .ensures .0) (c .before .before .before .before .wide16 .ensures .0) (c .before .before .beyond .ensures) (c .before .if1 .taken))
+
+wide16-requires-2 : tie.Need-wide16-requires-2
+wide16-requires-2 c κs = search needs
+
+buffer-at-requires : tie.Need-buffer-at-requires
+buffer-at-requires c κs = omega (arith, placed (c .before .before .before .before .before .before) .row)
+
+add-start : tie.Need-add-start
+add-start c = search needs
+
+put-requires : tie.Need-put-requires
+put-requires c κs = bytes-chain (c .before .before .before .before .before .before .before .before .before .before .before .before .before .before .before .before .before .args .self) _ _ _ _ (c .before .before .before .before .before .before .before .before .before .before .before .before .before .before .before .before .before .pre .0) (placed (c .before .before .before .before .before .before .before .before .before) .among) (c .before .before .before .wide162 .ensures .0) (c .before .before .buffer-at .ensures .0) (c .before .before .before .before .before .before .before .size-at .ensures .0) _ _ _ _ (c .before .before .before .before .before .before .before .before .before .before .before .before .before .before .before .before .before .pre .1) (c .before .before .before .before .before .before .beyond .ensures) (c .before .before .before .before .before .if1 .left)
+
+cast-t23 : tie.Need-cast-t23
+cast-t23 c = omega (arith, c .before .before .before .before .before .before .before .before .before .before .size-at .ensures .1, within (c .before .before .before .before .before .before .before .before .before .before .size-at .result) (c .before .before .before .before .before .before .before .before .before .before .before .wide16 .result) (length (now (c .before .before .before .before .before .before .before .before .before .before .before .before .before .before .before .before .before .before .before .before .args .bytes))) (c .before .before .before .before .before .before .before .before .before .beyond .result) (c .before .before .before .before .before .before .before .before .before .beyond .ensures) (c .before .before .before .before .before .before .before .before .if1 .left))
+
+same-length : tie.Need-same-length
+same-length c = search needs
+
+returns-3 : tie.Need-returns-3
+returns-3 c = write-done _ _ (now (c .before .before .before .before .before .before .before .before .before .before .before .before .before .before .before .before .before .before .before .before .args .bytes)) _ _ _ (placed (c .before .before .before .before .before .before .before .before .before .before .before .before)) _ _ _ (c .before .before .before .before .before .before .before .before .before .before .size-at .ensures .0) (c .before .before .before .before .before .before .before .before .before .before .before .wide16 .ensures .0) (c .before .before .before .before .before .before .before .before .before .beyond .ensures) (c .before .before .before .before .before .before .before .before .if1 .left) _ _ _ (c .before .before .before .before .before .before .wide162 .ensures .0) (c .before .before .before .before .before .buffer-at .ensures .0) (c .before .before .put .ensures)
+
+pub write-good-spec : {M : Type 1} → statement M
+write-good-spec =
+    tie.close
+    (tie.spec
+    wide-requires
+    channel-place-requires
+    enum-known-i
+    enum-told
+    refuse-requires
+    returns
+    wide16-requires
+    size-at-requires
+    beyond-requires
+    refuse-requires-2
+    returns-2
+    wide16-requires-2
+    buffer-at-requires
+    add-start
+    put-requires
+    cast-t23
+    same-length
+    returns-3)

@@ -1,0 +1,13 @@
+-- Document 01, in its own order.
+pub mod Tables
+pub mod Good
+pub mod Line
+pub mod Segments
+pub mod Devices
+pub mod Reset
+pub mod Names
+pub mod Answers
+pub mod Calls
+pub mod Refusals
+pub mod Step
+pub mod Lend

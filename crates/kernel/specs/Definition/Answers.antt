@@ -1,0 +1,104 @@
+-- The answers: this paper's number and values for each, and the rule that the lowest number wins.
+use mathlib.Core.Bool.{Bool, true, false, cond}
+use mathlib.Core.List.{List, [], _∷_}
+use Prim.Native.Nat.{ℕ}
+use Rattle.kernel.specs.declared.Tables.{Tables}
+use Rattle.kernel.specs.declared.Answer.{Answer}
+use Rattle.kernel.specs.declared.Answer.the-variants.{Done, BadTables, BadCall, NoChannel, Exists, BadName, NoDevice, Driver, Full, NoRoom, NoSegment, NotOwner, BadBoundary, BadRange, Guarded, BadFlags, BadStart, Shared}
+use Rattle.kernel.specs.declared.Outcome.{Outcome}
+
+abbrev pub numberOf : Answer → ℕ
+numberOf (Done a b) = 0
+numberOf BadTables = 1
+numberOf BadCall = 2
+numberOf NoChannel = 3
+numberOf Exists = 4
+numberOf BadName = 5
+numberOf NoDevice = 6
+numberOf (Driver s) = 7
+numberOf Full = 8
+numberOf NoRoom = 9
+numberOf NoSegment = 10
+numberOf NotOwner = 11
+numberOf BadBoundary = 12
+numberOf BadRange = 13
+numberOf Guarded = 14
+numberOf BadFlags = 15
+numberOf BadStart = 16
+numberOf (Shared a b) = 17
+
+-- "A refusal gives a = b = 0 but for DRIVER"; "a is that status"
+abbrev pub aOf : Answer → ℕ
+aOf (Done a b) = a
+aOf BadTables = 0
+aOf BadCall = 0
+aOf NoChannel = 0
+aOf Exists = 0
+aOf BadName = 0
+aOf NoDevice = 0
+aOf (Driver s) = s
+aOf Full = 0
+aOf NoRoom = 0
+aOf NoSegment = 0
+aOf NotOwner = 0
+aOf BadBoundary = 0
+aOf BadRange = 0
+aOf Guarded = 0
+aOf BadFlags = 0
+aOf BadStart = 0
+aOf (Shared a b) = a
+
+abbrev pub bOf : Answer → ℕ
+bOf (Done a b) = b
+bOf BadTables = 0
+bOf BadCall = 0
+bOf NoChannel = 0
+bOf Exists = 0
+bOf BadName = 0
+bOf NoDevice = 0
+bOf (Driver s) = 0
+bOf Full = 0
+bOf NoRoom = 0
+bOf NoSegment = 0
+bOf NotOwner = 0
+bOf BadBoundary = 0
+bOf BadRange = 0
+bOf Guarded = 0
+bOf BadFlags = 0
+bOf BadStart = 0
+bOf (Shared a b) = b
+
+-- "0 is done. 17 SHARED is a grant": the call was done, and not refused
+abbrev pub granted : Answer → Bool
+granted (Done a b) = true
+granted BadTables = false
+granted BadCall = false
+granted NoChannel = false
+granted Exists = false
+granted BadName = false
+granted NoDevice = false
+granted (Driver s) = false
+granted Full = false
+granted NoRoom = false
+granted NoSegment = false
+granted NotOwner = false
+granted BadBoundary = false
+granted BadRange = false
+granted Guarded = false
+granted BadFlags = false
+granted BadStart = false
+granted (Shared a b) = true
+
+abbrev pub gives : Answer → Tables → Outcome
+gives answer t = record { answer = answer; tables = t }
+
+-- a refusal, and the test that tells when it is given
+pub data Refusal : Type 0 where
+  _when_ : Answer → Bool → Refusal
+
+infixl 70 _when_
+-- "Several at once: the lowest number wins." The refusals of a call stand in the order of their numbers: the first that holds
+-- is the answer, and the tables stay; where none holds, the call is done.
+abbrev pub unless : List Refusal → Tables → Outcome → Outcome
+unless [] t done = done
+unless ((answer when holds) ∷ more) t done = cond holds (gives answer t) (unless more t done)

@@ -1,0 +1,188 @@
+-- "Calls and their bodies": the calls with what their bodies hold, and of each the answer and the next tables.
+-- A call's refusals stand in the order of their numbers; those for the tables and for the body come before them (Step.antt).
+use mathlib.Core.Bool.{Bool, true, false, cond, not, _&&_, _||_}
+use mathlib.Core.List.{List, [], _∷_}
+use mathlib.Core.Option.{Option, none, some}
+use Prim.Native.Nat.{ℕ, _+_, _-_}
+use lib.Dec.{leb, ltb, eqb}
+use lib.ListN.{length}
+use Rattle.names.specs.Grammar.{Reading}
+use Rattle.names.specs.Read.{reading}
+use Rattle.names.specs.Tests.{linkTest, defaultTest}
+use Rattle.names.specs.Words.{wordOf}
+use Rattle.rows.specs.declared.Channel.{Channel}
+use Rattle.kernel.specs.Definition.Tables.{SEGMENT, numberAt, rowOf, lowestFree, sharing, lastRow, channelAt, withDefault}
+use Rattle.kernel.specs.Definition.Line.{totalOf, sizeAt, boundaryOf, roomFor, opening, closing}
+use Rattle.kernel.specs.Definition.Segments.{someFree, mayShare, granting, sharingLast, mayFree, freeing, bounding, mayReach, reachOf, guarded}
+use Rattle.kernel.specs.Definition.Devices.{linking}
+use Rattle.kernel.specs.Definition.Reset.{otherBits, resetting, startTest, started}
+use Rattle.kernel.specs.Definition.Names.{Wanted, wanted, deviceFor}
+use Rattle.kernel.specs.Definition.Answers.{gives, unless, _when_}
+use Rattle.kernel.specs.declared.Tables.{Tables}
+use Rattle.kernel.specs.declared.Answer.the-variants.{Done, BadCall, NoChannel, Exists, BadName, NoDevice, Driver, Full, NoRoom, NoSegment, NotOwner, BadBoundary, BadRange, Guarded, BadFlags, BadStart, Shared}
+use Rattle.kernel.specs.declared.Outcome.{Outcome}
+
+pub data Call : Type 0 where
+  start : (room : ℕ) (list : List ℕ) → Call
+  reset : (flags : ℕ) → Call
+  «open» : (channel driver n : ℕ) (name : List ℕ) → Call
+  close : (channel : ℕ) → Call
+  read : (channel offset size : ℕ) → Call
+  write : (channel offset : ℕ) (bytes : List ℕ) → Call
+  default : (unit : ℕ) (name : List ℕ) → Call
+  status : Call
+  link : (m : ℕ) (name : List ℕ) → Call
+  boundary : Call
+  set-user-boundary : (value : ℕ) → Call
+  allocate : (caller : ℕ) → Call
+  free : (caller segment : ℕ) → Call
+  store : (segment offset : ℕ) (bytes : List ℕ) → Call
+  load : (segment offset size : ℕ) → Call
+  -- "kind unknown; body short of its fixed fields, or longer without name, data or list"
+  unknown : Call
+  -- a start whose body is short of its fixed field
+  short-start : Call
+
+abbrev pub isStart : Call → Bool
+isStart (start room list) = true
+isStart (reset flags) = false
+isStart («open» channel driver n name) = false
+isStart (close channel) = false
+isStart (read channel offset size) = false
+isStart (write channel offset bytes) = false
+isStart (default unit name) = false
+isStart status = false
+isStart (link m name) = false
+isStart boundary = false
+isStart (set-user-boundary value) = false
+isStart (allocate caller) = false
+isStart (free caller segment) = false
+isStart (store segment offset bytes) = false
+isStart (load segment offset size) = false
+isStart unknown = false
+isStart short-start = true
+
+-- `ram` and `output` are how many bytes are lent.
+
+unfoldable pub onStart : Tables → (ram room : ℕ) (list : List ℕ) → Outcome
+unfolding started
+onStart t ram room list =
+    unless (BadStart when not (startTest ram room list) ∷ []) t
+    (gives (Done (length list) room) (started room list))
+
+unfoldable pub onReset : Tables → (flags : ℕ) → Outcome
+unfolding resetting
+onReset t flags = unless (BadFlags when otherBits flags ∷ []) t (gives (Done 0 0) (resetting t flags))
+
+-- open, once the string is read: the device and the unit that it means
+unfoldable pub onOpenTo : Tables → (channel driver n : ℕ) → Wanted → Outcome
+unfolding roomFor opening
+onOpenTo t channel driver n w =
+    unless
+    (NoDevice when leb (t .known) (deviceFor t w)
+    ∷ Driver driver when not (eqb driver 0)
+    ∷ Full when leb 32 (t .opened)
+    ∷ NoRoom when not (roomFor t (t .room) (totalOf t + (16 + n)))
+    ∷ []) t
+    (gives (Done (deviceFor t w) (w .unit)) (opening t (record { number = channel; device = deviceFor t w; unit = w .unit; n = n })))
+
+unfoldable pub onOpenNamed : Tables → (channel driver n : ℕ) → Option Reading → Outcome
+unfolding onOpenTo
+onOpenNamed t channel driver n none = gives BadName t
+onOpenNamed t channel driver n (some r) = onOpenTo t channel driver n (wanted t r)
+
+unfoldable pub onOpen : Tables → (channel driver n : ℕ) (name : List ℕ) → Outcome
+unfolding onOpenNamed reading
+onOpen t channel driver n name =
+    unless (NoChannel when eqb channel 255 ∷ Exists when ltb (channelAt t channel) (t .opened) ∷ []) t
+    (onOpenNamed t channel driver n (reading name))
+
+-- "The channel is looked up once; a channel not found ends the call." 255 is no channel's number in good tables
+unfoldable pub onClose : Tables → (channel : ℕ) → Outcome
+unfolding closing
+onClose t channel =
+    unless (NoChannel when leb (t .opened) (channelAt t channel) ∷ []) t
+    (gives (Done 0 0) (closing t (channelAt t channel)))
+
+unfoldable pub onRead : Tables → (output channel offset size : ℕ) → Outcome
+onRead t output channel offset size =
+    unless
+    (NoChannel when leb (t .opened) (channelAt t channel)
+    ∷ BadRange when (ltb (sizeAt t (channelAt t channel)) (offset + size) || ltb output size)
+    ∷ []) t
+    (gives (Done 0 size) t)
+
+unfoldable pub onWrite : Tables → (channel offset size : ℕ) → Outcome
+onWrite t channel offset size =
+    unless
+    (NoChannel when leb (t .opened) (channelAt t channel)
+    ∷ BadRange when ltb (sizeAt t (channelAt t channel)) (offset + size)
+    ∷ []) t
+    (gives (Done 0 size) t)
+
+-- "default upper-cases what it keeps"
+unfoldable pub onDefault : Tables → (unit : ℕ) (name : List ℕ) → Outcome
+unfolding wordOf
+onDefault t unit name =
+    unless (BadName when not (defaultTest name) ∷ []) t
+    (gives (Done 0 0) (withDefault t (wordOf name) (length name) unit))
+
+-- "lent output too short"
+unfoldable pub onStatus : Tables → (output : ℕ) → Outcome
+onStatus t output = unless (BadRange when ltb output 5 ∷ []) t (gives (Done 0 5) t)
+
+unfoldable pub onLink : Tables → (m : ℕ) (name : List ℕ) → Outcome
+unfolding wordOf roomFor linking
+onLink t m name =
+    unless
+    (BadName when not (linkTest name)
+    ∷ Full when leb 16 (t .known)
+    ∷ NoRoom when (ltb (t .room) (256 + m) || not (roomFor t (t .room - m) (totalOf t)))
+    ∷ []) t
+    (gives (Done (t .known) (t .room - m)) (linking t m (wordOf name) (length name)))
+
+unfoldable pub onBoundary : Tables → Outcome
+onBoundary t = gives (Done (numberAt t (lastRow t)) (boundaryOf t)) t
+
+unfoldable pub onSetUserBoundary : Tables → (value : ℕ) → Outcome
+unfolding bounding
+onSetUserBoundary t value =
+    unless (BadBoundary when (not (sharing t) || ltb (boundaryOf t) value) ∷ []) t
+    (gives (Done 0 0) (bounding t value))
+
+unfoldable pub onAllocate : Tables → (caller : ℕ) → Outcome
+unfolding granting sharingLast
+onAllocate t caller =
+    unless
+    (BadCall when ltb 1 caller
+    ∷ NoSegment when (not (someFree t) && not (mayShare t caller))
+    ∷ []) t
+    (cond (someFree t)
+    (gives (Done (numberAt t (lowestFree t)) SEGMENT) (granting t caller))
+    (gives (Shared (numberAt t (lastRow t)) (boundaryOf t)) (sharingLast t)))
+
+unfoldable pub onFree : Tables → (caller segment : ℕ) → Outcome
+unfolding freeing
+onFree t caller segment =
+    unless
+    (BadCall when ltb 1 caller
+    ∷ NotOwner when not (mayFree t caller (rowOf t segment))
+    ∷ []) t
+    (gives (Done 0 0) (freeing t (rowOf t segment)))
+
+unfoldable pub onStore : Tables → (segment offset size : ℕ) → Outcome
+onStore t segment offset size =
+    unless
+    (NotOwner when not (mayReach t (rowOf t segment))
+    ∷ BadRange when ltb (reachOf t (rowOf t segment)) (offset + size)
+    ∷ Guarded when guarded (rowOf t segment) offset size
+    ∷ []) t
+    (gives (Done 0 size) t)
+
+unfoldable pub onLoad : Tables → (output segment offset size : ℕ) → Outcome
+onLoad t output segment offset size =
+    unless
+    (NotOwner when not (mayReach t (rowOf t segment))
+    ∷ BadRange when (ltb (reachOf t (rowOf t segment)) (offset + size) || ltb output size)
+    ∷ []) t
+    (gives (Done 0 size) t)

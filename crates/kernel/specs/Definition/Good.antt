@@ -1,0 +1,44 @@
+-- "Tables are good when": as a record of facts, and as the test that the code runs.
+use mathlib.Core.Path.{_≡_}
+use mathlib.Core.Bool.{Bool, _&&_}
+use Prim.Native.Nat.{ℕ}
+use lib.Dec.{leb, eqb}
+use lib.ListN.{length}
+use Rattle.rows.specs.Sizes.{chainLength}
+use Rattle.rows.specs.Good.{ListGood, ClassesGood, ChainGood, RoomGood, ChannelsGood, UserGood, DevicesGood, DefaultGood}
+use Rattle.rows.specs.Tests.{listTest, classTest, chainTest, roomTest, channelTest, userTest, deviceTest, defaultTest}
+use Rattle.kernel.specs.Definition.Tables.{classAt, lastRow}
+use Rattle.kernel.specs.Definition.Line.{totalOf, boundaryOf}
+use Rattle.kernel.specs.declared.Tables.{Tables}
+
+-- the arrays' lengths, which every value of the type has
+pub record Sized (t : Tables) : Type 0 where
+  pub list : length (t .list) ≡ 32
+  pub classes : length (t .classes) ≡ 32
+  pub chain : length (t .chain) ≡ 32
+  pub channels : length (t .channels) ≡ 32
+  pub devices : length (t .devices) ≡ 16
+
+pub record Good (t : Tables) : Type 0 where
+  pub sized : Sized t
+  pub list : ListGood (t .list) (t .segments)
+  pub classes : ClassesGood (t .segments) (t .classes)
+  pub room : RoomGood (t .room) (t .cold)
+  pub chain : ChainGood (t .segments) (t .classes) (t .chain) (t .held)
+  -- "its length is the one computed below"
+  pub line : t .held ≡ chainLength (t .room) (totalOf t)
+  pub channels : ChannelsGood (t .channels) (t .opened) (t .known)
+  pub user : UserGood (t .classes) (lastRow t) (t .user) (boundaryOf t)
+  pub devices : DevicesGood (t .devices) (t .known)
+  pub default : DefaultGood (t .name) (t .length) (t .unit)
+
+-- the counts are within the arrays: asked first, so that the rest can run
+abbrev pub sizesTest : (segments held opened : ℕ) → Bool
+sizesTest segments held opened = leb 1 segments && leb segments 32 && leb 1 held && leb held 32 && leb opened 32
+
+unfoldable pub goodTest : Tables → Bool
+goodTest t =
+    sizesTest (t .segments) (t .held) (t .opened) && listTest (t .list) (t .segments) && classTest (t .classes) (t .segments) && roomTest (t .room) (t .cold)
+    && chainTest (t .classes) (t .chain) (t .held) (t .segments) && channelTest (t .channels) (t .opened) (t .known)
+    && eqb (t .held) (chainLength (t .room) (totalOf t)) && userTest (classAt t (lastRow t)) (t .user) (boundaryOf t)
+    && deviceTest (t .devices) (t .known) && defaultTest (t .name) (t .length) (t .unit)

@@ -1,0 +1,34 @@
+-- "A buffer's bytes are lent on, for reading only, as that part of the RAM and nothing else where they lie in one segment."
+use mathlib.Core.Bool.{cond}
+use mathlib.Core.List.{List}
+use Prim.Native.Nat.{ℕ}
+use lib.Dec.{ltb}
+use lib.ListN.{length}
+use Rattle.line.specs.Lent.{lentAt, partOf}
+use Rattle.line.specs.declared.Lent.{Lent}
+use Rattle.line.specs.declared.Lent.the-variants.{Nothing}
+use Rattle.kernel.specs.Definition.Tables.{channelAt}
+use Rattle.kernel.specs.Definition.Line.{sizeAt, bufferAt}
+use Rattle.kernel.specs.Definition.Step.{accepted}
+use Rattle.kernel.specs.declared.Tables.{Tables}
+
+-- where the part starts that is lent of a channel's buffer; nothing is lent where the channel is not open
+unfoldable pub lentOn : Tables → (channel : ℕ) → Lent
+unfolding lentAt
+lentOn t channel =
+    let i = channelAt t channel in
+    cond (ltb i (t .opened)) (lentAt (t .chain) (t .room) (bufferAt t i) (sizeAt t i)) Nothing
+
+-- the part, in the order of the RAM: the buffer's last byte first
+unfoldable pub partOn : Tables → (ram : List ℕ) (channel : ℕ) → List ℕ
+unfolding lentOn partOf
+partOn t ram channel = partOf ram (sizeAt t (channelAt t channel)) (lentOn t channel)
+
+-- the same of any tables and any RAM: nothing is lent where the tables are not good or the RAM has another length (`ram`: how many bytes are lent)
+unfoldable pub lentFrom : Tables → (ram channel : ℕ) → Lent
+unfolding lentOn
+lentFrom t ram channel = cond (accepted t ram) (lentOn t channel) Nothing
+
+unfoldable pub partFrom : Tables → (ram : List ℕ) (channel : ℕ) → List ℕ
+unfolding lentFrom partOf
+partFrom t ram channel = partOf ram (sizeAt t (channelAt t channel)) (lentFrom t (length ram) channel)

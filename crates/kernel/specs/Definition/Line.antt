@@ -1,0 +1,74 @@
+-- "The line of channel RAM": T, the EXOS boundary, how the chain grows and shrinks, the room rule, and the tables after an open and a close.
+use mathlib.Core.Bool.{Bool, cond, _&&_, _||_}
+use mathlib.Core.List.{List}
+use Prim.Native.Nat.{ℕ, zero, suc, _+_, _-_, _*_}
+use lib.Dec.{leb, ltb, eqb}
+use lib.ListN.{getD, take, set}
+use Rattle.rows.specs.Lists.{at, lastOf, without}
+use Rattle.rows.specs.Classes.{FREE, USER, SYSTEM, SHARED}
+use Rattle.rows.specs.Channels.{noChannel, sumOf}
+use Rattle.rows.specs.Sizes.{chainLength, edgeAt}
+use Rattle.rows.specs.declared.Channel.{Channel}
+use Rattle.kernel.specs.Definition.Tables.{SEGMENT, classAt, countOf, sharing, lastRow, withSegments, withChannels}
+use Rattle.kernel.specs.declared.Tables.{Tables}
+
+-- "Records lie end to end in opening order": the position where the record of row i starts
+abbrev pub recordAt : Tables → ℕ → ℕ
+recordAt t i = sumOf (take i (t .channels))
+
+-- "T is the sum of their lengths."
+abbrev pub totalOf : Tables → ℕ
+totalOf t = recordAt t (t .opened)
+
+-- "a 16-byte heading and then its buffer of n bytes": n, and the position where the buffer starts
+abbrev pub sizeAt : Tables → ℕ → ℕ
+sizeAt t i = getD (t .channels) i noChannel .n
+
+abbrev pub bufferAt : Tables → ℕ → ℕ
+bufferAt t i = recordAt t i + 16
+
+-- the EXOS boundary
+abbrev pub boundaryOf : Tables → ℕ
+boundaryOf t = edgeAt (t .room) (totalOf t)
+
+-- "A new system segment is the highest numbered free one"
+unfoldable pub oneMore : Tables → Tables
+oneMore t =
+    let row = lastOf FREE (t .classes) - 1 in
+    withSegments t (set (t .classes) row SYSTEM) (t .held + 1) (set (t .chain) (t .held) row) (t .user)
+
+unfoldable pub grown : ℕ → Tables → Tables
+unfolding oneMore
+grown zero t = t
+grown (suc k) t = grown k (oneMore t)
+
+-- "segments are given up from the chain's end"; "A given-up segment becomes free, a shared one becomes user and the user boundary 0."
+unfoldable pub oneLess : Tables → Tables
+oneLess t =
+    let row = lastRow t in
+    let was = classAt t row in
+    withSegments t (set (t .classes) row (cond (eqb was SHARED) USER FREE)) (t .held - 1) (set (t .chain) (t .held - 1) 0) (cond (eqb was SHARED) 0 (t .user))
+
+unfoldable pub shrunk : ℕ → Tables → Tables
+unfolding oneLess
+shrunk zero t = t
+shrunk (suc k) t = shrunk k (oneLess t)
+
+-- "Room rule: with nothing shared, T may reach R + 16,384 x (chain length - 1 + free segments). With a segment shared, the line stays in the
+-- present chain and the EXOS boundary may not fall below the user boundary, even if a free segment exists (build)." For a line of length n at the room r
+unfoldable pub roomFor : Tables → (r n : ℕ) → Bool
+roomFor t r n =
+    cond (sharing t)
+    (ltb (chainLength r n) (t .held) || (eqb (chainLength r n) (t .held) && leb (t .user) (edgeAt r n)))
+    (leb n (r + SEGMENT * (t .held - 1 + countOf FREE t)))
+
+-- "Open appends a record"
+unfoldable pub opening : Tables → Channel → Tables
+opening t c =
+    grown (chainLength (t .room) (totalOf t + (16 + c .n)) - t .held) (withChannels t (t .opened + 1) (set (t .channels) (t .opened) c))
+
+-- "Close removes one": the row i
+unfoldable pub closing : Tables → ℕ → Tables
+closing t i =
+    let u = withChannels t (t .opened - 1) (without i (t .channels) noChannel) in
+    shrunk (t .held - chainLength (t .room) (totalOf u)) u

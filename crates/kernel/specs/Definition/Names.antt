@@ -1,0 +1,33 @@
+-- "Names (section 11.1)": which device and unit a string of open means.
+use mathlib.Core.List.{List, [], _∷_}
+use mathlib.Core.Option.{Option, none, some}
+use Prim.Native.Nat.{ℕ}
+use lib.Dec.{ltb}
+use lib.ListN.{length, take}
+use Rattle.names.specs.Grammar.{Reading}
+use Rattle.names.specs.Parts.{device, unit}
+use Rattle.names.specs.Words.{wordOf}
+use Rattle.names.specs.declared.UnitNumber.{UnitNumber}
+use Rattle.names.specs.declared.UnitNumber.the-variants.{Given, Absent}
+use Rattle.rows.specs.Devices.{deviceIn}
+use Rattle.kernel.specs.declared.Tables.{Tables}
+
+-- a device's name in 28 bytes with its length, and a unit
+pub record Wanted : Type 0 where
+  pub name : List ℕ
+  pub length : ℕ
+  pub unit : ℕ
+
+-- "Name without unit means unit 0; unit without name means the default name; neither means the default name and unit."
+abbrev pub wantedBy : Tables → (letters : List ℕ) → UnitNumber → Wanted
+wantedBy t [] Absent = record { name = t .name; length = t .length; unit = t .unit }
+wantedBy t [] (Given u) = record { name = t .name; length = t .length; unit = u }
+wantedBy t (x ∷ xs) Absent = record { name = wordOf (x ∷ xs); length = length (x ∷ xs); unit = 0 }
+wantedBy t (x ∷ xs) (Given u) = record { name = wordOf (x ∷ xs); length = length (x ∷ xs); unit = u }
+
+abbrev pub wanted : Tables → Reading → Wanted
+wanted t r = wantedBy t (device r) (unit r)
+
+-- the row of the enabled device so named, or the number of devices where there is none
+abbrev pub deviceFor : Tables → Wanted → ℕ
+deviceFor t w = deviceIn (take (t .known) (t .devices)) (w .name) (w .length)

@@ -1,0 +1,139 @@
+-- The refusal table, row by row: when a number is given, for each call. "Several at once: the lowest number wins."
+use mathlib.Core.Path.{_≡_}
+use mathlib.Core.Bool.{true, false}
+use mathlib.Core.Logic.{_≢_, _⊎_}
+use mathlib.Core.List.{List}
+use Prim.Native.Nat.{ℕ, _+_, _-_, _*_, _/_, _%_, _^_, _≤_, _<_}
+use lib.ListN.{length, getD}
+use Rattle.names.specs.Grammar.{Reading, Reads}
+use Rattle.names.specs.Words.{LinkName, DefaultName}
+use Rattle.rows.specs.Lists.{padded}
+use Rattle.rows.specs.Classes.{FREE, USER, DEVICE, SHARED}
+use Rattle.rows.specs.Channels.{noChannel}
+use Rattle.rows.specs.Devices.{noDevice}
+use Rattle.rows.specs.Sizes.{chainLength, edgeAt}
+use Rattle.rows.specs.Good.{ListGood, Same}
+use Rattle.kernel.specs.Definition.Tables.{SEGMENT, ramSize, numberAt, classAt, countOf}
+use Rattle.kernel.specs.Definition.Good.{Good}
+use Rattle.kernel.specs.Definition.Line.{totalOf, sizeAt, boundaryOf}
+use Rattle.kernel.specs.Definition.Segments.{reachOf}
+use Rattle.kernel.specs.Definition.Names.{Wanted, wanted}
+use Rattle.kernel.specs.Definition.Calls.{Call, start, reset, «open», close, read, write, default, status, link, set-user-boundary, allocate, free, store, load, unknown, short-start, isStart}
+use Rattle.kernel.specs.declared.Tables.{Tables}
+
+-- the channel is open, and its row is i
+pub record OpenAt (t : Tables) (channel i : ℕ) : Type 0 where
+  pub row : i < t .opened
+  pub number : getD (t .channels) i noChannel .number ≡ channel
+
+-- "255, or not open"
+abbrev pub NotOpen : Tables → ℕ → Type 0
+NotOpen t channel = (channel ≡ 255) ⊎ ((i : ℕ) → OpenAt t channel i → ⊥)
+
+-- the segment is in the list, and its row is row
+pub record InList (t : Tables) (segment row : ℕ) : Type 0 where
+  pub within : row < t .segments
+  pub number : numberAt t row ≡ segment
+
+-- some segment has the class
+abbrev pub Some : Tables → ℕ → Type 0
+Some t class = (row : ℕ) × (row < t .segments) × (classAt t row ≡ class)
+
+-- row i is an enabled device of the wanted name, which is not empty
+pub record Enabled (t : Tables) (w : Wanted) (i : ℕ) : Type 0 where
+  pub known : i < t .known
+  pub named : 1 ≤ w .length
+  pub enabled : getD (t .devices) i noDevice .enabled ≡ true
+  pub same : Same (getD (t .devices) i noDevice .name) (getD (t .devices) i noDevice .length) (w .name) (w .length)
+
+-- "Room rule", for a line of length n at the room r
+pub record Room (t : Tables) (r n : ℕ) : Type 0 where
+  pub apart : (Some t SHARED → ⊥) → n ≤ r + SEGMENT * (t .held - 1 + countOf FREE t)
+  pub stays : Some t SHARED → chainLength r n ≤ t .held
+  pub above : Some t SHARED → chainLength r n ≡ t .held → t .user ≤ edgeAt r n
+
+-- "the user gives back user .. or shared ..; a device gives back device"
+pub data Gives : (caller class : ℕ) → Type 0 where
+  user : Gives 0 USER
+  shared : Gives 0 SHARED
+  device : Gives 1 DEVICE
+
+-- "Store and load reach the page zero segment and user segments .., a shared one"
+abbrev pub Reached : Tables → ℕ → Type 0
+Reached t row = (row ≡ 0) ⊎ ((classAt t row ≡ USER) ⊎ (classAt t row ≡ SHARED))
+
+-- "30h to 5Bh, save 3Dh and 3Eh"
+pub record GuardedByte (offset : ℕ) : Type 0 where
+  pub from : 48 ≤ offset
+  pub to : offset ≤ 91
+  pub free : (offset ≢ 61) × (offset ≢ 62)
+
+-- "a bit other than 4, 5, 6"
+pub record OtherBit (flags k : ℕ) : Type 0 where
+  pub bit : k < 8
+  pub other : (k ≢ 4) × (k ≢ 5) × (k ≢ 6)
+  pub set : flags / 2 ^ k % 2 ≡ 1
+
+abbrev pub NotStart : Call → Type 0
+NotStart c = isStart c ≡ false
+
+-- Row k of the table holds of the call c: `ram` and `output` are how many bytes are lent
+pub data Row (t : Tables) (ram output : ℕ) : (c : Call) (k : ℕ) → Type 0 where
+  -- 1 TABLES: "not for start: tables not good, or RAM length wrong"
+  tables-bad : {c : Call} → NotStart c → ¬ Good t → Row t ram output c 1
+  ram-wrong : {c : Call} → NotStart c → ram ≢ ramSize t → Row t ram output c 1
+  -- 2 CALL: "kind unknown; body short ..; caller not 0 or 1"
+  call-unknown : Row t ram output unknown 2
+  start-short : Row t ram output short-start 2
+  allocate-caller : {caller : ℕ} → 1 < caller → Row t ram output (allocate caller) 2
+  free-caller : {caller segment : ℕ} → 1 < caller → Row t ram output (free caller segment) 2
+  -- 3 CHANNEL: "255, or not open (open: 255 only)"
+  open-channel : {driver n : ℕ} {name : List ℕ} → Row t ram output («open» 255 driver n name) 3
+  close-channel : {channel : ℕ} → NotOpen t channel → Row t ram output (close channel) 3
+  read-channel : {channel offset size : ℕ} → NotOpen t channel → Row t ram output (read channel offset size) 3
+  write-channel : {channel offset : ℕ} {bytes : List ℕ} → NotOpen t channel → Row t ram output (write channel offset bytes) 3
+  -- 4 EXISTS: "open: already open"
+  open-exists : {channel driver n i : ℕ} {name : List ℕ} → OpenAt t channel i → Row t ram output («open» channel driver n name) 4
+  -- 5 NAME: "against the rules above"
+  open-name : {channel driver n : ℕ} {name : List ℕ} → ((r : Reading) → ¬ Reads name r) → Row t ram output («open» channel driver n name) 5
+  link-name : {m : ℕ} {name : List ℕ} → ¬ LinkName name → Row t ram output (link m name) 5
+  default-name : {unit : ℕ} {name : List ℕ} → ¬ DefaultName name → Row t ram output (default unit name) 5
+  -- 6 DEVICE: "open: no enabled device so named"
+  open-device : {channel driver n : ℕ} {name : List ℕ} {r : Reading} → Reads name r → ((i : ℕ) → ¬ Enabled t (wanted t r) i)
+      → Row t ram output («open» channel driver n name) 6
+  -- 7 DRIVER: "driver status not 0"
+  open-driver : {channel driver n : ℕ} {name : List ℕ} → driver ≢ 0 → Row t ram output («open» channel driver n name) 7
+  -- 8 FULL: "32 channels or 16 devices already"
+  open-full : {channel driver n : ℕ} {name : List ℕ} → 32 ≤ t .opened → Row t ram output («open» channel driver n name) 8
+  link-full : {m : ℕ} {name : List ℕ} → 16 ≤ t .known → Row t ram output (link m name) 8
+  -- 9 ROOM: "room rule broken; link: also R-m < 256"
+  open-room : {channel driver n : ℕ} {name : List ℕ} → ¬ Room t (t .room) (totalOf t + (16 + n)) → Row t ram output («open» channel driver n name) 9
+  link-low : {m : ℕ} {name : List ℕ} → t .room < 256 + m → Row t ram output (link m name) 9
+  link-room : {m : ℕ} {name : List ℕ} → ¬ Room t (t .room - m) (totalOf t) → Row t ram output (link m name) 9
+  -- 10 SEGMENT: "nothing to allocate"
+  allocate-none : {caller : ℕ} → ¬ Some t FREE → (caller ≢ 0) ⊎ (Some t SHARED ⊎ (boundaryOf t ≡ 0)) → Row t ram output (allocate caller) 10
+  -- 11 OWNER: "segment not the caller's to free, store or load"
+  free-owner : {caller segment : ℕ} → ((row : ℕ) → InList t segment row → ¬ Gives caller (classAt t row)) → Row t ram output (free caller segment) 11
+  store-owner : {segment offset : ℕ} {bytes : List ℕ} → ((row : ℕ) → InList t segment row → ¬ Reached t row) → Row t ram output (store segment offset bytes) 11
+  load-owner : {segment offset size : ℕ} → ((row : ℕ) → InList t segment row → ¬ Reached t row) → Row t ram output (load segment offset size) 11
+  -- 12 BOUNDARY: "nothing shared, or value above the EXOS boundary"
+  bound-none : {value : ℕ} → ¬ Some t SHARED → Row t ram output (set-user-boundary value) 12
+  bound-above : {value : ℕ} → boundaryOf t < value → Row t ram output (set-user-boundary value) 12
+  -- 13 RANGE: "offset + length past the end, or lent output too short"
+  read-end : {channel offset size i : ℕ} → OpenAt t channel i → sizeAt t i < offset + size → Row t ram output (read channel offset size) 13
+  read-output : {channel offset size : ℕ} → output < size → Row t ram output (read channel offset size) 13
+  write-end : {channel offset i : ℕ} {bytes : List ℕ} → OpenAt t channel i → sizeAt t i < offset + length bytes → Row t ram output (write channel offset bytes) 13
+  status-output : output < 5 → Row t ram output status 13
+  store-end : {segment offset row : ℕ} {bytes : List ℕ} → InList t segment row → reachOf t row < offset + length bytes → Row t ram output (store segment offset bytes) 13
+  load-end : {segment offset size row : ℕ} → InList t segment row → reachOf t row < offset + size → Row t ram output (load segment offset size) 13
+  load-output : {segment offset size : ℕ} → output < size → Row t ram output (load segment offset size) 13
+  -- 14 GUARD: "store touches page zero 30h to 5Bh, save 3Dh and 3Eh"
+  store-guard : {segment offset k : ℕ} {bytes : List ℕ} → InList t segment 0 → offset ≤ k → k < offset + length bytes → GuardedByte k
+      → Row t ram output (store segment offset bytes) 14
+  -- 15 FLAGS: "a bit other than 4, 5, 6"
+  reset-flags : {flags k : ℕ} → OtherBit flags k → Row t ram output (reset flags) 15
+  -- 16 START: "list, R or RAM length wrong"
+  start-list : {room : ℕ} {list : List ℕ} → ¬ ListGood (padded 32 list) (length list) → Row t ram output (start room list) 16
+  start-low : {room : ℕ} {list : List ℕ} → room < 256 → Row t ram output (start room list) 16
+  start-high : {room : ℕ} {list : List ℕ} → 16128 < room → Row t ram output (start room list) 16
+  start-ram : {room : ℕ} {list : List ℕ} → ram ≢ SEGMENT * length list → Row t ram output (start room list) 16

@@ -1,0 +1,20 @@
+-- There are good tables, and every call keeps them.
+pub mod Arrays
+pub mod Good
+pub mod Body
+pub mod Grow
+pub mod Shrink
+pub mod Facts
+pub mod Chains
+pub mod Records
+pub mod KeptLine
+pub mod KeptSegments
+pub mod KeptNames
+pub mod KeptReset
+pub mod Wants
+pub mod Opens
+pub mod Links
+pub mod Fields
+pub mod Effects
+pub mod Keeps
+pub mod Ready

@@ -1,0 +1,49 @@
+-- What follows from good tables: the sentences of 01 that the record does not repeat, and what the calls' code needs.
+use mathlib.Core.Path.{_≡_}
+use Prim.Native.Nat.{ℕ, _+_, _-_, _≤_, _<_}
+use native.Mathlib.Omega.{arith}
+use Rattle.rows.specs.Lists.{at}
+use Rattle.rows.specs.Classes.{FREE, SHARED, held?}
+use Rattle.rows.specs.Exact as exact
+use Rattle.rows.specs.Exact.{Exactly, exactly}
+use Rattle.kernel.specs.Definition.Tables.{classAt, countOf}
+use Rattle.kernel.specs.Definition.Good.{Good}
+use Rattle.kernel.specs.Laws.Body.{body, body-counted}
+use Rattle.kernel.specs.declared.Tables.{Tables}
+
+-- "the chain below is exactly the system and shared segments without a repeat", as a reader says it
+pub chain-exactly : (t : Tables) → Good t → Exactly (t .segments) (t .classes) (t .chain) (t .held)
+chain-exactly t g = exactly (t .segments) (t .classes) (t .chain) (t .held) (g .sized .chain) (g .chain .most) (g .chain .rows) (g .chain .exact)
+
+-- "at most one segment is shared"
+pub one-shared : (t : Tables) → Good t → (i j : ℕ) → i < t .segments → j < t .segments → classAt t i ≡ SHARED → classAt t j ≡ SHARED → i ≡ j
+one-shared t g = exact.one-shared (t .segments) (t .classes) (t .chain) (t .held) (g .chain)
+
+-- "255 is system or shared"
+pub top-held : (t : Tables) → Good t → 1 ≤ held? (classAt t (t .segments - 1))
+top-held t g = exact.top-held (t .segments) (t .classes) (t .chain) (t .held) (g .sized .chain) (g .chain)
+
+-- what the code of the calls needs: the counts are within the arrays, and the chain's entries are rows
+pub record Fit (t : Tables) : Type 0 where
+  pub one : 1 ≤ t .segments
+  pub segments : t .segments ≤ 32
+  pub holds : 1 ≤ t .held
+  pub held : t .held ≤ 32
+  pub rows : (i : ℕ) → i < t .held → at (t .chain) i < 32
+  pub opened : t .opened ≤ 32
+  pub known : t .known ≤ 16
+
+pub fit : (t : Tables) → Good t → Fit t
+fit t g = record {
+  one = omega (arith, g .list .least);
+  segments = g .list .most;
+  holds = g .chain .holds;
+  held = g .chain .most;
+  rows = λ i h. omega (arith, g .chain .rows i h, g .list .most);
+  opened = g .channels .most;
+  known = g .devices .most;
+}
+
+-- the chain may grow by every free segment
+pub free-fits : (t : Tables) → Good t → t .held + countOf FREE t ≤ 32
+free-fits t g = omega (arith, body-counted t (body t g), g .list .most)

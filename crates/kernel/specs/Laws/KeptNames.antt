@@ -1,0 +1,50 @@
+-- Link and default keep good tables.
+use mathlib.Core.Path.{_≡_, _∙_}
+use mathlib.Core.Bool.{true}
+use mathlib.Core.List.{List, map}
+use Prim.Native.Nat.{ℕ, _+_, _-_, _≤_, _<_}
+use native.Mathlib.Omega.{arith}
+use lib.ListN.{length, length-set, length-map}
+use Rattle.rows.specs.Devices.{muted, added}
+use Rattle.rows.specs.Sizes.{length-mono}
+use Rattle.rows.specs.Good.{NameGood}
+use Rattle.rows.specs.Rows.{channels-known}
+use Rattle.rows.specs.DeviceRows.{devices-more}
+use Rattle.rows.specs.declared.Device.{Device}
+use Rattle.kernel.specs.Definition.Tables.{withDevices, withDefault}
+use Rattle.kernel.specs.Definition.Line.{totalOf, roomFor}
+use Rattle.kernel.specs.Definition.Devices.{linking}
+use Rattle.kernel.specs.Definition.Good.{Good}
+use Rattle.kernel.specs.Laws.Body.{body, body-devices}
+use Rattle.kernel.specs.Laws.KeptLine.{fill}
+use Rattle.kernel.specs.declared.Tables.{Tables}
+
+pub linking-keeps : (t : Tables) (m : ℕ) (name : List ℕ) (n : ℕ) → Good t → t .known < 16 → NameGood name n → 1 ≤ n → 256 + m ≤ t .room
+    → roomFor t (t .room - m) (totalOf t) ≡ true → Good (linking t m name n)
+unfolding linking roomFor
+linking-keeps t m name n g k w p h e =
+    let ds = added (t .devices) (t .known) name n in
+    let new : Device = record { name = name; length = n; enabled = true } in
+    let l : length ds ≡ 16 = length-set (map (muted name n) (t .devices)) (t .known) new ∙ length-map (t .devices) (muted name n) ∙ g .sized .devices in
+    fill (withDevices t (t .room - m) (t .known + 1) ds)
+    (body-devices t (t .room - m) (t .known + 1) ds l (record { least = omega arith; most = omega (arith, g .room .most); top = g .room .top })
+    (devices-more (t .devices) (t .known) name n (g .sized .devices) k w p (g .devices))
+    (channels-known (t .channels) (t .opened) (t .known) (t .known + 1) (omega arith) (g .channels)) (body t g))
+    (omega (arith, g .line, length-mono (t .room) (t .room - m) (totalOf t) (totalOf t) (omega arith) (omega arith)))
+    e
+
+pub naming-keeps : (t : Tables) (name : List ℕ) (n unit : ℕ) → Good t → NameGood name n → 1 ≤ n → Good (withDefault t name n unit)
+naming-keeps t name n unit g w p =
+    let z = g .sized in
+    record {
+      sized = record { list = z .list; classes = z .classes; chain = z .chain; channels = z .channels; devices = z .devices };
+      list = g .list;
+      classes = g .classes;
+      room = g .room;
+      chain = g .chain;
+      line = g .line;
+      channels = g .channels;
+      user = g .user;
+      devices = g .devices;
+      default = record { letters = w; none = λ e. absurd (omega arith) };
+    }

@@ -1,0 +1,59 @@
+-- When a device may be linked, and what the code of link needs of the next tables.
+use mathlib.Core.Path.{_≡_}
+use mathlib.Core.Bool.{Bool, true, not, _||_}
+use mathlib.Core.List.{List}
+use Prim.Native.Nat.{ℕ, _+_, _-_, _≤_, _<_}
+use native.Mathlib.Omega.{arith}
+use lib.Dec.{ltb}
+use lib.ListN.{length}
+use Rattle.names.specs.Words.{wordOf, LinkName}
+use Rattle.rows.specs.Devices.{added}
+use Rattle.rows.specs.Sizes.{chainLength}
+use Rattle.line.specs.Line.{Chain}
+use Rattle.kernel.specs.Definition.Tables.{ramSize, withDevices}
+use Rattle.kernel.specs.Definition.Good.{Good}
+use Rattle.kernel.specs.Definition.Line.{totalOf, roomFor}
+use Rattle.kernel.specs.Definition.Devices.{linking}
+use Rattle.kernel.specs.Laws.Arrays.{link-default, word-good}
+use Rattle.kernel.specs.Laws.Grow.{Grown, grown-rest}
+use Rattle.kernel.specs.Laws.KeptNames.{linking-keeps}
+use Rattle.kernel.specs.Laws.Chains.{good-chain, chain-shift}
+use Rattle.kernel.specs.declared.Tables.{Tables}
+
+-- the room rule for a device with m bytes
+abbrev pub roomToLink : Tables → (m : ℕ) → Bool
+roomToLink t m = not (ltb (t .room) (256 + m) || not (roomFor t (t .room - m) (totalOf t)))
+
+-- the name is one, a row is left, and there is room for m bytes
+pub record Links (t : Tables) (m : ℕ) (name : List ℕ) : Type 0 where
+  pub named : LinkName name
+  pub few : t .known < 16
+  pub least : 256 + m ≤ t .room
+  pub room : roomFor t (t .room - m) (totalOf t) ≡ true
+
+module _ (t : Tables) (m : ℕ) (name : List ℕ) (g : Good t) (l : Links t m name) where
+  pub linking-good : Good (linking t m (wordOf name) (length name))
+  linking-good =
+      linking-keeps t m (wordOf name) (length name) g (l .few) (word-good name (link-default name (l .named))) (l .named .0) (l .least) (l .room)
+
+  -- what the next tables have besides, as the chain grew
+  linking-rest : Grown (chainLength (t .room - m) (totalOf t) - t .held)
+      (withDevices t (t .room - m) (t .known + 1) (added (t .devices) (t .known) (wordOf name) (length name))) (linking t m (wordOf name) (length name))
+  unfolding linking
+  linking-rest =
+      grown-rest (chainLength (t .room - m) (totalOf t) - t .held)
+      (withDevices t (t .room - m) (t .known + 1) (added (t .devices) (t .known) (wordOf name) (length name)))
+
+  pub linking-room : linking t m (wordOf name) (length name) .room ≡ t .room - m
+  linking-room = linking-rest .room
+
+  -- there are as many segments as the chain grows by
+  pub linking-held : t .held + (chainLength (t .room - m) (totalOf t) - t .held) ≤ 32
+  linking-held = omega (arith, linking-good .chain .most, linking-rest .held)
+
+  pub linking-chain : (size : ℕ) → size ≡ ramSize t → Chain (linking t m (wordOf name) (length name) .chain) (t .room) (totalOf t + m) size
+  linking-chain size e =
+      let u = linking t m (wordOf name) (length name) in
+      let r = linking-rest in
+      let k : Chain (u .chain) (u .room) (totalOf u) size = good-chain u size linking-good (rw (r .segments) e) in
+      chain-shift (u .chain) (t .room) m (totalOf t) size (omega (arith, l .least)) (omega (arith, g .room .most, g .room .top)) (rw (r .room, r .total) at k)

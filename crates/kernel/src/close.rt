@@ -1,0 +1,79 @@
+// Close: a channel's record leaves the line.
+ghost use mathlib.Core.Path.{_≡_};
+ghost use mathlib.Core.List.{List};
+ghost use Prim.Native.Nat.{ℕ, _<_};
+ghost use lib.ListN.{length};
+ghost use Rattle.kernel.specs.Definition.Tables.{ramSize};
+ghost use Rattle.kernel.specs.Definition.Good.{Good};
+ghost use Rattle.kernel.specs.Definition.Line.{closing};
+ghost use Rattle.kernel.specs.Definition.Calls.{onClose};
+ghost use Rattle.kernel.specs.Definition.Calls as calls;
+ghost use Rattle.kernel.specs.Definition.Step.{step, completed, result, ramClosed};
+use super::Answer;
+use super::Outcome;
+use super::Tables;
+use line::close_line;
+use rows::Place;
+use rows::channels::channel_place;
+use rows::channels::total;
+use rows::channels::without_row;
+use rows::numbers::less;
+use rows::numbers::wide;
+use rows::numbers::wide16;
+use rows::sizes::chain_length;
+
+impl Tables {
+    // The tables without the channel in row `i`.
+    fn closed(self, i: usize) -> Tables
+        requires { ⌜ Good self × (i < self .opened) ⌝ }
+        ensures { λ r. ⌜ r ≡ closing self i ⌝ }
+    {
+        let rows = self.channels;
+        let channels = without_row(rows, i);
+        let opened = self.opened - 1;
+        let keep = chain_length(self.room, total(channels, wide(opened)));
+        let gone = less(wide(self.held), keep);
+        let mut next = self;
+        next.opened = opened;
+        next.channels = channels;
+        next.shrink(gone)
+    }
+
+    // The RAM without the record of the channel in row `i`.
+    fn close_record(self, ram: &mut [u8], i: usize)
+        requires { ⌜ Good self × (i < self .opened) × (length (now ram) ≡ ramSize self) ⌝ }
+        ensures { λ _. ⌜ now (ram .exit) ≡ ramClosed self (now (ram .entry)) i ⌝ }
+    {
+        let chain = self.chain;
+        let channels = self.channels;
+        let start = total(channels, i);
+        let line = total(channels, wide(self.opened));
+        let n = wide16(channels[i].n);
+        close_line(ram, &chain, wide16(self.room), start, 16 + n, line);
+    }
+
+    pub fn close(self, ram: &mut [u8], channel: u8) -> Outcome
+        ensures { λ r. ⌜ ((out : List ℕ) → result r (now (ram .exit)) out ≡ step self (now (ram .entry)) (calls.close channel) out) ⌝ }
+    {
+        if !self.accepts(ram.len()) {
+            return self.refuse(Answer::BadTables);
+        }
+        self.close_good(ram, channel)
+    }
+
+    pub fn close_good(self, ram: &mut [u8], channel: u8) -> Outcome
+        requires { ⌜ Good self × (length (now ram) ≡ ramSize self) ⌝ }
+        ensures { λ r. ⌜ ((out : List ℕ) → result r (now (ram .exit)) out ≡ completed self (onClose self channel) (now (ram .entry)) (calls.close channel) out) ⌝ }
+    {
+        let channels = self.channels;
+        let opened = wide(self.opened);
+        let Place::At(i) = channel_place(channels, opened, channel) else {
+            return self.refuse(Answer::NoChannel);
+        };
+        self.close_record(ram, i);
+        Outcome {
+            answer: Answer::Done(0, 0),
+            tables: self.closed(i),
+        }
+    }
+}

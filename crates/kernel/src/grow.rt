@@ -1,0 +1,65 @@
+// How the chain grows, and the room rule.
+ghost use mathlib.Core.Path.{_≡_};
+ghost use Prim.Native.Nat.{_+_, _≤_, _<_};
+ghost use Rattle.kernel.specs.Definition.Line.{oneMore, grown, roomFor};
+use super::Tables;
+use rows::numbers::less;
+use rows::numbers::wide;
+use rows::numbers::wide16;
+use rows::segments::FREE;
+use rows::segments::SHARED;
+use rows::segments::SYSTEM;
+use rows::segments::count_of;
+use rows::segments::first_of;
+use rows::segments::last_of;
+use rows::sizes::chain_length;
+use rows::sizes::edge_at;
+
+impl Tables {
+    // One further segment for the chain: the highest numbered free one.
+    fn one_more(self) -> Tables
+        requires { ⌜ self .held < 32 ⌝ }
+        ensures { λ r. ⌜ r ≡ oneMore self ⌝ }
+    {
+        let classes = self.classes;
+        let row = less(last_of(classes, FREE), 1);
+        let held = wide(self.held);
+        let mut next = self;
+        next.classes[row] = SYSTEM;
+        next.chain[held] = (row % 256) as u8;
+        next.held = self.held + 1;
+        next
+    }
+
+    // `k` further segments for the chain.
+    pub fn grow(self, k: usize) -> Tables
+        requires { ⌜ self .held + k ≤ 32 ⌝ }
+        ensures { λ r. ⌜ r ≡ grown k self ⌝ }
+    {
+        let mut t = self;
+        let mut i: usize = 0;
+        while i < k {
+            t = t.one_more();
+            i = i + 1;
+        }
+        t
+    }
+
+    // The room rule, for a line of length `n` at the room `room`.
+    pub fn room_for(self, room: u16, n: usize) -> bool
+        requires { ⌜ (self .segments ≤ 32) × (1 ≤ self .held) × (n ≤ 4194304) ⌝ }
+        ensures { λ r. ⌜ r ≡ roomFor self room n ⌝ }
+    {
+        let classes = self.classes;
+        let segments = wide(self.segments);
+        let held = wide(self.held);
+        let long = chain_length(room, n);
+        let fits = (long < held) | ((long == held) & (self.user <= edge_at(room, n)));
+        let most = wide16(room) + 16384 * (held - 1 + count_of(classes, segments, FREE));
+        if first_of(classes, segments, SHARED) < segments {
+            fits
+        } else {
+            n <= most
+        }
+    }
+}

@@ -1,0 +1,69 @@
+// The kernel of document 01: its tables, its answers and its calls.
+use rows::Channel;
+use rows::Device;
+
+pub mod good; // the test for good tables
+pub mod grow; // how the chain grows, and the room rule
+pub mod shrink; // how the chain gives segments up
+pub mod start; // start
+pub mod reset; // reset
+pub mod open; // open
+pub mod close; // close
+pub mod bytes; // read, write, store, load, and a buffer lent on
+pub mod default; // default
+pub mod link; // link
+pub mod segments; // boundary, set user boundary, allocate, free, status
+
+// What every call takes and hands back. Unused rows and bytes are zero.
+pub struct Tables {
+    // The RAM list: how many segments, and their numbers.
+    pub segments: u8,
+    pub list: [u8; 32],
+    // The class of the segment in each row of the list.
+    pub classes: [u8; 32],
+    // The system chain, as rows of the list: how many it holds, and which.
+    pub held: u8,
+    pub chain: [u8; 32],
+    // The user boundary, in bytes.
+    pub user: u16,
+    // R and the cold R, in bytes.
+    pub room: u16,
+    pub cold: u16,
+    // The open channels, in line order.
+    pub opened: u8,
+    pub channels: [Channel; 32],
+    pub known: u8,
+    pub devices: [Device; 16],
+    // The default name with its length and its unit.
+    pub name: [u8; 28],
+    pub length: u8,
+    pub unit: u8,
+}
+
+// The answers of document 01, in the order of their numbers.
+pub enum Answer {
+    Done(u8, u16),
+    BadTables,
+    BadCall,
+    NoChannel,
+    Exists,
+    BadName,
+    NoDevice,
+    Driver(u8),
+    Full,
+    NoRoom,
+    NoSegment,
+    NotOwner,
+    BadBoundary,
+    BadRange,
+    Guarded,
+    BadFlags,
+    BadStart,
+    Shared(u8, u16),
+}
+
+// The answer with the next tables.
+pub struct Outcome {
+    pub answer: Answer,
+    pub tables: Tables,
+}

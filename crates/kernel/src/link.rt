@@ -1,0 +1,100 @@
+// Link: a further device, with RAM of its own.
+ghost use mathlib.Core.Path.{_≡_};
+ghost use mathlib.Core.List.{List};
+ghost use Prim.Native.Nat.{ℕ};
+ghost use lib.ListN.{length};
+ghost use Rattle.names.specs.Words.{wordOf};
+ghost use Rattle.kernel.specs.Definition.Tables.{ramSize};
+ghost use Rattle.kernel.specs.Definition.Good.{Good};
+ghost use Rattle.kernel.specs.Definition.Devices.{linking};
+ghost use Rattle.kernel.specs.Definition.Calls.{onLink};
+ghost use Rattle.kernel.specs.Definition.Calls as calls;
+ghost use Rattle.kernel.specs.Definition.Step.{step, completed, result};
+ghost use Rattle.kernel.specs.Laws.Links.{Links, roomToLink};
+use super::Answer;
+use super::Outcome;
+use super::Tables;
+use line::link_line;
+use names::link_name;
+use names::word;
+use rows::Device;
+use rows::channels::total;
+use rows::devices::disable;
+use rows::numbers::less;
+use rows::numbers::wide;
+use rows::numbers::wide16;
+use rows::sizes::chain_length;
+
+impl Tables {
+    // The tables with one device more, an older one of its name disabled, and the chain as long as the line takes.
+    fn add_device(self, m: u16, name: &[u8]) -> Tables
+        requires { ⌜ Good self × Links self m (now name) ⌝ }
+        ensures { λ r. ⌜ r ≡ linking self m (wordOf (now (name .entry))) (length (now (name .entry))) ⌝ }
+    {
+        let channels = self.channels;
+        let end = total(channels, wide(self.opened));
+        let room = self.room - m;
+        let more = less(chain_length(room, end), wide(self.held));
+        let bytes = word(name, name.len());
+        let length = name.len() as u8;
+        let devices = self.devices;
+        let mut rows = disable(devices, bytes, length);
+        let known = wide(self.known);
+        rows[known] = Device {
+            name: bytes,
+            length,
+            enabled: true,
+        };
+        let mut next = self;
+        next.room = room;
+        next.known = self.known + 1;
+        next.devices = rows;
+        next.grow(more)
+    }
+
+    // The room rule, for a device with `m` bytes.
+    fn room_to_link(self, m: u16) -> bool
+        requires { ⌜ Good self ⌝ }
+        ensures { λ r. ⌜ r ≡ roomToLink self m ⌝ }
+    {
+        if wide16(self.room) < 256 + wide16(m) {
+            return false;
+        }
+        let channels = self.channels;
+        let end = total(channels, wide(self.opened));
+        self.room_for(self.room - m, end)
+    }
+
+    pub fn link(self, ram: &mut [u8], m: u16, name: &[u8]) -> Outcome
+        ensures { λ r. ⌜ ((out : List ℕ) → result r (now (ram .exit)) out ≡ step self (now (ram .entry)) (calls.link m (now (name .entry))) out) ⌝ }
+    {
+        if !self.accepts(ram.len()) {
+            return self.refuse(Answer::BadTables);
+        }
+        self.link_good(ram, m, name)
+    }
+
+    pub fn link_good(self, ram: &mut [u8], m: u16, name: &[u8]) -> Outcome
+        requires { ⌜ Good self × (length (now ram) ≡ ramSize self) ⌝ }
+        ensures { λ r. ⌜ ((out : List ℕ) → result r (now (ram .exit)) out ≡ completed self (onLink self m (now (name .entry))) (now (ram .entry)) (calls.link m (now (name .entry))) out) ⌝ }
+    {
+        if !link_name(name) {
+            return self.refuse(Answer::BadName);
+        }
+        if 16 <= self.known {
+            return self.refuse(Answer::Full);
+        }
+        if !self.room_to_link(m) {
+            return self.refuse(Answer::NoRoom);
+        }
+        let next = self.add_device(m, name);
+        let chain = next.chain;
+        let channels = self.channels;
+        let end = total(channels, wide(self.opened));
+        link_line(ram, &chain, wide16(self.room), wide16(m), end);
+        Outcome {
+            answer: Answer::Done(self.known, next.room),
+            tables: next,
+        }
+    }
+}

@@ -1,0 +1,197 @@
+// Open: a channel to the device that a string means.
+ghost use mathlib.Core.Path.{_≡_};
+ghost use mathlib.Core.List.{List, []};
+ghost use Prim.Native.Nat.{ℕ, _≤_, _<_};
+ghost use lib.Dec.{ltb};
+ghost use lib.ListN.{length, take};
+ghost use Rattle.names.specs.Read.{reading};
+ghost use Rattle.kernel.specs.Definition.Tables.{ramSize, channelAt};
+ghost use Rattle.kernel.specs.Definition.Good.{Good};
+ghost use Rattle.kernel.specs.Definition.Line.{opening};
+ghost use Rattle.kernel.specs.Definition.Names.{wantedBy};
+ghost use Rattle.kernel.specs.Definition.Calls.{onOpen, onOpenNamed, onOpenTo};
+ghost use Rattle.kernel.specs.Definition.Calls as calls;
+ghost use Rattle.kernel.specs.Definition.Step.{step, completed, result};
+ghost use Rattle.kernel.specs.Laws.Wants.{wantedOf};
+ghost use Rattle.kernel.specs.Laws.Opens.{New, Fits, onOpenRow};
+use super::Answer;
+use super::Outcome;
+use super::Tables;
+use line::open_record;
+use names::Parts;
+use names::UnitNumber;
+use names::parse;
+use names::word;
+use rows::Channel;
+use rows::Place;
+use rows::channels::channel_place;
+use rows::channels::total;
+use rows::devices::device_place;
+use rows::numbers::less;
+use rows::numbers::wide;
+use rows::numbers::wide16;
+use rows::sizes::chain_length;
+
+// A device's name with its length, and a unit.
+struct Sought {
+    name: [u8; 28],
+    length: u8,
+    unit: u8,
+}
+
+impl Tables {
+    fn is_open(self, channel: u8) -> bool
+        requires { ⌜ self .opened ≤ 32 ⌝ }
+        ensures { λ r. ⌜ r ≡ ltb (channelAt self channel) (self .opened) ⌝ }
+    {
+        let channels = self.channels;
+        match channel_place(channels, wide(self.opened), channel) {
+            Place::At(_) => true,
+            Place::Nowhere => false,
+        }
+    }
+
+    // The device and the unit that the first `letters` bytes of a string and its unit mean.
+    fn sought(self, name: &[u8], letters: usize, unit: UnitNumber) -> Sought
+        requires { ⌜ (letters ≤ 28) × (letters ≤ length (now name)) ⌝ }
+        ensures { λ r. ⌜ wantedOf r ≡ wantedBy self (take letters (now (name .entry))) unit ⌝ }
+    {
+        if letters == 0 {
+            let name = self.name;
+            return match unit {
+                UnitNumber::Given(u) => Sought {
+                    name,
+                    length: self.length,
+                    unit: u,
+                },
+                UnitNumber::Absent => Sought {
+                    name,
+                    length: self.length,
+                    unit: self.unit,
+                },
+            };
+        }
+        let name = word(name, letters);
+        let length = letters as u8;
+        match unit {
+            UnitNumber::Given(u) => Sought {
+                name,
+                length,
+                unit: u,
+            },
+            UnitNumber::Absent => Sought {
+                name,
+                length,
+                unit: 0,
+            },
+        }
+    }
+
+    // The tables with one row more, and the chain as long as the line takes.
+    fn append(self, c: Channel) -> Tables
+        requires { ⌜ Good self × New self c × Fits self c ⌝ }
+        ensures { λ r. ⌜ r ≡ opening self c ⌝ }
+    {
+        let opened = wide(self.opened);
+        let channels = self.channels;
+        let size = total(channels, opened) + (16 + wide16(c.n));
+        let more = less(chain_length(self.room, size), wide(self.held));
+        let mut next = self;
+        next.opened = self.opened + 1;
+        next.channels[opened] = c;
+        next.grow(more)
+    }
+
+    // Open, once the row is known.
+    fn open_row(self, ram: &mut [u8], c: Channel) -> Outcome
+        requires { ⌜ Good self × (length (now ram) ≡ ramSize self) × New self c ⌝ }
+        ensures { λ r. ⌜ ((out : List ℕ) → result r (now (ram .exit)) out ≡ completed self (onOpenRow self c) (now (ram .entry)) (calls.«open» (c .number) 0 (c .n) []) out) ⌝ }
+    {
+        if 32 <= self.opened {
+            return self.refuse(Answer::Full);
+        }
+        let channels = self.channels;
+        let end = total(channels, wide(self.opened));
+        let room = self.room;
+        if !self.room_for(room, end + (16 + wide16(c.n))) {
+            return self.refuse(Answer::NoRoom);
+        }
+        let next = self.append(c);
+        let chain = next.chain;
+        open_record(
+            ram,
+            &chain,
+            wide16(room),
+            end,
+            c.number,
+            c.device,
+            c.unit,
+            c.n,
+        );
+        Outcome {
+            answer: Answer::Done(c.device, c.unit as u16),
+            tables: next,
+        }
+    }
+
+    // Open, once the string is read.
+    fn open_to(self, ram: &mut [u8], channel: u8, driver: u8, n: u16, w: Sought) -> Outcome
+        requires { ⌜ Good self × (length (now ram) ≡ ramSize self) × (channel < 255) × (self .opened ≤ channelAt self channel) ⌝ }
+        ensures { λ r. ⌜ ((out : List ℕ) → result r (now (ram .exit)) out ≡ completed self (onOpenTo self channel driver n (wantedOf w)) (now (ram .entry)) (calls.«open» channel driver n []) out) ⌝ }
+    {
+        let devices = self.devices;
+        let name = w.name;
+        let Place::At(row) = device_place(devices, wide(self.known), name, w.length) else {
+            return self.refuse(Answer::NoDevice);
+        };
+        if driver != 0 {
+            return self.refuse(Answer::Driver(driver));
+        }
+        let c = Channel {
+            number: channel,
+            device: (row % 256) as u8,
+            unit: w.unit,
+            n,
+        };
+        self.open_row(ram, c)
+    }
+
+    // Open, once the channel is known to be a new one.
+    fn open_named(self, ram: &mut [u8], channel: u8, driver: u8, n: u16, name: &[u8]) -> Outcome
+        requires { ⌜ Good self × (length (now ram) ≡ ramSize self) × (channel < 255) × (self .opened ≤ channelAt self channel) ⌝ }
+        ensures { λ r. ⌜ ((out : List ℕ) → result r (now (ram .exit)) out ≡ completed self (onOpenNamed self channel driver n (reading (now (name .entry)))) (now (ram .entry)) (calls.«open» channel driver n (now (name .entry))) out) ⌝ }
+    {
+        let Parts::Read {
+            letters,
+            unit,
+            file: _,
+        } = parse(name)
+        else {
+            return self.refuse(Answer::BadName);
+        };
+        let w = self.sought(name, letters, unit);
+        self.open_to(ram, channel, driver, n, w)
+    }
+
+    pub fn open(self, ram: &mut [u8], channel: u8, driver: u8, n: u16, name: &[u8]) -> Outcome
+        ensures { λ r. ⌜ ((out : List ℕ) → result r (now (ram .exit)) out ≡ step self (now (ram .entry)) (calls.«open» channel driver n (now (name .entry))) out) ⌝ }
+    {
+        if !self.accepts(ram.len()) {
+            return self.refuse(Answer::BadTables);
+        }
+        self.open_good(ram, channel, driver, n, name)
+    }
+
+    pub fn open_good(self, ram: &mut [u8], channel: u8, driver: u8, n: u16, name: &[u8]) -> Outcome
+        requires { ⌜ Good self × (length (now ram) ≡ ramSize self) ⌝ }
+        ensures { λ r. ⌜ ((out : List ℕ) → result r (now (ram .exit)) out ≡ completed self (onOpen self channel driver n (now (name .entry))) (now (ram .entry)) (calls.«open» channel driver n (now (name .entry))) out) ⌝ }
+    {
+        if channel == 255 {
+            return self.refuse(Answer::NoChannel);
+        }
+        if self.is_open(channel) {
+            return self.refuse(Answer::Exists);
+        }
+        self.open_named(ram, channel, driver, n, name)
+    }
+}

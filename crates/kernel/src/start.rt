@@ -1,0 +1,79 @@
+// Start: new tables over a RAM of zeros.
+ghost use mathlib.Core.Path.{_≡_};
+ghost use mathlib.Core.List.{List};
+ghost use Prim.Native.Nat.{ℕ, _≤_};
+ghost use lib.ListN.{length};
+ghost use Rattle.kernel.specs.Definition.Reset.{startTest, started};
+ghost use Rattle.kernel.specs.Definition.Calls as calls;
+ghost use Rattle.kernel.specs.Definition.Step.{step, result};
+use super::Answer;
+use super::Outcome;
+use super::Tables;
+use line::ram::zero_all;
+use rows::Channel;
+use rows::devices::built_in;
+use rows::segments::fresh_classes;
+use rows::segments::lay;
+use rows::segments::list_test;
+
+// The list, R and the length of the RAM are right.
+fn start_test(ram: usize, room: u16, list: &[u8]) -> bool
+    ensures { λ r. ⌜ r ≡ startTest ram room (now (list .entry)) ⌝ }
+{
+    let segments = list.len();
+    if 32 < segments {
+        return false;
+    }
+    list_test(lay(list), segments) & (256 <= room) & (room <= 16128) & (ram == 16384 * segments)
+}
+
+// The tables after a start.
+fn fresh_tables(room: u16, list: &[u8]) -> Tables
+    requires { ⌜ (2 ≤ length (now list)) × (length (now list) ≤ 32) ⌝ }
+    ensures { λ r. ⌜ r ≡ started room (now (list .entry)) ⌝ }
+{
+    let segments = list.len();
+    let numbers = lay(list);
+    let classes = fresh_classes(segments);
+    let devices = built_in();
+    let mut chain = [0u8; 32];
+    chain[0] = ((segments - 1) % 256) as u8;
+    Tables {
+        segments: (segments % 256) as u8,
+        list: numbers,
+        classes,
+        held: 1,
+        chain,
+        user: 0,
+        room,
+        cold: room,
+        opened: 0,
+        channels: [Channel {
+            number: 0,
+            device: 0,
+            unit: 0,
+            n: 0,
+        }; 32],
+        known: 3,
+        devices,
+        name: [0u8; 28],
+        length: 0,
+        unit: 0,
+    }
+}
+
+impl Tables {
+    pub fn start(self, ram: &mut [u8], room: u16, list: &[u8]) -> Outcome
+        ensures { λ r. ⌜ ((out : List ℕ) → result r (now (ram .exit)) out ≡ step self (now (ram .entry)) (calls.start room (now (list .entry))) out) ⌝ }
+    {
+        if !start_test(ram.len(), room, list) {
+            return self.refuse(Answer::BadStart);
+        }
+        zero_all(ram);
+        let next = fresh_tables(room, list);
+        Outcome {
+            answer: Answer::Done(next.segments, room),
+            tables: next,
+        }
+    }
+}
