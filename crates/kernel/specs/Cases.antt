@@ -9,6 +9,7 @@ use borrow.Author.Tests.{eqb-true}
 use Rattle.rows.specs.Lists.{every, every-at, and-left, and-right, upTo}
 use Rattle.rows.specs.Sizes.{chainLength, edgeAt}
 use Rattle.kernel.specs.Definition.Line.{grown, shrunk}
+use Rattle.kernel.specs.Definition.Reset.{noTables}
 use Rattle.kernel.specs.Definition.Answers.{numberOf, aOf, bOf}
 use Rattle.kernel.specs.Definition.Calls.{Call, start, «open», close, boundary, set-user-boundary, allocate, load}
 use Rattle.kernel.specs.Definition.Step.{decided}
@@ -85,29 +86,9 @@ tested t (l ∷ ls) e =
     let e₂ = and-right q (r && more) e₁ in
     (eqb-true _ _ (and-left p (q && (r && more)) e), eqb-true _ _ (and-left q (r && more) e₁), eqb-true _ _ (and-left r more e₂), tested (o .tables) ls (and-right r more e₂))
 
--- any tables will do before a start
-unfoldable pub zeros : Tables
-zeros = record {
-  segments = 0;
-  list = [];
-  classes = [];
-  held = 0;
-  chain = [];
-  user = 0;
-  room = 0;
-  cold = 0;
-  opened = 0;
-  channels = [];
-  known = 0;
-  devices = [];
-  name = [];
-  length = 0;
-  unit = 0;
-}
-
-all-pass : every (λ (ls : List Line). answersTest zeros (fresh ∷ ls)) cases ≡ true
-unfolding answered zeros upTo chainLength edgeAt grown shrunk
+all-pass : every (λ (ls : List Line). answersTest noTables (fresh ∷ ls)) cases ≡ true
+unfolding answered noTables upTo chainLength edgeAt grown shrunk
 all-pass = refl
 
-pub ten-cases : (k : ℕ) → k < 10 → Answers zeros (fresh ∷ getD cases k [])
-ten-cases k h = tested zeros (fresh ∷ getD cases k []) (every-at (λ (ls : List Line). answersTest zeros (fresh ∷ ls)) cases [] all-pass k h)
+pub ten-cases : (k : ℕ) → k < 10 → Answers noTables (fresh ∷ getD cases k [])
+ten-cases k h = tested noTables (fresh ∷ getD cases k []) (every-at (λ (ls : List Line). answersTest noTables (fresh ∷ ls)) cases [] all-pass k h)

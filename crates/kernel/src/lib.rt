@@ -2,6 +2,7 @@
 use rows::Channel;
 use rows::Device;
 
+pub mod answers; // the numbers and values of the answers
 pub mod good; // the test for good tables
 pub mod grow; // how the chain grows, and the room rule
 pub mod shrink; // how the chain gives segments up

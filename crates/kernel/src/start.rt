@@ -3,7 +3,7 @@ ghost use mathlib.Core.Path.{_≡_};
 ghost use mathlib.Core.List.{List};
 ghost use Prim.Native.Nat.{ℕ, _≤_};
 ghost use lib.ListN.{length};
-ghost use Rattle.kernel.specs.Definition.Reset.{startTest, started};
+ghost use Rattle.kernel.specs.Definition.Reset.{startTest, started, noTables};
 ghost use Rattle.kernel.specs.Definition.Calls as calls;
 ghost use Rattle.kernel.specs.Definition.Step.{step, result};
 use super::Answer;
@@ -11,6 +11,7 @@ use super::Outcome;
 use super::Tables;
 use line::ram::zero_all;
 use rows::Channel;
+use rows::Device;
 use rows::devices::built_in;
 use rows::segments::fresh_classes;
 use rows::segments::lay;
@@ -63,6 +64,38 @@ fn fresh_tables(room: u16, list: &[u8]) -> Tables
 }
 
 impl Tables {
+    // The tables before any start, which no call but start takes.
+    pub fn none() -> Tables
+        ensures { λ r. ⌜ r ≡ noTables ⌝ }
+    {
+        Tables {
+            segments: 0,
+            list: [0u8; 32],
+            classes: [0u8; 32],
+            held: 0,
+            chain: [0u8; 32],
+            user: 0,
+            room: 0,
+            cold: 0,
+            opened: 0,
+            channels: [Channel {
+                number: 0,
+                device: 0,
+                unit: 0,
+                n: 0,
+            }; 32],
+            known: 0,
+            devices: [Device {
+                name: [0u8; 28],
+                length: 0,
+                enabled: false,
+            }; 16],
+            name: [0u8; 28],
+            length: 0,
+            unit: 0,
+        }
+    }
+
     pub fn start(self, ram: &mut [u8], room: u16, list: &[u8]) -> Outcome
         ensures { λ r. ⌜ ((out : List ℕ) → result r (now (ram .exit)) out ≡ step self (now (ram .entry)) (calls.start room (now (list .entry))) out) ⌝ }
     {

@@ -7,8 +7,9 @@ use lib.ListN.{length, replicate}
 use Rattle.rows.specs.Lists.{padded}
 use Rattle.rows.specs.Classes.{fresh, released}
 use Rattle.rows.specs.Channels.{noChannel}
-use Rattle.rows.specs.Devices.{builtIn}
+use Rattle.rows.specs.Devices.{zeroDevice, builtIn}
 use Rattle.rows.specs.Tests.{listTest}
+use Rattle.rows.specs.declared.Device.{Device}
 use Rattle.kernel.specs.Definition.Tables.{SEGMENT, withSegments, withChannels, withDevices}
 use Rattle.kernel.specs.Definition.Line.{shrunk}
 use Rattle.kernel.specs.declared.Tables.{Tables}
@@ -69,6 +70,27 @@ started room list =
       channels = replicate 32 noChannel;
       known = 3;
       devices = builtIn;
+      name = replicate {A = ℕ} 28 0;
+      length = 0;
+      unit = 0;
+    }
+
+-- the tables before any start: zero throughout, and not good
+unfoldable pub noTables : Tables
+noTables =
+    record {
+      segments = 0;
+      list = replicate {A = ℕ} 32 0;
+      classes = replicate {A = ℕ} 32 0;
+      held = 0;
+      chain = replicate {A = ℕ} 32 0;
+      user = 0;
+      room = 0;
+      cold = 0;
+      opened = 0;
+      channels = replicate 32 noChannel;
+      known = 0;
+      devices = replicate {A = Device} 16 zeroDevice;
       name = replicate {A = ℕ} 28 0;
       length = 0;
       unit = 0;

@@ -1,0 +1,12 @@
+-- `Tables::none` meets its contract. Assumes nothing.
+use mathlib.Core.Path.{refl}
+use Rattle.kernel.specs.Definition.Reset.{noTables}
+use Rattle.kernel.proofs.Tables.none.Statement.{statement}
+use Rattle.kernel.proofs.Tables.none.Tie as tie
+
+returns : tie.Need-returns
+unfolding noTables
+returns c = refl
+
+pub none-spec : {M : Type 1} → statement M
+none-spec = tie.close (tie.spec returns)

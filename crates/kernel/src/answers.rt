@@ -1,0 +1,81 @@
+// The answers: this paper's number and values for each.
+ghost use mathlib.Core.Path.{_≡_};
+ghost use Rattle.kernel.specs.Definition.Answers.{numberOf, aOf, bOf};
+use super::Answer;
+
+impl Answer {
+    pub fn number(self) -> u8
+        ensures { λ r. ⌜ r ≡ numberOf self ⌝ }
+    {
+        match self {
+            Answer::Done(_, _) => 0,
+            Answer::BadTables => 1,
+            Answer::BadCall => 2,
+            Answer::NoChannel => 3,
+            Answer::Exists => 4,
+            Answer::BadName => 5,
+            Answer::NoDevice => 6,
+            Answer::Driver(_) => 7,
+            Answer::Full => 8,
+            Answer::NoRoom => 9,
+            Answer::NoSegment => 10,
+            Answer::NotOwner => 11,
+            Answer::BadBoundary => 12,
+            Answer::BadRange => 13,
+            Answer::Guarded => 14,
+            Answer::BadFlags => 15,
+            Answer::BadStart => 16,
+            Answer::Shared(_, _) => 17,
+        }
+    }
+
+    pub fn a(self) -> u8
+        ensures { λ r. ⌜ r ≡ aOf self ⌝ }
+    {
+        match self {
+            Answer::Done(a, _) => a,
+            Answer::Shared(a, _) => a,
+            Answer::Driver(status) => status,
+            Answer::BadTables => 0,
+            Answer::BadCall => 0,
+            Answer::NoChannel => 0,
+            Answer::Exists => 0,
+            Answer::BadName => 0,
+            Answer::NoDevice => 0,
+            Answer::Full => 0,
+            Answer::NoRoom => 0,
+            Answer::NoSegment => 0,
+            Answer::NotOwner => 0,
+            Answer::BadBoundary => 0,
+            Answer::BadRange => 0,
+            Answer::Guarded => 0,
+            Answer::BadFlags => 0,
+            Answer::BadStart => 0,
+        }
+    }
+
+    pub fn b(self) -> u16
+        ensures { λ r. ⌜ r ≡ bOf self ⌝ }
+    {
+        match self {
+            Answer::Done(_, b) => b,
+            Answer::Shared(_, b) => b,
+            Answer::Driver(_) => 0,
+            Answer::BadTables => 0,
+            Answer::BadCall => 0,
+            Answer::NoChannel => 0,
+            Answer::Exists => 0,
+            Answer::BadName => 0,
+            Answer::NoDevice => 0,
+            Answer::Full => 0,
+            Answer::NoRoom => 0,
+            Answer::NoSegment => 0,
+            Answer::NotOwner => 0,
+            Answer::BadBoundary => 0,
+            Answer::BadRange => 0,
+            Answer::Guarded => 0,
+            Answer::BadFlags => 0,
+            Answer::BadStart => 0,
+        }
+    }
+}

@@ -1,0 +1,2 @@
+-- The definitions of text.
+pub mod Text
