@@ -1,16 +1,14 @@
 -- The branches of close, as the code takes them. Assumes nothing.
-use mathlib.Core.Path.{_≡_, sym, _∙_}
+use mathlib.Core.Path.{_≡_}
 use mathlib.Core.List.{List}
 use Prim.Native.Nat.{ℕ, _+_, _-_, _≤_, _<_}
 use native.Mathlib.Omega.{arith}
 use borrow.Author.Tests.{le-leb, lt-leb}
 use lib.ListN.{take}
 use Rattle.rows.specs.Lists.{without}
-use Rattle.rows.specs.Channels.{noChannel, sumOf, placeIn, foundAt, found-at, found-nowhere}
+use Rattle.rows.specs.Channels.{noChannel, sumOf}
 use Rattle.rows.specs.Sizes.{chainLength, length-some}
 use Rattle.rows.specs.declared.Channel.{Channel}
-use Rattle.rows.specs.declared.Place.{Place}
-use Rattle.rows.specs.declared.Place.the-variants.{At, Nowhere}
 use Rattle.line.specs.Line.{Chain, closed}
 use Rattle.kernel.specs.Definition.Tables.{channelAt, ramSize, withChannels}
 use Rattle.kernel.specs.Definition.Good.{Good}
@@ -48,15 +46,6 @@ module _ (t : Tables) (i start n opened line room : ℕ) (s : start ≡ recordAt
   record-closed ram after a = rw (a, s, p, l, o, r)
 
 -- the channel's row, as the code finds it
-module _ (t : Tables) (channel opened : ℕ) (place : Place) (o : opened ≡ t .opened)
-    (f : place ≡ foundAt (placeIn (take opened (t .channels)) channel) opened) where
-  pub place-at : (i : ℕ) → place ≡ At i → (channelAt t channel ≡ i) × (i < t .opened)
-  place-at i e =
-      let q = found-at (channelAt t channel) (t .opened) i (sym (rw o at f) ∙ e) in
-      (q .0, omega (arith, q .0, q .1))
-
-  pub place-gone : place ≡ Nowhere → t .opened ≤ channelAt t channel
-  place-gone e = found-nowhere (channelAt t channel) (t .opened) (sym (rw o at f) ∙ e)
 
 module _ (t : Tables) (channel : ℕ) (ram out : List ℕ) where
   pub close-gone : t .opened ≤ channelAt t channel → result (gives NoChannel t) ram out ≡ completed t (onClose t channel) ram (close channel) out

@@ -1,8 +1,8 @@
 -- The branches of the calls on segments, as the code takes them. Assumes nothing.
 use mathlib.Core.Path.{_≡_, refl, sym, _∙_}
-use mathlib.Core.Bool.{Bool, true, false, cond, _&&_, _||_, not}
+use mathlib.Core.Bool.{Bool, true, false, cond, _&&_}
 use mathlib.Core.List.{List}
-use Prim.Native.Nat.{ℕ, _+_, _-_, _%_, _≤_, _<_}
+use Prim.Native.Nat.{ℕ, _-_, _%_, _≤_, _<_}
 use native.Mathlib.Omega.{arith}
 use borrow.Author.Tests.{lt-ltb, le-ltb, eq-eqb, ne-eqb, eqb-true}
 use lib.ListN.{length, take, drop, set}
@@ -12,7 +12,7 @@ use Rattle.rows.specs.Lists.{at, firstOf, tally, and-left, and-right}
 use Rattle.rows.specs.Classes.{FREE, USER, SYSTEM, DEVICE, SHARED}
 use Rattle.rows.specs.Channels.{sumOf}
 use Rattle.rows.specs.Sizes.{edgeAt}
-use Rattle.kernel.specs.Definition.Tables.{SEGMENT, numberAt, classAt, rowOf, lowestFree, lastRow, countOf, withSegments}
+use Rattle.kernel.specs.Definition.Tables.{SEGMENT, numberAt, rowOf, lastRow, countOf, withSegments}
 use Rattle.kernel.specs.Definition.Good.{Good}
 use Rattle.kernel.specs.Definition.Line.{boundaryOf}
 use Rattle.kernel.specs.Definition.Segments.{classFor, granting, sharingLast, freeing, bounding}

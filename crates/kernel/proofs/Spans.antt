@@ -1,9 +1,7 @@
 -- Where the bytes of a call lie: in the buffer of an open channel, or in a segment that the user reaches. Assumes nothing.
 use mathlib.Core.Path.{_≡_, refl, sym, _∙_}
 use mathlib.Core.Bool.{Bool, true, false, cond, _||_, not}
-use mathlib.Core.List.{List, [], _∷_}
-use Prim.Native.Nat.{ℕ, zero, suc, _+_, _-_, _*_, _≤_, _<_}
-use native.Mathlib.Nat.{le-of-suc-le-suc, not-suc-le-zero}
+use Prim.Native.Nat.{ℕ, _+_, _-_, _*_, _≤_, _<_}
 use native.Mathlib.Decide.{decLe, decLt}
 use native.Mathlib.Omega.{arith}
 use borrow.Author.Tests.{lt-ltb, le-ltb, lt-leb, ne-eqb, ltb-true, ltb-false, not-false}
@@ -13,10 +11,8 @@ use Rattle.line.specs.Line.{Chain}
 use Rattle.line.proofs.Places.{chain-less}
 use Rattle.rows.specs.Lists.{firstOf, and-left}
 use Rattle.rows.specs.Classes.{USER, SHARED}
-use Rattle.rows.specs.Channels.{noChannel, sumOf, placeIn, foundAt, found-at, found-nowhere}
-use Rattle.rows.specs.Rows.{sum-more}
+use Rattle.rows.specs.Channels.{placeIn, foundAt, found-at, found-nowhere}
 use Rattle.rows.specs.Sizes.{edgeAt, edge-low, edge-high}
-use Rattle.rows.specs.declared.Channel.{Channel}
 use Rattle.rows.specs.declared.Place.{Place}
 use Rattle.rows.specs.declared.Place.the-variants.{At, Nowhere}
 use Rattle.kernel.specs.Definition.Tables.{SEGMENT, ramSize, classAt, rowOf, channelAt}
@@ -24,6 +20,7 @@ use Rattle.kernel.specs.Definition.Good.{Good}
 use Rattle.kernel.specs.Definition.Line.{totalOf, sizeAt, bufferAt}
 use Rattle.kernel.specs.Definition.Segments.{mayReach, reachOf}
 use Rattle.kernel.specs.Laws.Chains.{good-chain}
+use Rattle.kernel.specs.Laws.Records.{record-within}
 use Rattle.kernel.specs.declared.Tables.{Tables}
 
 -- `beyond`: the bytes end beyond n, without a sum that may be too large
@@ -70,19 +67,8 @@ open-none t n channel p e f a = found-nowhere (channelAt t channel) (t .opened) 
 
 -- a record's buffer lies inside the line
 
-sum-rises : (cs : List Channel) (i n : ℕ) → i ≤ n → sumOf (take i cs) ≤ sumOf (take n cs)
-sum-rises cs zero n h = omega arith
-sum-rises cs (suc i) zero h = absurd (not-suc-le-zero h)
-sum-rises [] (suc i) (suc n) h = omega arith
-sum-rises (c ∷ cs) (suc i) (suc n) h = omega (arith, sum-rises cs i n (le-of-suc-le-suc h))
-
 pub buffer-inside : (t : Tables) (i : ℕ) → Good t → i < t .opened → bufferAt t i + sizeAt t i ≤ totalOf t
-buffer-inside t i g h =
-    omega (
-      arith,
-      sum-rises (t .channels) (i + 1) (t .opened) (omega arith),
-      sum-more (t .channels) i noChannel (omega (arith, g .sized .channels, g .channels .most)),
-    )
+buffer-inside t i g h = omega (arith, record-within t i g h)
 
 -- what `get`, `put`, `lend` and `lent_at` ask
 module _ (t : Tables) (i room start n : ℕ) (g : Good t) (h : i < t .opened) (r : room ≡ t .room) (s : start ≡ bufferAt t i) (is : n ≡ sizeAt t i) where

@@ -3,7 +3,7 @@ use mathlib.Core.Path.{_≡_, refl}
 use mathlib.Core.Bool.{Bool, true, _&&_}
 use mathlib.Core.List.{List, [], _∷_, _++_}
 use Prim.Native.Nat.{ℕ, _<_}
-use lib.ListN.{length, getD}
+use lib.ListN.{getD}
 use lib.Dec.{eqb}
 use borrow.Author.Tests.{eqb-true}
 use Rattle.rows.specs.Lists.{every, every-at, and-left, and-right, upTo}
@@ -14,7 +14,6 @@ use Rattle.kernel.specs.Definition.Answers.{numberOf, aOf, bOf}
 use Rattle.kernel.specs.Definition.Calls.{Call, start, «open», close, boundary, set-user-boundary, allocate, load}
 use Rattle.kernel.specs.Definition.Step.{decided}
 use Rattle.kernel.specs.declared.Tables.{Tables}
-use Rattle.kernel.specs.declared.Answer.{Answer}
 use Rattle.kernel.specs.declared.Outcome.{Outcome}
 
 -- a call, and the number, a and b that it must answer

@@ -10,7 +10,6 @@ use Rattle.names.specs.Grammar.{Reading}
 use Rattle.names.specs.Read.{reading}
 use Rattle.names.specs.Tests.{linkTest, defaultTest}
 use Rattle.names.specs.Words.{wordOf}
-use Rattle.rows.specs.declared.Channel.{Channel}
 use Rattle.kernel.specs.Definition.Tables.{SEGMENT, numberAt, rowOf, lowestFree, sharing, lastRow, channelAt, withDefault}
 use Rattle.kernel.specs.Definition.Line.{totalOf, sizeAt, boundaryOf, roomFor, opening, closing}
 use Rattle.kernel.specs.Definition.Segments.{someFree, mayShare, granting, sharingLast, mayFree, freeing, bounding, mayReach, reachOf, guarded}

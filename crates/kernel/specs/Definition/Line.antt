@@ -1,10 +1,9 @@
 -- "The line of channel RAM": T, the EXOS boundary, how the chain grows and shrinks, the room rule, and the tables after an open and a close.
 use mathlib.Core.Bool.{Bool, cond, _&&_, _||_}
-use mathlib.Core.List.{List}
 use Prim.Native.Nat.{ℕ, zero, suc, _+_, _-_, _*_}
 use lib.Dec.{leb, ltb, eqb}
 use lib.ListN.{getD, take, set}
-use Rattle.rows.specs.Lists.{at, lastOf, without}
+use Rattle.rows.specs.Lists.{lastOf, without}
 use Rattle.rows.specs.Classes.{FREE, USER, SYSTEM, SHARED}
 use Rattle.rows.specs.Channels.{noChannel, sumOf}
 use Rattle.rows.specs.Sizes.{chainLength, edgeAt}

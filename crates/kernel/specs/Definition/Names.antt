@@ -1,8 +1,6 @@
 -- "Names (section 11.1)": which device and unit a string of open means.
 use mathlib.Core.List.{List, [], _∷_}
-use mathlib.Core.Option.{Option, none, some}
 use Prim.Native.Nat.{ℕ}
-use lib.Dec.{ltb}
 use lib.ListN.{length, take}
 use Rattle.names.specs.Grammar.{Reading}
 use Rattle.names.specs.Parts.{device, unit}

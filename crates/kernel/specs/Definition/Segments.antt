@@ -4,7 +4,7 @@ use Prim.Native.Nat.{ℕ, _+_}
 use lib.Dec.{ltb, eqb}
 use lib.ListN.{set}
 use Rattle.rows.specs.Classes.{FREE, USER, SYSTEM, DEVICE, SHARED}
-use Rattle.kernel.specs.Definition.Tables.{SEGMENT, classAt, lowestFree, sharing, lastRow, rowOf, withSegments}
+use Rattle.kernel.specs.Definition.Tables.{SEGMENT, classAt, lowestFree, sharing, lastRow, withSegments}
 use Rattle.kernel.specs.Definition.Line.{boundaryOf}
 use Rattle.kernel.specs.declared.Tables.{Tables}
 

@@ -1,6 +1,6 @@
 -- One step over all calls: from tables, RAM, a call and the lent output to the answer, the next tables, the next RAM and the next output.
 use mathlib.Core.Bool.{Bool, cond, not, _&&_, _||_}
-use mathlib.Core.List.{List, [], _∷_, _++_}
+use mathlib.Core.List.{List, [], _∷_}
 use Prim.Native.Nat.{ℕ, _+_, _-_, _*_}
 use lib.Dec.{eqb}
 use lib.ListN.{length, getD, take, drop, replicate}
@@ -8,7 +8,6 @@ use Rattle.line.specs.Line.{lineFrom, putLine, opened, closed, linked}
 use Rattle.line.specs.Ram.{putAt, taken}
 use Rattle.rows.specs.Classes.{FREE, USER, SYSTEM, DEVICE, SHARED}
 use Rattle.rows.specs.Channels.{noChannel}
-use Rattle.rows.specs.declared.Channel.{Channel}
 use Rattle.kernel.specs.Definition.Tables.{SEGMENT, ramSize, countOf, rowOf, channelAt}
 use Rattle.kernel.specs.Definition.Good.{goodTest}
 use Rattle.kernel.specs.Definition.Line.{totalOf, recordAt, sizeAt, bufferAt}

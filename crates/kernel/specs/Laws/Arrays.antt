@@ -1,35 +1,18 @@
--- Laws on arrays alone: a row that is not found, and a word of letters as a name of good tables.
+-- Laws on arrays alone: a padded list's length, and a word of letters as a name of good tables.
 use mathlib.Core.Path.{_≡_, ap, _∙_}
 use mathlib.Core.Logic.{inl, ⊎-elim}
 use mathlib.Core.List.{List, [], _∷_, _++_, map}
-use Prim.Native.Nat.{ℕ, zero, suc, _+_, _-_, _≤_, _<_}
-use native.Mathlib.Nat.{not-suc-le-zero, le-of-suc-le-suc}
-use native.Mathlib.Decide.{ℕ-discrete}
+use Prim.Native.Nat.{ℕ, _+_, _-_, _≤_, _<_}
 use native.Mathlib.Omega.{arith}
-use borrow.Author.Tests.{eq-eqb, ne-eqb}
-use lib.ListN.{length, getD, take, replicate, length-append, length-map, length-replicate, List·getD-append, List·getD-map}
+use lib.ListN.{length, replicate, length-append, length-map, length-replicate, List·getD-append, List·getD-map}
 use lib.Seq.{take-all, getD-append-add}
-use Rattle.rows.specs.Lists.{at, padded, firstWhere}
-use Rattle.rows.specs.Channels.{noChannel, placeIn}
+use Rattle.rows.specs.Lists.{at, padded}
 use Rattle.rows.specs.ClassRows.{zeros-at}
 use Rattle.rows.specs.Good.{NameGood}
-use Rattle.rows.specs.declared.Channel.{Channel}
 use Rattle.names.specs.Grammar.{All, Capital, Letter}
 use Rattle.names.specs.Words.{upper, upperAll, wordOf, LinkName, DefaultName}
 use Rattle.names.specs.Laid.{upper-below, upper-small}
 use Rattle.names.specs.Numbers.{all-at}
-
--- a channel that is not found stands in no row
-pub place-none : (cs : List Channel) (ch n : ℕ) → n ≤ length cs → n ≤ placeIn (take n cs) ch → (i : ℕ) → i < n → getD cs i noChannel .number ≡ ch → ⊥
-place-none [] ch zero l h i a e = not-suc-le-zero a
-place-none [] ch (suc n) l h i a e = not-suc-le-zero l
-place-none (c ∷ cs) ch zero l h i a e = not-suc-le-zero a
-place-none (c ∷ cs) ch (suc n) l h zero a e = not-suc-le-zero (rw (firstWhere, eq-eqb (c .number) ch e) at h)
-place-none (c ∷ cs) ch (suc n) l h (suc i) a e =
-    elim (ℕ-discrete (c .number) ch) [
-      | yes q ↦ not-suc-le-zero (rw (firstWhere, eq-eqb (c .number) ch q) at h)
-      | no q ↦ place-none cs ch n (le-of-suc-le-suc l) (le-of-suc-le-suc (rw (firstWhere, ne-eqb (c .number) ch q) at h)) i (le-of-suc-le-suc a) e
-    ]
 
 pub length-padded : (n : ℕ) (xs : List ℕ) → length xs ≤ n → length (padded n xs) ≡ n
 length-padded n xs h = omega (arith, length-append xs (replicate {A = ℕ} (n - length xs) 0), length-replicate {A = ℕ} (n - length xs) 0)

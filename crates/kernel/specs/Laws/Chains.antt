@@ -1,11 +1,10 @@
 -- Good tables' chain holds their line in a RAM of their size: what the moves of the line ask.
 use mathlib.Core.Path.{_≡_, sym}
 use mathlib.Core.List.{List}
-use Prim.Native.Nat.{ℕ, _+_, _-_, _*_, _≤_, _<_}
+use Prim.Native.Nat.{ℕ, _+_, _-_, _*_, _≤_}
 use native.Mathlib.Decide.{decLe, decLt}
 use native.Mathlib.Omega.{arith}
-use Rattle.rows.specs.Lists.{at}
-use Rattle.rows.specs.Sizes.{chainLength, Ends, ends, length-low}
+use Rattle.rows.specs.Sizes.{chainLength, Ends, ends}
 use Rattle.line.specs.Line.{Chain}
 use Rattle.kernel.specs.Definition.Tables.{ramSize}
 use Rattle.kernel.specs.Definition.Good.{Good}

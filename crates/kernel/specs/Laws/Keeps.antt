@@ -12,7 +12,8 @@ use Rattle.kernel.specs.Definition.Answers.{granted, gives}
 use Rattle.kernel.specs.Definition.Calls.{Call, start, onStart}
 use Rattle.kernel.specs.Definition.Good.{Good}
 use Rattle.kernel.specs.Definition.Step.{heard, decided, completed, step}
-use Rattle.kernel.specs.Laws.Arrays.{place-none, link-default, word-good}
+use Rattle.rows.specs.Rows.{place-none}
+use Rattle.kernel.specs.Laws.Arrays.{link-default, word-good}
 use Rattle.kernel.specs.Laws.Body.{body}
 use Rattle.kernel.specs.Laws.KeptLine.{shares-yes, shares-no, opening-keeps, closing-keeps}
 use Rattle.kernel.specs.Laws.KeptSegments.{class-outside, granting-keeps, sharing-keeps, freeing-shared, freeing-outside, bounding-keeps}

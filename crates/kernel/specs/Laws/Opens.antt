@@ -16,7 +16,7 @@ use Rattle.kernel.specs.Definition.Tables.{ramSize, channelAt, withChann
 use Rattle.kernel.specs.Definition.Good.{Good}
 use Rattle.kernel.specs.Definition.Line.{totalOf, oneMore, grown, roomFor, opening}
 use Rattle.kernel.specs.Definition.Answers.{gives, unless, _when_}
-use Rattle.kernel.specs.Laws.Arrays.{place-none}
+use Rattle.rows.specs.Rows.{place-none}
 use Rattle.kernel.specs.Laws.Grow.{Grown, grown-rest}
 use Rattle.kernel.specs.Laws.KeptLine.{opening-keeps}
 use Rattle.kernel.specs.Laws.Chains.{good-chain}

@@ -1,5 +1,6 @@
+-- `Tables::allocate_good` meets its contract. Assumes nothing.
 use Rattle.kernel.proofs.SegmentCalls.{last-below}
-use mathlib.Core.Path.{_∙_, sym}
+use mathlib.Core.Path.{_∙_}
 use Rattle.kernel.proofs.SegmentCalls.{allocate-caller, allocate-free, allocate-device, allocate-shared, allocate-edge, allocate-share, last-of}
 use borrow.Author.Needs.{needs}
 use Rattle.kernel.proofs.Tables.allocate_good.Statement.{statement}

@@ -1,8 +1,5 @@
 -- `Tables::boundary_good` meets its contract. Assumes nothing.
 use Rattle.kernel.proofs.SegmentCalls.{last-of, last-below, boundary-done}
-use native.Mathlib.Omega.{arith}
-use mathlib.Core.Path.{_∙_, sym}
-use Rattle.kernel.specs.Definition.Calls.{onBoundary}
 use Rattle.kernel.proofs.SegmentCalls.{last-of}
 use borrow.Author.Needs.{needs}
 use Rattle.kernel.proofs.Tables.boundary_good.Statement.{statement}

@@ -1,8 +1,6 @@
 -- `Tables::close_good` meets its contract. Assumes nothing.
-use mathlib.Core.Path.{_≡_}
-use Prim.Native.Nat.{_<_}
-use Rattle.kernel.specs.Definition.Tables.{channelAt}
-use Rattle.kernel.proofs.Closing.{place-at, place-gone, close-gone, close-done}
+use Rattle.kernel.proofs.Spans.{Open, open-at, open-none}
+use Rattle.kernel.proofs.Closing.{close-gone, close-done}
 use borrow.Author.Needs.{needs}
 use Rattle.kernel.proofs.Tables.close_good.Statement.{statement}
 use Rattle.kernel.proofs.Tables.close_good.Tie as tie
@@ -26,24 +24,25 @@ returns : tie.Need-returns
 returns c =
     let s = c .before .before .before .before .before .before .before .args in
     λ out. rw (c .refuse .ensures) (close-gone _ _ _ out
-    (place-gone (s .self) (s .channel) _ _ (c .before .before .before .before .wide .ensures .0) (c .before .before .before .channel-place .ensures) (c .before .enum-told .given .1)))
+    (open-none (s .self) _ (s .channel) _ (c .before .before .before .before .wide .ensures .0) (c .before .before .before .channel-place .ensures) (c .before .enum-told .given .1)))
 
 -- the channel's row
 placed : (c : tie.After-known-told) →
     let s = c .before .before .before .before .before .before .before .args in
-    (channelAt (s .self) (s .channel) ≡ c .before .i .given .0 .0) × (c .before .i .given .0 .0 < s .self .opened)
+    Open (s .self) (s .channel) (c .before .i .given .0 .0)
 placed c =
-    let s = c .before .before .before .before .before .before .before .args in
-    place-at (s .self) (s .channel) _ _ (c .before .before .before .before .wide .ensures .0) (c .before .before .before .channel-place .ensures) _ (c .before .i .given .1)
+    let f = c .before .before .before .before .before .before .before in
+    let s = f .args in
+    open-at (s .self) _ (s .channel) _ _ (f .pre .0) (c .before .before .before .before .wide .ensures .0) (c .before .before .before .channel-place .ensures) (c .before .i .given .1)
 
 close-record-requires : tie.Need-close-record-requires
 close-record-requires c κs =
     let s = c .before .before .before .before .before .before .before .before in
-    (s .pre .0, placed (c .before) .1, s .pre .1)
+    (s .pre .0, placed (c .before) .among, s .pre .1)
 
 closed-requires : tie.Need-closed-requires
 closed-requires c κs =
-    (c .before .before .before .before .before .before .before .before .before .before .before .pre .0, placed (c .before .before .before .before) .1)
+    (c .before .before .before .before .before .before .before .before .before .before .before .pre .0, placed (c .before .before .before .before) .among)
 
 same-length : tie.Need-same-length
 same-length c = search needs
@@ -52,7 +51,7 @@ returns-2 : tie.Need-returns-2
 returns-2 c =
     let s = c .before .before .before .before .before .before .before .before .before .before .before .before .args in
     let p = placed (c .before .before .before .before .before) in
-    λ out. close-done (s .self) _ _ out _ _ _ (p .0) (p .1) (c .closed .ensures) (c .before .before .before .close-record .ensures)
+    λ out. close-done (s .self) _ _ out _ _ _ (p .here) (p .among) (c .closed .ensures) (c .before .before .before .close-record .ensures)
 
 pub close-good-spec : {M : Type 1} → statement M
 close-good-spec =

@@ -1,5 +1,4 @@
-use borrow.Author.Tests.{eqb-true}
-use Rattle.rows.specs.Lists.{and-left, and-right}
+-- `Tables::free_good` meets its contract. Assumes nothing.
 use mathlib.Core.Path.{refl}
 use mathlib.Core.Path.{_∙_, sym}
 use Rattle.kernel.proofs.SegmentCalls.{free-caller, free-absent, free-own, free-shared, free-other}

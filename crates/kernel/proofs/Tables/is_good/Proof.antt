@@ -1,7 +1,7 @@
 -- `Tables::is_good` meets its contract. Assumes nothing.
 use native.Mathlib.Omega.{arith}
 use borrow.Author.Tests.{not-true, not-false}
-use Rattle.kernel.specs.Laws.Good.{Sizes, good-no, good-sizes, good-made}
+use Rattle.kernel.specs.Laws.Good.{good-no, good-sizes, good-made}
 use borrow.Author.Needs.{needs}
 use Rattle.kernel.proofs.Tables.is_good.Statement.{statement}
 use Rattle.kernel.proofs.Tables.is_good.Tie as tie

@@ -1,6 +1,6 @@
+-- `Tables::start` meets its contract. Assumes nothing.
 use denote.Ref.{now}
 use lib.ListN.{length}
-use Rattle.kernel.specs.Definition.Step.{result}
 use Rattle.kernel.proofs.StartCalls.{start-sizes, start-refused, start-done}
 use borrow.Author.Needs.{needs}
 use Rattle.kernel.proofs.Tables.start.Statement.{statement}

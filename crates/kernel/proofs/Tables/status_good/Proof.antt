@@ -1,5 +1,4 @@
-use Rattle.kernel.specs.Definition.Step.{result}
-use mathlib.Core.Path.{_∙_}
+-- `Tables::status_good` meets its contract. Assumes nothing.
 use Rattle.kernel.proofs.SegmentCalls.{status-short, status-done}
 use borrow.Author.Needs.{needs}
 use Rattle.kernel.proofs.Tables.status_good.Statement.{statement}

@@ -1,3 +1,4 @@
+-- `good::class_at` meets its contract. Assumes nothing.
 use mathlib.Core.Path.{_≡_}
 use lib.ListN.{length, List·getD-eq-default}
 use mathlib.Core.Path.{sym}

@@ -1,3 +1,4 @@
+-- `start::fresh_tables` meets its contract. Assumes nothing.
 use denote.Ref.{now}
 use Rattle.kernel.proofs.StartCalls.{start-tables}
 use borrow.Author.Needs.{needs}

@@ -1,3 +1,4 @@
+-- `start::start_test` meets its contract. Assumes nothing.
 use denote.Ref.{now}
 use Rattle.kernel.proofs.StartCalls.{start-long, start-tested}
 use borrow.Author.Needs.{needs}
