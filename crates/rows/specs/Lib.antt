@@ -1,3 +1,4 @@
+-- The definitions and laws of the rows.
 pub mod Lists
 pub mod Classes
 pub mod Channels

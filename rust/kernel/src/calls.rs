@@ -1,0 +1,283 @@
+//! The calls, their answers, and the one door to them.
+
+use crate::good::is_usable;
+use crate::tables::Tables;
+use crate::{channels, devices, reset, segments, user};
+
+/// A call with its arguments, in the order of the table of bodies.
+#[derive(Clone, Copy, Debug, PartialEq, Eq)]
+pub enum Call<'a> {
+    /// 256
+    Start {
+        /// The room in the system segment.
+        r: u16,
+        /// The segment numbers.
+        list: &'a [u8],
+    },
+    /// 0
+    Reset {
+        /// Bits 4, 5 and 6.
+        flags: u8,
+    },
+    /// 1
+    Open {
+        /// The channel number.
+        channel: u8,
+        /// "The driver's reply to an open is an input."
+        driver_status: u8,
+        /// The length of the buffer.
+        n: u16,
+        /// Device, unit and file.
+        name: &'a [u8],
+    },
+    /// 3
+    Close {
+        /// The channel number.
+        channel: u8,
+    },
+    /// 6
+    Read {
+        /// The channel number.
+        channel: u8,
+        /// Where in the buffer.
+        offset: u16,
+        /// How many bytes.
+        length: u16,
+    },
+    /// 8
+    Write {
+        /// The channel number.
+        channel: u8,
+        /// Where in the buffer.
+        offset: u16,
+        /// The bytes.
+        data: &'a [u8],
+    },
+    /// 19
+    Default {
+        /// The default unit.
+        unit: u8,
+        /// The default name.
+        name: &'a [u8],
+    },
+    /// 20
+    Status,
+    /// 21
+    Link {
+        /// How many bytes of RAM the device takes.
+        m: u16,
+        /// The device's name.
+        name: &'a [u8],
+    },
+    /// 22
+    Boundary,
+    /// 23
+    SetUserBoundary {
+        /// The new user boundary.
+        value: u16,
+    },
+    /// 24
+    Allocate {
+        /// 0 user or 1 device.
+        caller: u8,
+    },
+    /// 25
+    Free {
+        /// 0 user or 1 device.
+        caller: u8,
+        /// The segment number.
+        segment: u8,
+    },
+    /// 257
+    Store {
+        /// The segment number.
+        segment: u8,
+        /// Where in the segment.
+        offset: u16,
+        /// The bytes.
+        data: &'a [u8],
+    },
+    /// 258
+    Load {
+        /// The segment number.
+        segment: u8,
+        /// Where in the segment.
+        offset: u16,
+        /// How many bytes.
+        length: u16,
+    },
+    /// "Kind unknown; body short of its fixed fields, or longer without name,
+    /// data or list."
+    Unknown {
+        /// The kind; that of a start, if its body was short.
+        kind: u16,
+    },
+}
+
+/// The kind of a start.
+pub(crate) const START: u16 = 256;
+
+impl Call<'_> {
+    /// Whether the kind is start, with whatever body: "TABLES: not for start".
+    fn is_start(&self) -> bool {
+        matches!(self, Call::Start { .. } | Call::Unknown { kind: START })
+    }
+}
+
+/// The answer to a call.
+#[derive(Clone, Copy, Debug, PartialEq, Eq)]
+pub struct Reply {
+    /// 0 done, 1 to 16 refused, 17 a grant.
+    pub number: u8,
+    /// The first value.
+    pub a: u8,
+    /// The second value.
+    pub b: u16,
+}
+
+/// "17 SHARED is a grant: allocate gave a shared segment, b the user
+/// boundary."
+pub const SHARED_GRANT: u8 = 17;
+
+impl Reply {
+    /// "0 is done."
+    pub(crate) fn done(a: u8, b: u16) -> Reply {
+        Reply { number: 0, a, b }
+    }
+}
+
+/// Why a call was refused.
+#[derive(Clone, Copy, Debug, PartialEq, Eq)]
+pub enum Refusal {
+    /// "Not for start: tables not good, or RAM length wrong."
+    Tables,
+    /// "Kind unknown; body short of its fixed fields, or longer without name,
+    /// data or list; caller not 0 or 1."
+    Call,
+    /// "255, or not open (open: 255 only)."
+    Channel,
+    /// "Open: already open."
+    Exists,
+    /// "Against the rules above."
+    Name,
+    /// "Open: no enabled device so named."
+    Device,
+    /// "Driver status not 0; a is that status."
+    Driver(u8),
+    /// "32 channels or 16 devices already."
+    Full,
+    /// "Room rule broken; link: also R-m < 256."
+    Room,
+    /// "Nothing to allocate."
+    Segment,
+    /// "Segment not the caller's to free, store or load."
+    Owner,
+    /// "Nothing shared, or value above the EXOS boundary."
+    Boundary,
+    /// "Offset + length past the end, or lent output too short."
+    Range,
+    /// "Store touches page zero 30h to 5Bh, save 3Dh and 3Eh."
+    Guard,
+    /// "A bit other than 4, 5, 6."
+    Flags,
+    /// "List, R or RAM length wrong."
+    Start,
+}
+
+impl Refusal {
+    /// The number in the table of refusals.
+    pub fn number(self) -> u8 {
+        match self {
+            Refusal::Tables => 1,
+            Refusal::Call => 2,
+            Refusal::Channel => 3,
+            Refusal::Exists => 4,
+            Refusal::Name => 5,
+            Refusal::Device => 6,
+            Refusal::Driver(_) => 7,
+            Refusal::Full => 8,
+            Refusal::Room => 9,
+            Refusal::Segment => 10,
+            Refusal::Owner => 11,
+            Refusal::Boundary => 12,
+            Refusal::Range => 13,
+            Refusal::Guard => 14,
+            Refusal::Flags => 15,
+            Refusal::Start => 16,
+        }
+    }
+}
+
+impl From<Refusal> for Reply {
+    /// "A refusal gives a = b = 0 but for DRIVER."
+    fn from(refusal: Refusal) -> Reply {
+        let a = match refusal {
+            Refusal::Driver(status) => status,
+            _ => 0,
+        };
+        Reply {
+            number: refusal.number(),
+            a,
+            b: 0,
+        }
+    }
+}
+
+/// Makes a call on the tables and the RAM, 16,384 bytes a segment in list
+/// order. Read, load and status "fill the first b bytes of the lent output;
+/// the rest stays". A refused call changes nothing.
+pub fn call(tables: &mut Tables, ram: &mut [u8], call: Call, output: &mut [u8]) -> Reply {
+    perform(tables, ram, call, output).unwrap_or_else(Reply::from)
+}
+
+/// "Several at once: the lowest number wins": each call below checks in rising
+/// order of the numbers.
+fn perform(
+    tables: &mut Tables,
+    ram: &mut [u8],
+    call: Call,
+    output: &mut [u8],
+) -> Result<Reply, Refusal> {
+    if !call.is_start() && !is_usable(tables, ram) {
+        return Err(Refusal::Tables);
+    }
+    match call {
+        Call::Start { r, list } => reset::start(tables, ram, r, list),
+        Call::Reset { flags } => reset::reset(tables, ram, flags),
+        Call::Open {
+            channel,
+            driver_status,
+            n,
+            name,
+        } => channels::open(tables, ram, channel, driver_status, n, name),
+        Call::Close { channel } => channels::close(tables, ram, channel),
+        Call::Read {
+            channel,
+            offset,
+            length,
+        } => channels::read(tables, ram, channel, offset, length, output),
+        Call::Write {
+            channel,
+            offset,
+            data,
+        } => channels::write(tables, ram, channel, offset, data),
+        Call::Default { unit, name } => devices::set_default(tables, unit, name),
+        Call::Status => segments::status(tables, output),
+        Call::Link { m, name } => devices::link(tables, ram, m, name),
+        Call::Boundary => Ok(segments::boundary(tables)),
+        Call::SetUserBoundary { value } => segments::set_user_boundary(tables, value),
+        Call::Allocate { caller } => segments::allocate(tables, caller),
+        Call::Free { caller, segment } => segments::free(tables, caller, segment),
+        Call::Store {
+            segment,
+            offset,
+            data,
+        } => user::store(tables, ram, segment, offset, data),
+        Call::Load {
+            segment,
+            offset,
+            length,
+        } => user::load(tables, ram, segment, offset, length, output),
+        Call::Unknown { .. } => Err(Refusal::Call),
+    }
+}

@@ -1,0 +1,29 @@
+//! An independent reference kernel: segments, boundaries, channels and their
+//! RAM, device names and reset flags of EXOS 2.1.
+//!
+//! Sentences in quotation marks are those of the definition (document 01)
+//! that the code beside them follows. [`call`] makes one call on [`Tables`]
+//! and the lent RAM; a refused call changes nothing.
+
+mod calls;
+mod channels;
+mod devices;
+mod events;
+mod good;
+mod line;
+mod listing;
+mod names;
+mod reset;
+mod segments;
+mod tables;
+mod user;
+
+pub use calls::{call, Call, Refusal, Reply, SHARED_GRANT};
+pub use channels::{lend, Lent};
+pub use events::decode;
+pub use good::good;
+pub use listing::listing;
+pub use tables::{
+    class, Channel, DefaultName, Device, Tables, HEADING, LEAST_R, MOST_R, NAME, ROWS_OF_CHANNELS,
+    ROWS_OF_DEVICES, ROWS_OF_SEGMENTS, SEGMENT,
+};

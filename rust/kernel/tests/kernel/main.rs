@@ -1,0 +1,17 @@
+//! Tests taken from the text of the definition (document 01).
+
+mod bodies;
+mod cases;
+mod good_tables;
+mod guard;
+mod lending;
+mod listing;
+mod machine;
+mod model;
+mod moves;
+mod names;
+mod plain_good;
+mod random;
+mod random_tables;
+mod refusals;
+mod resets;

@@ -1,0 +1,545 @@
+//! A second, plain model, run beside the kernel over random calls.
+//!
+//! It keeps a vector of bytes a channel and draws the whole line anew, byte by
+//! byte, after each change. With it: "A byte read from an open channel is the
+//! one last written there", "a user's byte changes only by the user's store
+//! while that place stays the user's", "the system holds the fewest segments"
+//! and an open "is refused for room exactly when no such layout fits".
+
+use crate::machine::{Answer, Machine};
+use crate::random::Random;
+use exos_kernel::Call;
+use std::collections::HashMap;
+
+#[derive(Clone, Copy, PartialEq, Eq, Debug)]
+enum Held {
+    Free,
+    User,
+    System,
+    Device,
+    Shared,
+}
+
+struct Open {
+    number: u8,
+    device: u8,
+    unit: u8,
+    bytes: Vec<u8>,
+}
+
+/// A string for open, the device and the unit it gives.
+type Spelling = (&'static str, Option<&'static str>, Option<u8>);
+
+const SPELLINGS: [Spelling; 9] = [
+    ("VIDEO:", Some("VIDEO"), None),
+    ("video-7:X", Some("VIDEO"), Some(7)),
+    ("Net255:", Some("NET"), Some(255)),
+    ("KEYBOARD-0:", Some("KEYBOARD"), Some(0)),
+    ("DISK1:A.B", Some("DISK"), Some(1)),
+    ("TAPE:", Some("TAPE"), None),
+    ("", None, None),
+    ("9:file", None, Some(9)),
+    ("file", None, None),
+];
+
+const NAMES: [&str; 4] = ["DISK", "TAPE", "NET", "VIDEO"];
+
+const SIZE: usize = 16_384;
+
+struct Model {
+    list: Vec<u8>,
+    held: Vec<(u8, Held)>,
+    chain: Vec<u8>,
+    user_boundary: usize,
+    r: usize,
+    cold_r: usize,
+    opens: Vec<Open>,
+    devices: Vec<&'static str>,
+    default: (&'static str, u8),
+    memory: Vec<Vec<u8>>,
+    stored: HashMap<(u8, usize), u8>,
+}
+
+impl Model {
+    fn new(r: usize, list: &[u8]) -> Model {
+        let mut memory = vec![vec![]; 256];
+        for &segment in list {
+            memory[usize::from(segment)] = vec![0; SIZE];
+        }
+        let mut held: Vec<_> = list[1..].iter().map(|&s| (s, Held::Free)).collect();
+        held.last_mut().unwrap().1 = Held::System;
+        Model {
+            list: list.to_vec(),
+            held,
+            chain: vec![255],
+            user_boundary: 0,
+            r,
+            cold_r: r,
+            opens: vec![],
+            devices: vec!["VIDEO", "NET", "KEYBOARD"],
+            default: ("", 0),
+            memory,
+            stored: HashMap::new(),
+        }
+    }
+
+    fn t(&self) -> usize {
+        self.opens.iter().map(|open| 16 + open.bytes.len()).sum()
+    }
+
+    fn count(&self, held: Held) -> usize {
+        self.held.iter().filter(|row| row.1 == held).count()
+    }
+
+    fn held(&mut self, segment: u8) -> Option<&mut Held> {
+        let row = self.held.iter_mut().find(|row| row.0 == segment);
+        row.map(|row| &mut row.1)
+    }
+
+    fn find(&self, number: u8) -> Option<usize> {
+        self.opens.iter().position(|open| open.number == number)
+    }
+
+    /// All places of the chain, in line order.
+    fn places(&self) -> impl Iterator<Item = (usize, usize)> + '_ {
+        self.chain.iter().flat_map(|&segment| {
+            let end = if segment == 255 { self.r } else { SIZE };
+            (0..end).rev().map(move |at| (usize::from(segment), at))
+        })
+    }
+
+    /// How many places a layout may use.
+    fn layout_room(&self) -> usize {
+        let free = self.count(Held::Free);
+        let shared = self.count(Held::Shared);
+        let held = self.count(Held::System) + shared - 1;
+        let more = if shared == 0 { free } else { 0 };
+        self.r + SIZE * (held + more) - self.user_boundary
+    }
+
+    fn fewest_segments(&self) -> usize {
+        let room = |k: &usize| self.r + SIZE * (k - 1);
+        (1..).find(|k| room(k) >= self.t()).unwrap()
+    }
+
+    fn exos_boundary(&self) -> usize {
+        self.r + SIZE * (self.chain.len() - 1) - self.t()
+    }
+
+    fn erase(&mut self) {
+        let places: Vec<_> = self.places().take(self.t()).collect();
+        for (segment, at) in places {
+            self.memory[segment][at] = 0;
+        }
+    }
+
+    /// Fits the chain to the line and draws the line.
+    fn draw(&mut self) {
+        let fewest = self.fewest_segments();
+        while self.chain.len() < fewest {
+            let row = self.held.iter_mut().rfind(|row| row.1 == Held::Free);
+            let row = row.unwrap();
+            row.1 = Held::System;
+            self.chain.push(row.0);
+        }
+        while self.chain.len() > fewest {
+            let segment = self.chain.pop().unwrap();
+            let held = self.held(segment).unwrap();
+            if *held == Held::Shared {
+                *held = Held::User;
+                self.user_boundary = 0;
+            } else {
+                *held = Held::Free;
+            }
+        }
+        let places: Vec<_> = self.places().take(self.t()).collect();
+        let bytes: Vec<u8> = self.opens.iter().flat_map(record).collect();
+        for ((segment, at), byte) in places.into_iter().zip(bytes) {
+            self.memory[segment][at] = byte;
+        }
+    }
+
+    fn open(&mut self, number: u8, n: usize, spelling: Spelling) -> Answer {
+        let (_, device, unit) = spelling;
+        let name = device.unwrap_or(self.default.0);
+        let absent = if device.is_some() { 0 } else { self.default.1 };
+        let unit = unit.unwrap_or(absent);
+        if number == 255 {
+            return (3, 0, 0);
+        }
+        if self.find(number).is_some() {
+            return (4, 0, 0);
+        }
+        let Some(device) = self.devices.iter().rposition(|&other| other == name) else {
+            return (6, 0, 0);
+        };
+        if self.opens.len() == 32 {
+            return (8, 0, 0);
+        }
+        if self.t() + 16 + n > self.layout_room() {
+            return (9, 0, 0);
+        }
+        let device = device as u8;
+        self.opens.push(Open {
+            number,
+            device,
+            unit,
+            bytes: vec![0; n],
+        });
+        self.draw();
+        (0, device, unit.into())
+    }
+
+    fn close(&mut self, number: u8) -> Answer {
+        let Some(at) = self.find(number) else {
+            return (3, 0, 0);
+        };
+        self.erase();
+        self.opens.remove(at);
+        self.draw();
+        (0, 0, 0)
+    }
+
+    fn read(&self, number: u8, offset: usize, length: usize) -> Result<&[u8], Answer> {
+        let at = self.find(number).ok_or((3, 0, 0))?;
+        let part = self.opens[at].bytes.get(offset..offset + length);
+        part.ok_or((13, 0, 0))
+    }
+
+    fn write(&mut self, number: u8, offset: usize, data: &[u8]) -> Answer {
+        let Some(at) = self.find(number) else {
+            return (3, 0, 0);
+        };
+        let bytes = &mut self.opens[at].bytes;
+        let Some(part) = bytes.get_mut(offset..offset + data.len()) else {
+            return (13, 0, 0);
+        };
+        part.copy_from_slice(data);
+        self.draw();
+        (0, 0, data.len() as u16)
+    }
+
+    fn link(&mut self, m: usize, name: &'static str) -> Answer {
+        if self.devices.len() == 16 {
+            return (8, 0, 0);
+        }
+        if m + 256 > self.r || self.t() + m > self.layout_room() {
+            return (9, 0, 0);
+        }
+        self.erase();
+        let old = self.r;
+        self.r -= m;
+        self.memory[255][self.r..old].fill(0);
+        self.draw();
+        self.devices.push(name);
+        (0, self.devices.len() as u8 - 1, self.r as u16)
+    }
+
+    fn allocate(&mut self, caller: u8) -> Answer {
+        let boundary = self.exos_boundary();
+        let unshared = self.count(Held::Shared) == 0;
+        if let Some(row) = self.held.iter_mut().find(|row| row.1 == Held::Free) {
+            row.1 = if caller == 0 {
+                Held::User
+            } else {
+                Held::Device
+            };
+            return (0, row.0, 16_384);
+        }
+        if caller == 0 && unshared && boundary > 0 {
+            let last = *self.chain.last().unwrap();
+            *self.held(last).unwrap() = Held::Shared;
+            self.user_boundary = boundary;
+            return (17, last, boundary as u16);
+        }
+        (10, 0, 0)
+    }
+
+    fn free(&mut self, caller: u8, segment: u8) -> Answer {
+        let Some(held) = self.held(segment) else {
+            return (11, 0, 0);
+        };
+        match (caller, *held) {
+            (0, Held::User) | (1, Held::Device) => *held = Held::Free,
+            (0, Held::Shared) => {
+                *held = Held::System;
+                self.user_boundary = 0;
+            }
+            _ => return (11, 0, 0),
+        }
+        (0, 0, 0)
+    }
+
+    fn set_boundary(&mut self, value: usize) -> Answer {
+        if self.count(Held::Shared) == 0 || value > self.exos_boundary() {
+            return (12, 0, 0);
+        }
+        self.user_boundary = value;
+        (0, 0, 0)
+    }
+
+    /// How much of a segment is the user's.
+    fn users(&self, segment: u8) -> Option<usize> {
+        if segment == self.list[0] {
+            return Some(SIZE);
+        }
+        let row = self.held.iter().find(|row| row.0 == segment)?;
+        match row.1 {
+            Held::User => Some(SIZE),
+            Held::Shared => Some(self.user_boundary),
+            _ => None,
+        }
+    }
+
+    fn store(&mut self, segment: u8, offset: usize, data: &[u8]) -> Answer {
+        let Some(end) = self.users(segment) else {
+            return (11, 0, 0);
+        };
+        if offset + data.len() > end {
+            return (13, 0, 0);
+        }
+        let guarded = |at: usize| (0x30..=0x5B).contains(&at) && at != 0x3D && at != 0x3E;
+        if segment == self.list[0] && (offset..offset + data.len()).any(guarded) {
+            return (14, 0, 0);
+        }
+        for (at, &byte) in (offset..).zip(data) {
+            self.memory[usize::from(segment)][at] = byte;
+            self.stored.insert((segment, at), byte);
+        }
+        (0, 0, data.len() as u16)
+    }
+
+    fn load(&self, segment: u8, offset: usize, length: usize) -> Result<&[u8], Answer> {
+        let end = self.users(segment).ok_or((11, 0, 0))?;
+        let part = self.memory[usize::from(segment)][..end].get(offset..offset + length);
+        part.ok_or((13, 0, 0))
+    }
+
+    fn reset(&mut self, flags: u8) -> Answer {
+        if flags & 0x30 != 0 {
+            while let Some(open) = self.opens.last() {
+                self.close(open.number);
+            }
+        }
+        if flags & 0x20 != 0 {
+            self.devices.truncate(3);
+            self.memory[255][self.r..self.cold_r].fill(0);
+            self.r = self.cold_r;
+        }
+        if flags & 0x40 != 0 {
+            for segment in self.list.clone() {
+                self.free(0, segment);
+            }
+        }
+        (0, 0, 0)
+    }
+
+    /// Everything the model knows, against the machine.
+    fn check(&mut self, machine: &mut Machine) {
+        for &segment in &self.list {
+            let expected = &self.memory[usize::from(segment)];
+            assert!(machine.segment(segment) == expected, "{segment}");
+        }
+        assert_eq!(machine.chain(), self.chain);
+        assert_eq!(machine.chain().len(), self.fewest_segments());
+        let channels = &machine.tables.channels[..self.opens.len()];
+        for (channel, open) in channels.iter().zip(&self.opens) {
+            let (device, unit) = (channel.device, channel.unit);
+            assert_eq!((device, unit), (open.device, open.unit));
+        }
+        let counts = [
+            Held::Free,
+            Held::User,
+            Held::System,
+            Held::Device,
+            Held::Shared,
+        ]
+        .map(|held| self.count(held) as u8);
+        assert_eq!(machine.status(), counts);
+        let boundary = (0, *self.chain.last().unwrap(), self.exos_boundary() as u16);
+        assert_eq!(machine.boundary(), boundary);
+        self.check_stored(machine);
+    }
+
+    fn check_stored(&mut self, machine: &mut Machine) {
+        let mut stored = std::mem::take(&mut self.stored);
+        stored.retain(|&(segment, at), _| self.users(segment).is_some_and(|end| at < end));
+        for (&(segment, at), &byte) in &stored {
+            assert_eq!(machine.segment(segment)[at], byte);
+        }
+        self.stored = stored;
+    }
+}
+
+/// The record of a channel, heading first.
+fn record(open: &Open) -> Vec<u8> {
+    let length = 16 + open.bytes.len();
+    let mut bytes = vec![length as u8, (length >> 8) as u8, (length >> 16) as u8, 0];
+    bytes.extend([1, 0, open.number, open.device, open.unit]);
+    bytes.extend([0; 7]);
+    bytes.extend(&open.bytes);
+    bytes
+}
+
+/// A buffer length: small, middling, any, or at the edge of the room.
+fn some_n(random: &mut Random, model: &Model) -> usize {
+    let room = model.layout_room() - model.t();
+    match random.below(6) {
+        0 | 1 => random.below(64),
+        2 | 3 => random.below(6_000),
+        4 => random.below(65_536),
+        _ => (room + random.below(4)).saturating_sub(18).min(65_535),
+    }
+}
+
+fn some_number(random: &mut Random) -> u8 {
+    random.pick(&[0, 1, 2, 3, 4, 5, 6, 7, 200, 253, 254, 255])
+}
+
+fn some_segment(random: &mut Random, model: &Model) -> u8 {
+    if random.one_in(20) {
+        random.next() as u8
+    } else {
+        random.pick(&model.list)
+    }
+}
+
+/// An offset into a buffer or segment of so many bytes, mostly within.
+fn some_offset(random: &mut Random, length: usize) -> usize {
+    match random.below(4) {
+        0 => length.saturating_sub(random.below(12)),
+        1 => random.below(0x70),
+        _ => random.below(length + 2),
+    }
+}
+
+fn check_read(machine: &mut Machine, expected: Result<&[u8], Answer>, request: Call) {
+    let answer = machine.call(request);
+    match expected {
+        Ok(bytes) => {
+            assert_eq!(answer, (0, 0, bytes.len() as u16));
+            assert!(machine.output[..bytes.len()] == *bytes);
+        }
+        Err(refused) => assert_eq!(answer, refused),
+    }
+}
+
+fn step_channel(random: &mut Random, model: &mut Model, machine: &mut Machine) {
+    let number = some_number(random);
+    let n = model
+        .find(number)
+        .map_or(50, |at| model.opens[at].bytes.len());
+    let offset = some_offset(random, n).min(65_535);
+    match random.below(8) {
+        0..=2 => {
+            let n = some_n(random, model);
+            let spelling = random.pick(&SPELLINGS);
+            let answer = machine.open_named(number, n as u16, spelling.0.as_bytes());
+            assert_eq!(answer, model.open(number, n, spelling));
+        }
+        3 | 4 => assert_eq!(machine.close(number), model.close(number)),
+        5 | 6 => {
+            let length = random.pick(&[0, 1, 2, 9, 300, 20_000]);
+            let data = random.bytes(length.min(n));
+            let expected = model.write(number, offset, &data);
+            assert_eq!(machine.write(number, offset as u16, &data), expected);
+        }
+        _ => {
+            let length = random.pick(&[0, 1, 2, 300, n, n - offset.min(n)]);
+            let request = Call::Read {
+                channel: number,
+                offset: offset as u16,
+                length: length as u16,
+            };
+            check_read(machine, model.read(number, offset, length), request);
+        }
+    }
+}
+
+fn step_segment(random: &mut Random, model: &mut Model, machine: &mut Machine) {
+    let caller = random.below(3) as u8 / 2;
+    let segment = some_segment(random, model);
+    let end = model.users(segment).unwrap_or(100);
+    let offset = some_offset(random, end);
+    match random.below(8) {
+        0 | 1 => assert_eq!(machine.allocate(caller), model.allocate(caller)),
+        2 => {
+            let answer = machine.free(caller, segment);
+            assert_eq!(answer, model.free(caller, segment));
+        }
+        3 | 4 => {
+            let value = some_offset(random, model.exos_boundary());
+            let answer = machine.set_boundary(value as u16);
+            assert_eq!(answer, model.set_boundary(value));
+        }
+        5 | 6 => {
+            let length = random.below(14);
+            let data = random.bytes(length);
+            let answer = machine.store(segment, offset as u16, &data);
+            assert_eq!(answer, model.store(segment, offset, &data));
+        }
+        _ => {
+            let length = random.pick(&[0, 1, 12, end, end.saturating_sub(offset)]);
+            let request = Call::Load {
+                segment,
+                offset: offset as u16,
+                length: length as u16,
+            };
+            check_read(machine, model.load(segment, offset, length), request);
+        }
+    }
+}
+
+fn step_device(random: &mut Random, model: &mut Model, machine: &mut Machine) {
+    let name = random.pick(&NAMES);
+    match random.below(12) {
+        0 => {
+            let flags = random.below(8) as u8 * 16;
+            assert_eq!(machine.reset(flags), model.reset(flags));
+        }
+        1..=3 => {
+            let unit = random.next() as u8;
+            let text = name.to_lowercase();
+            let name_bytes = text.as_bytes();
+            let answer = machine.call(Call::Default {
+                unit,
+                name: name_bytes,
+            });
+            assert_eq!(answer, (0, 0, 0));
+            model.default = (name, unit);
+        }
+        _ => {
+            let most = random.pick(&[1, 20, 20, 1_000, 9_000]);
+            let m = random.below(most);
+            let answer = machine.link(m as u16, name.as_bytes());
+            assert_eq!(answer, model.link(m, name));
+        }
+    }
+}
+
+fn run(seed: u64, calls: usize) {
+    let mut random = Random::new(seed);
+    let segments = 1 + random.below(6);
+    let mut list: Vec<u8> = (0..segments).map(|_| 8 + random.below(247) as u8).collect();
+    list.push(255);
+    list.sort_unstable();
+    list.dedup();
+    let r = 256 + random.below(16_128 - 256 + 1);
+    let mut machine = Machine::start(r as u16, &list);
+    let mut model = Model::new(r, &list);
+    for _ in 0..calls {
+        match random.below(10) {
+            0..=5 => step_channel(&mut random, &mut model, &mut machine),
+            6..=8 => step_segment(&mut random, &mut model, &mut machine),
+            _ => step_device(&mut random, &mut model, &mut machine),
+        }
+        model.check(&mut machine);
+    }
+}
+
+#[test]
+fn random_calls_agree_with_the_plain_model() {
+    for seed in 1..=100 {
+        run(seed, 150);
+    }
+}
