@@ -1,0 +1,54 @@
+-- `events::call` meets its contract. Assumes nothing.
+use mathlib.Core.Path.{refl}
+use Rattle.kernel.proofs.Calls.{accepted-good, accepted-size}
+use Rattle.events.specs.Records.{decode}
+use Rattle.events.proofs.ByKind.{by-kind, bad-tables}
+use borrow.Author.Needs.{needs}
+use Rattle.events.proofs.call.Statement.{statement}
+use Rattle.events.proofs.call.Tie as tie
+
+start-event-requires : tie.Need-start-event-requires
+start-event-requires c κs = search needs
+
+same-length : tie.Need-same-length
+same-length c = search needs
+
+returns : tie.Need-returns
+unfolding decode
+returns c = by-kind _ _ _ _ _ 256 _ _ (c .before .before .before .before .if1 .taken) refl (c .before .before .start-event .ensures _)
+
+accepts-requires : tie.Need-accepts-requires
+accepts-requires c κs = search needs
+
+refuse-requires : tie.Need-refuse-requires
+refuse-requires c κs = search needs
+
+returns-2 : tie.Need-returns-2
+returns-2 c = bad-tables _ _ _ _ _ _ (c .before .before .accepts .ensures .0) (c .before .before .before .if1 .left) (c .before .if2 .taken) _ (c .refuse .ensures)
+
+call-good-requires : tie.Need-call-good-requires
+call-good-requires c κs = (accepted-good _ _ (c .before .before .before .accepts .ensures .1) (c .before .before .if2 .left), accepted-size _ _ _ (c .before .before .before .accepts .ensures .0) (c .before .before .if2 .left))
+
+same-length-2 : tie.Need-same-length-2
+same-length-2 c = search needs
+
+same-length-3 : tie.Need-same-length-3
+same-length-3 c = search needs
+
+returns-3 : tie.Need-returns-3
+returns-3 c = search needs
+
+pub call-spec : {M : Type 1} → statement M
+call-spec =
+    tie.close
+    (tie.spec
+    start-event-requires
+    same-length
+    returns
+    accepts-requires
+    refuse-requires
+    returns-2
+    call-good-requires
+    same-length-2
+    same-length-3
+    returns-3)

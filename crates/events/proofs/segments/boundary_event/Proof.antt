@@ -1,0 +1,25 @@
+-- `events::segments::boundary_event` meets its contract. Assumes nothing.
+use mathlib.Core.Path.{refl}
+use Rattle.kernel.specs.Definition.Calls.{boundary}
+use Rattle.kernel.specs.Definition.Step.{heard, ramAfter, outputAfter}
+use Rattle.events.proofs.Laws.{no-call, quiet}
+use Rattle.events.proofs.Taken.{boundary-bad, boundary-taken}
+use borrow.Author.Needs.{needs}
+use Rattle.events.proofs.segments.boundary_event.Statement.{statement}
+use Rattle.events.proofs.segments.boundary_event.Tie as tie
+
+refuse-requires : tie.Need-refuse-requires
+refuse-requires c κs = search needs
+
+returns : tie.Need-returns
+returns c = λ ram out s. no-call _ ram out (c .before .before .before .pre) s _ _ (boundary-bad _ (c .before .if1 .taken)) (c .refuse .ensures)
+
+boundary-good-requires : tie.Need-boundary-good-requires
+boundary-good-requires c κs = search needs
+
+returns-2 : tie.Need-returns-2
+unfolding heard ramAfter outputAfter
+returns-2 c = λ ram out s. quiet _ ram out (c .before .before .before .pre) s boundary _ _ (boundary-taken _ (c .before .if1 .left)) refl refl (c .boundary-good .ensures)
+
+pub boundary-event-spec : {M : Type 1} → statement M
+boundary-event-spec = tie.close (tie.spec refuse-requires returns boundary-good-requires returns-2)
