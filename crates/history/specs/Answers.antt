@@ -1,0 +1,9 @@
+-- The answer is the lowest row of the refusal table that holds; each input has one result.
+pub mod One
+pub mod Lowest
+pub mod Tests
+pub mod Numbers
+pub mod Found
+pub mod Rows
+pub mod Decided
+pub mod Proved

@@ -1,0 +1,41 @@
+-- More of tests as facts: where a test fails, and a choice of two tests.
+use mathlib.Core.Path.{_≡_, refl}
+use mathlib.Core.Bool.{Bool, true, false, cond, false≢true}
+use mathlib.Core.Logic.{_⊎_, inl, inr}
+use Prim.Native.Nat.{ℕ}
+use native.Mathlib.Decide.{decLt}
+use native.Mathlib.Omega.{arith}
+use borrow.Author.Tests.{ltb-true, lt-ltb, leb-true, le-leb}
+use lib.Dec.{leb, ltb}
+use Rattle.rows.specs.Join.{Says}
+
+-- what a test says holds or not
+pub says-either : {b : Bool} {P : Type 0} → Says b P → P ⊎ (P → ⊥)
+says-either {b} {P} f = go b f
+  where
+    go : (b : Bool) → Says b P → P ⊎ (P → ⊥)
+    go true f = inl (f .yes refl)
+    go false f = inr (λ p. false≢true (f .make p))
+
+-- where what it says does not hold, the test fails
+pub says-no : {b : Bool} {P : Type 0} → Says b P → (P → ⊥) → b ≡ false
+says-no {b} {P} f n = go b f
+  where
+    go : (b : Bool) → Says b P → b ≡ false
+    go true f = absurd (n (f .yes refl))
+    go false f = refl
+
+-- not below n, as the other comparison asks it
+pub says-beyond : {P : Type 0} (i n : ℕ) → Says (ltb i n) P → Says (leb n i) (P → ⊥)
+says-beyond i n f = record {
+  yes = λ e p. omega (arith, leb-true n i e, ltb-true i n (f .make p));
+  make = λ m. elim (decLt i n) [ yes h ↦ absurd (m (f .yes (lt-ltb i n h))) | no h ↦ le-leb n i (omega arith) ];
+}
+
+-- one test where S holds, and another where it does not
+pub says-cond : {b x y : Bool} {S P Q : Type 0} → Says b S → Says x P → Says y Q → Says (cond b x y) ((S → P) × ((S → ⊥) → Q))
+says-cond {b} {x} {y} {S} {P} {Q} s f g = go b s
+  where
+    go : (b : Bool) → Says b S → Says (cond b x y) ((S → P) × ((S → ⊥) → Q))
+    go true s = record { yes = λ e. (λ _. f .yes e, λ n. absurd (n (s .yes refl))); make = λ h. f .make (h .0 (s .yes refl)) }
+    go false s = record { yes = λ e. (λ p. absurd (false≢true (s .make p)), λ _. g .yes e); make = λ h. g .make (h .1 (λ p. false≢true (s .make p))) }

@@ -1,0 +1,3 @@
+-- Condition 3 over any sequence of calls, and that each input has exactly one result.
+pub mod Answers
+pub mod Room

@@ -1,0 +1,55 @@
+-- What good tables say of the chain's length, the user boundary and the segment 255, as the counts of places need it.
+use mathlib.Core.Path.{_≡_, sym, _∙_}
+use mathlib.Core.Bool.{Bool, true, false, cond}
+use Prim.Native.Nat.{ℕ, _+_, _-_, _*_, _≤_}
+use native.Mathlib.Decide.{decLe}
+use native.Mathlib.Omega.{arith}
+use Rattle.rows.specs.Classes.{SHARED}
+use Rattle.rows.specs.Sizes.{chainLength, edgeAt, length-low, edge-low, ends, Ends}
+use Rattle.kernel.specs.Definition.Tables.{classAt}
+use Rattle.kernel.specs.Definition.Line.{totalOf}
+use Rattle.kernel.specs.Definition.Good.{Good}
+use Rattle.kernel.specs.Laws.Facts.{chain-exactly, top-held}
+use Rattle.kernel.specs.declared.Tables.{Tables}
+use Rattle.history.specs.Room.Places.{held}
+
+-- the EXOS boundary is what a line of length n leaves of its chain
+pub line-sum : (r n : ℕ) → edgeAt r n + n ≡ r + 16384 * (chainLength r n - 1)
+line-sum r n = elim (decLe n r) [
+  | yes h ↦ omega (arith, length-low r n h, edge-low r n h)
+  | no h ↦ ends r n (omega arith) .sum
+]
+
+pub edge-small : (r n : ℕ) → r ≤ 16384 → edgeAt r n ≤ 16384
+edge-small r n h = elim (decLe n r) [
+  | yes g ↦ omega (arith, edge-low r n g)
+  | no g ↦ let e : Ends r n _ _ = ends r n (omega arith) in omega (arith, e .top)
+]
+
+module _ (t : Tables) (g : Good t) where
+  pub room-small : t .room ≤ 16384
+  room-small = omega (arith, g .room .most, g .room .top)
+
+  pub user-small : t .user ≤ 16384
+  user-small = omega (arith, g .user .most, edge-small (t .room) (totalOf t) room-small)
+
+  -- "255 is always held."
+  pub top-in : held t (t .segments - 1) ≡ true
+  top-in = go (held t (t .segments - 1)) (top-held t g)
+    where
+      go : (b : Bool) → 1 ≤ cond {A = ℕ} b 1 0 → b ≡ true
+      go true h = λ i. true
+      go false h = absurd (omega arith)
+
+  -- "a shared segment is the chain's last": 255 shared is the whole chain
+  pub top-alone : classAt t (t .segments - 1) ≡ SHARED → t .held ≡ 1
+  top-alone e =
+      let s : 1 ≤ t .segments = omega (arith, g .list .least) in
+      elim (decLe (t .held) 1) [
+        | yes h ↦ omega (arith, g .chain .holds)
+        | no h ↦ absurd (chain-exactly t g .once 0 (t .held - 1) (omega arith) (omega arith) (g .chain .starts ∙ sym (g .chain .last (t .segments - 1) (omega arith) e)))
+      ]
+
+  -- the user's part of 255 lies below R
+  pub top-clear : classAt t (t .segments - 1) ≡ SHARED → t .user ≤ t .room
+  top-clear e = omega (arith, g .user .most, line-sum (t .room) (totalOf t), g .line, top-alone e)

@@ -1,0 +1,96 @@
+-- The room rule holds exactly when the records have a layout in the places held outside the user's part and, if nothing is shared, in the free segments.
+use mathlib.Core.Path.{_≡_, refl, sym, _∙_}
+use mathlib.Core.Bool.{Bool, true, false, cond, _&&_, _||_}
+use mathlib.Core.Logic.{_↔_}
+use mathlib.Core.List.{List}
+use Prim.Native.Nat.{ℕ, _+_, _-_, _*_, _≤_, _<_}
+use native.Mathlib.Omega.{arith}
+use borrow.Author.Tests.{le-ltb, eq-eqb, le-leb, leb-true, eqb-true}
+use lib.Dec.{eqb, leb}
+use lib.ListN.{length}
+use Rattle.rows.specs.Lists.{at, and-left, and-right}
+use Rattle.rows.specs.Classes.{FREE, SHARED}
+use Rattle.rows.specs.Sizes.{chainLength, edgeAt, chain-most}
+use Rattle.kernel.specs.Definition.Tables.{classAt, countOf, sharing}
+use Rattle.kernel.specs.Definition.Line.{roomFor}
+use Rattle.kernel.specs.Definition.Good.{Good}
+use Rattle.kernel.specs.Laws.Body.{body}
+use Rattle.kernel.specs.Laws.Facts.{chain-exactly}
+use Rattle.kernel.specs.Laws.KeptLine.{shares-no}
+use Rattle.kernel.specs.declared.Tables.{Tables}
+use Rattle.history.specs.Room.Sums.{total}
+use Rattle.history.specs.Room.Layout.{Layout}
+use Rattle.history.specs.Room.Places.{size, offered, held, Outside}
+use Rattle.history.specs.Room.Counts.{outside-exists, offered-shared, offered-apart}
+use Rattle.history.specs.Room.Bounds.{line-sum, user-small, top-in, top-alone}
+
+-- with a segment shared: how far the line may reach, where it takes no fewer segments than the chain has
+rule-shared : (t : Tables) (r n : ℕ) → 1 ≤ t .held → sharing t ≡ true → t .held ≤ chainLength r n
+    → (roomFor t r n ≡ true) ↔ (n + t .user ≤ r + 16384 * (t .held - 1))
+unfolding roomFor
+rule-shared t r n some s h =
+    let l = line-sum r n in (
+      λ e.
+          let f : eqb (chainLength r n) (t .held) && leb (t .user) (edgeAt r n) ≡ true = rw (s, le-ltb _ _ h) at e in
+          let q : chainLength r n ≡ t .held = eqb-true _ _ (and-left _ _ f) in
+          let u : t .user ≤ edgeAt r n = leb-true _ _ (and-right (eqb (chainLength r n) (t .held)) _ f) in
+          omega arith,
+      λ e.
+          let q : chainLength r n ≡ t .held = omega (arith, chain-most r n (t .held - 1) (omega arith)) in
+          rw (s, le-ltb _ _ h, eq-eqb _ _ q, le-leb (t .user) (edgeAt r n) (omega arith)),
+    )
+
+-- with none shared
+rule-apart : (t : Tables) (r n : ℕ) → sharing t ≡ false → (roomFor t r n ≡ true) ↔ (n ≤ r + 16384 * (t .held - 1 + countOf FREE t))
+unfolding roomFor
+rule-apart t r n s = (λ e. leb-true _ _ (rw s at e), λ e. rw (s, le-leb _ _ e))
+
+-- R = r leaves the user's part of 255 whole
+abbrev pub Clear : Tables → ℕ → Type 0
+Clear t r = classAt t (t .segments - 1) ≡ SHARED → t .user ≤ r
+
+module _ (t : Tables) (g : Good t) (r : ℕ) (small : r ≤ 16384) (lengths : List ℕ) (long : t .held ≤ chainLength r (total lengths)) where
+  fits : (c : Clear t r) → Layout lengths (Outside t r (offered t)) ↔ (total lengths + t .user ≤ r + 16384 * (size (t .segments) (offered t) - 1))
+  fits c = outside-exists t g r (offered t) small (user-small t g) (λ row b e. rw e) c lengths (rw (top-in t g))
+
+  go : (s : Bool) → sharing t ≡ s → (roomFor t r (total lengths) ≡ true) ↔ (Layout lengths (Outside t r (offered t)) × Clear t r)
+  go true s =
+      let x = rule-shared t r (total lengths) (g .chain .holds) s long in
+      let n = offered-shared t g s in (
+        λ e. let c : Clear t r = λ q. omega (arith, x .0 e, top-alone t g q) in (fits c .1 (omega (arith, x .0 e)), c),
+        λ l. x .1 (omega (arith, fits (l .1) .0 (l .0))),
+      )
+  go false s =
+      let x = rule-apart t r (total lengths) s in
+      let n = offered-apart t g s in
+      let z : t .user ≡ 0 = g .user .none (shares-no t (body t g) s) in
+      let c : Clear t r = λ q. omega arith in
+      let h = g .chain .holds in
+      (λ e. (fits c .1 (omega (arith, x .0 e)), c), λ l. x .1 (omega (arith, fits c .0 (l .0))))
+
+  -- for a line no shorter than the present one
+  pub room-layout : (roomFor t r (total lengths) ≡ true) ↔ (Layout lengths (Outside t r (offered t)) × Clear t r)
+  room-layout = go (sharing t) refl
+
+  -- a layout of any byte at all leaves it whole
+  pub layout-clear : 1 ≤ length lengths → 1 ≤ at lengths 0 → Layout lengths (Outside t r (offered t)) → Clear t r
+  layout-clear h k l q =
+      let s : sharing t ≡ true = shared (sharing t) refl q in
+      let p = l .placed 0 0 in
+      let o : Outside t r (offered t) p = l .inside 0 0 (record { record-known = h; in-record = k }) in
+      let e : p .row ≡ t .segments - 1 = alone (p .row) s (o .place .known) (o .place .chosen) q in
+      omega (arith, o .place .room e, o .outside (rw e q))
+    where
+      shared : (b : Bool) → sharing t ≡ b → classAt t (t .segments - 1) ≡ SHARED → sharing t ≡ true
+      shared true e q = e
+      shared false e q = absurd (shares-no t (body t g) e (rw (g .chain .last (t .segments - 1) (omega (arith, g .list .least)) q) q))
+
+      one : (b : Bool) → b || false ≡ true → 1 ≤ cond {A = ℕ} b 1 0
+      one true e = omega arith
+      one false e = absurd (let z : _≡_ {A = ℕ} 0 1 = cc in omega arith)
+
+      alone : (row : ℕ) → sharing t ≡ true → row < t .segments → offered t row ≡ true → classAt t (t .segments - 1) ≡ SHARED → row ≡ t .segments - 1
+      alone row s b c q =
+          let (i, w, e) = chain-exactly t g .all row b (one (held t row) (rw s at c)) in
+          let z : i ≡ 0 = omega (arith, top-alone t g q) in
+          sym e ∙ rw z (g .chain .starts)
