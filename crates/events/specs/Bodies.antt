@@ -9,7 +9,6 @@ use lib.Dec.{ltb, eqb}
 use lib.ListN.{length}
 use Rattle.kernel.specs.Definition.Calls.{Call, isStart}
 use Rattle.kernel.specs.Definition.Good.{Good}
-use Rattle.kernel.specs.Definition.Step.{step}
 use Rattle.kernel.specs.Laws.Fields.{U8, U16, Fields}
 use Rattle.kernel.specs.Laws.Keeps.{step-keeps}
 use Rattle.kernel.specs.declared.Tables.{Tables}

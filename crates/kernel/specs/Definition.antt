@@ -1,4 +1,4 @@
--- Document 01, in its own order.
+-- Document 01, in its own order. Its layouts stand with the theorems about them in the crate history, its event records in the crate events.
 pub mod Tables
 pub mod Good
 pub mod Line

@@ -1,5 +1,5 @@
 -- "Calls and their bodies": the calls with what their bodies hold, and of each the answer and the next tables.
--- A call's refusals stand in the order of their numbers; those for the tables and for the body come before them (Step.antt).
+-- A call's refusals stand in the order of their numbers; TABLES comes before them all (Step.antt). Which body holds which call is said in the crate events.
 use mathlib.Core.Bool.{Bool, true, false, cond, not, _&&_, _||_}
 use mathlib.Core.List.{List, [], _∷_}
 use mathlib.Core.Option.{Option, none, some}
@@ -37,7 +37,7 @@ pub data Call : Type 0 where
   free : (caller segment : ℕ) → Call
   store : (segment offset : ℕ) (bytes : List ℕ) → Call
   load : (segment offset size : ℕ) → Call
-  -- "kind unknown; body short of its fixed fields, or longer without name, data or list"
+  -- no call: "kind unknown; body short of its fixed fields, or longer without name, data or list"
   unknown : Call
   -- a start whose body is short of its fixed field
   short-start : Call

@@ -11,7 +11,7 @@ use Rattle.kernel.specs.Definition.Tables.{classAt, lastRow}
 use Rattle.kernel.specs.Definition.Line.{totalOf, boundaryOf}
 use Rattle.kernel.specs.declared.Tables.{Tables}
 
--- the arrays' lengths, which every value of the type has
+-- the lengths of the arrays of rows, which every value of the type has
 pub record Sized (t : Tables) : Type 0 where
   pub list : length (t .list) ≡ 32
   pub classes : length (t .classes) ≡ 32
@@ -32,7 +32,7 @@ pub record Good (t : Tables) : Type 0 where
   pub devices : DevicesGood (t .devices) (t .known)
   pub default : DefaultGood (t .name) (t .length) (t .unit)
 
--- the counts are within the arrays: asked first, so that the rest can run
+-- the counts of segments, chain and channels are within the arrays: asked first, so that the rest can run
 abbrev pub sizesTest : (segments held opened : ℕ) → Bool
 sizesTest segments held opened = leb 1 segments && leb segments 32 && leb 1 held && leb held 32 && leb opened 32
 

@@ -24,7 +24,7 @@ unfoldable pub partOn : Tables → (ram : List ℕ) (channel : ℕ) → List ℕ
 unfolding lentOn partOf
 partOn t ram channel = partOf ram (sizeAt t (channelAt t channel)) (lentOn t channel)
 
--- the same of any tables and any RAM: nothing is lent where the tables are not good or the RAM has another length (`ram`: how many bytes are lent)
+-- what is lent, of any tables and any RAM; the two above serve good tables alone. Nothing is lent where the tables are not good or the RAM has another length (`ram`: how many bytes are lent)
 unfoldable pub lentFrom : Tables → (ram channel : ℕ) → Lent
 unfolding lentOn
 lentFrom t ram channel = cond (accepted t ram) (lentOn t channel) Nothing

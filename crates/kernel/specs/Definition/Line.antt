@@ -54,7 +54,8 @@ shrunk zero t = t
 shrunk (suc k) t = shrunk k (oneLess t)
 
 -- "Room rule: with nothing shared, T may reach R + 16,384 x (chain length - 1 + free segments). With a segment shared, the line stays in the
--- present chain and the EXOS boundary may not fall below the user boundary, even if a free segment exists (build)." For a line of length n at the room r
+-- present chain and the EXOS boundary may not fall below the user boundary, even if a free segment exists (build)." For a line of length n at the room r;
+-- one that takes fewer segments than the chain has would leave the shared one, so no boundary stands in its way
 unfoldable pub roomFor : Tables → (r n : ℕ) → Bool
 roomFor t r n =
     cond (sharing t)

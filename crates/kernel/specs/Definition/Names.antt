@@ -26,6 +26,6 @@ wantedBy t (x ∷ xs) (Given u) = record { name = wordOf (x ∷ xs); length = le
 abbrev pub wanted : Tables → Reading → Wanted
 wanted t r = wantedBy t (device r) (unit r)
 
--- the row of the enabled device so named, or the number of devices where there is none
+-- the row of the enabled device so named, or the number of devices where there is none. "Every unit count is read as zero": the unit is taken as it is
 abbrev pub deviceFor : Tables → Wanted → ℕ
 deviceFor t w = deviceIn (take (t .known) (t .devices)) (w .name) (w .length)

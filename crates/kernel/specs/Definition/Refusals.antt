@@ -1,4 +1,5 @@
--- The refusal table, row by row: when a number is given, for each call. "Several at once: the lowest number wins."
+-- The refusal table, row by row, as propositions: when a row holds of a call. "Several at once: the lowest number wins."
+-- That the answers of Calls.antt and Step.antt are the lowest rows that hold is proved in the crate history (Answers).
 use mathlib.Core.Path.{_≡_}
 use mathlib.Core.Bool.{true, false}
 use mathlib.Core.Logic.{_≢_, _⊎_}
@@ -82,7 +83,7 @@ pub data Row (t : Tables) (ram output : ℕ) : (c : Call) (k : ℕ) → Type 0 w
   -- 1 TABLES: "not for start: tables not good, or RAM length wrong"
   tables-bad : {c : Call} → NotStart c → ¬ Good t → Row t ram output c 1
   ram-wrong : {c : Call} → NotStart c → ram ≢ ramSize t → Row t ram output c 1
-  -- 2 CALL: "kind unknown; body short ..; caller not 0 or 1"
+  -- 2 CALL: "kind unknown; body short of its fixed fields, or longer without name, data or list; caller not 0 or 1"
   call-unknown : Row t ram output unknown 2
   start-short : Row t ram output short-start 2
   allocate-caller : {caller : ℕ} → 1 < caller → Row t ram output (allocate caller) 2

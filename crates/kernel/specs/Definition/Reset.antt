@@ -43,7 +43,7 @@ restoring t = withDevices t (t .cold) 3 builtIn
 unfoldable pub releasing : Tables → Tables
 releasing t = withSegments t (map released (t .classes)) (t .held) (t .chain) 0
 
--- "Applied in that order; 0 does nothing."
+-- "Applied in that order; 0 does nothing." The default name and unit stay
 unfoldable pub resetting : Tables → ℕ → Tables
 resetting t flags =
     let u = cond (closesAll flags) (emptying t) t in

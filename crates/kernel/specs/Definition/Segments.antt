@@ -27,7 +27,7 @@ granting t caller = withSegments t (set (t .classes) (lowestFree t) (classFor ca
 unfoldable pub sharingLast : Tables → Tables
 sharingLast t = withSegments t (set (t .classes) (lastRow t) SHARED) (t .held) (t .chain) (boundaryOf t)
 
--- "Free: the user gives back user .. or shared ..; a device gives back device. The page zero segment can't be freed."
+-- "Free: the user gives back user .. or shared ..; a device gives back device. The page zero segment can't be freed." Asked of callers 0 and 1 alone
 abbrev pub mayFree : Tables → (caller row : ℕ) → Bool
 mayFree t caller row =
     ltb row (t .segments) && (eqb (classAt t row) (classFor caller) || (eqb caller 0 && eqb (classAt t row) SHARED))

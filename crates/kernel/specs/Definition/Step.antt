@@ -124,7 +124,7 @@ pub record Result : Type 0 where
 abbrev pub result : Outcome → (ram output : List ℕ) → Result
 result o ram output = record { answer = o .answer; tables = o .tables; ram = ram; output = output }
 
--- "A refused call returns the refusal's fixed values and changes no table, no RAM byte and no byte of the lent output." (Condition 1.)
+-- "A refused call returns the refusal's fixed values and changes no table, no RAM byte and no byte of the lent output." (The invitation, condition 1.)
 unfoldable pub completed : Tables → Outcome → (ram : List ℕ) → Call → (output : List ℕ) → Result
 unfolding ramAfter outputAfter
 completed t o ram c output =

@@ -11,6 +11,10 @@ use Rattle.rows.specs.declared.Channel.{Channel}
 use Rattle.rows.specs.declared.Device.{Device}
 use Rattle.kernel.specs.declared.Tables.{Tables}
 
+-- The fields: `list` has the numbers of `segments` segments, and `classes` a class for each row of it; `chain` has rows of the list, `held` of them;
+-- `user` is the user boundary, `room` R, `cold` the cold R; `channels` has `opened` rows in line order, `devices` `known` rows;
+-- `name`, `length` and `unit` are the default's.
+
 -- "A segment has 16,384 bytes."
 abbrev pub SEGMENT : ℕ
 SEGMENT = 16384

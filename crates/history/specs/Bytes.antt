@@ -1,0 +1,13 @@
+-- A byte read is the one last written through that channel, and a user's byte changes only by the user's store.
+pub mod Runs
+pub mod Done
+pub mod Refused
+pub mod Places
+pub mod Changes
+pub mod Buffers
+pub mod Steps
+pub mod BytesRead
+pub mod Stores
+pub mod UserBytes
+pub mod Words
+mod Example

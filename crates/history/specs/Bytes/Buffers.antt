@@ -1,0 +1,335 @@
+-- What each done call makes of the open channels' bytes, wherever their buffers lie before and after.
+use mathlib.Core.Path.{_≡_, sym, ap, _∙_}
+use mathlib.Core.Bool.{Bool, true, false, cond, _||_}
+use mathlib.Core.List.{List, [], _∷_, _++_}
+use Prim.Native.Nat.{ℕ, zero, suc, _+_, _-_, _≤_, _<_}
+use native.Mathlib.Nat.{not-suc-le-zero, le-of-suc-le-suc}
+use native.Mathlib.Decide.{decLe, decLt, ℕ-discrete}
+use native.Mathlib.Omega.{arith}
+use borrow.Author.Tests.{eq-eqb, ne-eqb, eqb-true, ltb-true, le-leb, lt-leb, lt-ltb, le-ltb}
+use lib.Dec.{eqb, ltb}
+use lib.ListN.{length, getD, take, drop, replicate, length-take, length-append, List·getD-append}
+use lib.Seq.{take-append-le, take-take, take-set-le, getD-take, getD-drop, getD-append-add, getD-set-other}
+use Rattle.rows.specs.Lists.{at, without, and-left, where-found}
+use Rattle.rows.specs.Channels.{noChannel, sumOf}
+use Rattle.rows.specs.Rows.{from, from-low, from-high, without-at, sum-without, sum-more}
+use Rattle.rows.specs.declared.Channel.{Channel}
+use Rattle.line.specs.Line.{linkOf, placeOf, putLine, linked, Chain}
+use Rattle.line.specs.Ram.{putAt}
+use Rattle.line.proofs.Walks.{put-elsewhere}
+use Rattle.line.proofs.Places.{place-apart}
+use Rattle.line.proofs.Held.{held-at}
+use Rattle.line.proofs.PointsOpened.{opened-points}
+use Rattle.line.proofs.PointsClosed.{closed-points}
+use Rattle.line.proofs.PointsLinked.{linked-points}
+use Rattle.kernel.specs.Definition.Tables.{channelAt}
+use Rattle.kernel.specs.Definition.Line.{totalOf, recordAt, sizeAt, bufferAt}
+use Rattle.kernel.specs.Definition.Segments.{mayReach, reachOf}
+use Rattle.kernel.specs.Definition.Reset.{bit4, bit5, bit6, emptying, restoring, releasing, resetting}
+use Rattle.kernel.specs.Definition.Good.{Good}
+use Rattle.kernel.specs.Definition.Step.{ramOpened, ramClosed, ramReset, segmentAt}
+use Rattle.kernel.specs.Laws.Chains.{good-chain, chain-shift}
+use Rattle.kernel.specs.Laws.Records.{record-within}
+use Rattle.kernel.specs.Laws.KeptReset.{emptying-opened}
+use Rattle.kernel.specs.Laws.Ready.{Ready}
+use Rattle.kernel.specs.declared.Tables.{Tables}
+use Rattle.history.specs.Bytes.Runs.{patched}
+use Rattle.history.specs.Bytes.Places.{place-same, link-short, reach-users, off-line, reach-small}
+use Rattle.history.specs.Bytes.Changes.{Opens, opens-row, opens-total, Closes, Links}
+
+-- the number of the channel in row i, and byte k of its buffer where it lies
+abbrev pub channelIn : Tables → ℕ → ℕ
+channelIn t i = getD (t .channels) i noChannel .number
+
+abbrev pub byteAt : Tables → List ℕ → (i k : ℕ) → ℕ
+byteAt t ram i k = getD ram (placeOf (t .chain) (t .room) (bufferAt t i + k)) 0
+
+-- every byte of the open channels is what f gives for the channel's number and the byte's
+abbrev pub Holds : (ℕ → ℕ → ℕ) → Tables → List ℕ → Type 0
+Holds f t ram = (i : ℕ) → i < t .opened → (k : ℕ) → k < sizeAt t i → byteAt t ram i k ≡ f (channelIn t i) k
+
+-- ---- records end to end
+
+sum-rises : (xs : List Channel) (i n : ℕ) → i ≤ n → sumOf (take i xs) ≤ sumOf (take n xs)
+sum-rises xs zero n h = omega arith
+sum-rises xs (suc i) zero h = absurd (not-suc-le-zero h)
+sum-rises [] (suc i) (suc n) h = omega arith
+sum-rises (x ∷ xs) (suc i) (suc n) h = omega (arith, sum-rises xs i n (le-of-suc-le-suc h))
+
+-- a record ends before a later one starts
+record-before : (t : Tables) (i j : ℕ) → Good t → i < j → j ≤ t .opened → recordAt t i + (16 + sizeAt t i) ≤ recordAt t j
+record-before t i j g h l =
+    omega (arith, sum-more (t .channels) i noChannel (omega (arith, g .sized .channels, g .channels .most)), sum-rises (t .channels) (i + 1) j (omega arith))
+
+-- the rows before one that is taken out
+take-less : (xs : List Channel) (i j : ℕ) → i ≤ j → j ≤ length xs → take i (without j xs noChannel) ≡ take i xs
+take-less xs i j h l =
+    let n : length (take j xs) ≡ j = omega (arith, length-take j xs) in
+    let m : length (take j xs ++ drop (suc j) xs) ≡ length (take j xs) + length (drop (suc j) xs) = length-append (take j xs) (drop (suc j) xs) in
+    take-append-le i (take j xs ++ drop (suc j) xs) (noChannel ∷ []) (omega arith)
+    ∙ take-append-le i (take j xs) (drop (suc j) xs) (omega arith)
+    ∙ take-take i j xs h
+
+-- ---- bytes put side by side
+
+pub patched-in : (offset : ℕ) (bytes : List ℕ) (k old : ℕ) → offset ≤ k → k < offset + length bytes → patched offset bytes k old ≡ getD bytes (k - offset) 0
+unfolding patched
+patched-in offset bytes k old h l = rw (le-leb _ _ h, lt-ltb _ _ l)
+
+pub patched-low : (offset : ℕ) (bytes : List ℕ) (k old : ℕ) → k < offset → patched offset bytes k old ≡ old
+unfolding patched
+patched-low offset bytes k old h = rw (lt-leb _ _ h)
+
+pub patched-high : (offset : ℕ) (bytes : List ℕ) (k old : ℕ) → offset + length bytes ≤ k → patched offset bytes k old ≡ old
+unfolding patched
+patched-high offset bytes k old h =
+    elim (decLe offset k) [ yes l ↦ rw (le-leb _ _ l, le-ltb _ _ h) | no l ↦ rw (lt-leb offset k (omega arith)) ]
+
+pub put-at-is : (ram : List ℕ) (here : ℕ) (xs : List ℕ) (i : ℕ) → here + length xs ≤ length ram → getD (putAt ram here xs) i 0 ≡ patched here xs i (getD ram i 0)
+unfolding putAt
+put-at-is ram here xs i fits =
+    let rest = drop (here + length xs) ram in
+    let n : length (take here ram) ≡ here = omega (arith, length-take here ram) in
+    elim (decLt i here) [
+      | yes l ↦ List·getD-append (take here ram) (xs ++ rest) 0 i (omega arith) ∙ getD-take here ram i 0 l ∙ sym (patched-low here xs i (getD ram i 0) l)
+      | no l ↦
+          let e : length (take here ram) + (i - here) ≡ i = omega arith in
+          let past : getD (take here ram ++ (xs ++ rest)) i 0 ≡ getD (xs ++ rest) (i - here) 0 = rw e at (getD-append-add (take here ram) (xs ++ rest) (i - here) 0) in
+          elim (decLt i (here + length xs)) [
+            | yes q ↦ past ∙ List·getD-append xs rest 0 (i - here) (omega arith) ∙ sym (patched-in here xs i (getD ram i 0) (omega arith) q)
+            | no q ↦
+                let f : length xs + (i - here - length xs) ≡ i - here = omega arith in
+                let z : here + length xs + (i - here - length xs) ≡ i = omega arith in
+                past ∙ rw f at (getD-append-add xs rest (i - here - length xs) 0)
+                ∙ rw z at (getD-drop (here + length xs) ram (i - here - length xs) 0)
+                ∙ sym (patched-high here xs i (getD ram i 0) (omega arith))
+          ]
+    ]
+
+-- ---- one law a call
+
+module _ (t : Tables) (ram : List ℕ) (r : Ready t (length ram)) (f : ℕ → ℕ → ℕ) (holds : Holds f t ram) where
+  chained : Chain (t .chain) (t .room) (totalOf t) (length ram)
+  chained = good-chain t (length ram) (r .good) (r .size)
+
+  inside : (i k : ℕ) → i < t .opened → k < sizeAt t i → bufferAt t i + k < totalOf t
+  inside i k h l = omega (arith, record-within t i (r .good) h)
+
+  link-held : (p : ℕ) → p < totalOf t → linkOf (t .room) p < t .held
+  link-held p h = rw (r .good .line) (link-short (t .room) (totalOf t) p h)
+
+  -- the row that a channel is found in has its number
+  pub found : (channel : ℕ) → channelAt t channel < t .opened → channelIn t (channelAt t channel) ≡ channel
+  found channel h =
+      let cs = take (t .opened) (t .channels) in
+      let n : length cs ≡ t .opened = omega (arith, length-take (t .opened) (t .channels), r .good .sized .channels, r .good .channels .most) in
+      eqb-true _ _ (rw (getD-take (t .opened) (t .channels) (channelAt t channel) noChannel h) at (where-found (λ (c : Channel). eqb (c .number) channel) cs noChannel (omega arith)))
+
+  -- two rows have two numbers
+  one-row : (i j : ℕ) → i < t .opened → j < t .opened → channelIn t i ≡ channelIn t j → i ≡ j
+  one-row i j h l e =
+      elim (decLt i j) [
+        | yes a ↦ absurd (r .good .channels .differ i j a l e)
+        | no a ↦ elim (decLt j i) [ yes b ↦ absurd (r .good .channels .differ j i b h (sym e)) | no b ↦ omega arith ]
+      ]
+
+  -- bytes of two buffers are at two positions
+  two-rows : (i j k m : ℕ) → i < t .opened → j < t .opened → k < sizeAt t i → m < sizeAt t j → bufferAt t i + k ≡ bufferAt t j + m → i ≡ j
+  two-rows i j k m h l a b e =
+      elim (decLt i j) [
+        | yes p ↦ absurd (omega (arith, record-before t i j (r .good) p (omega arith)))
+        | no p ↦ elim (decLt j i) [ yes q ↦ absurd (omega (arith, record-before t j i (r .good) q (omega arith))) | no q ↦ omega arith ]
+      ]
+
+  -- write changes the bytes of one channel
+  module _ (channel offset : ℕ) (bytes : List ℕ) (h : channelAt t channel < t .opened) (fits : offset + length bytes ≤ sizeAt t (channelAt t channel)) where
+    abbrev written-ram : List ℕ
+    written-ram = putLine (t .chain) (t .room) ram (bufferAt t (channelAt t channel) + offset) bytes
+
+    write-here : (k : ℕ) → k < sizeAt t (channelAt t channel) → byteAt t written-ram (channelAt t channel) k ≡ patched offset bytes k (byteAt t ram (channelAt t channel) k)
+    write-here k l =
+        let j = channelAt t channel in
+        let w = record-within t j (r .good) h in
+        elim (decLt k offset) [
+          | yes a ↦ off k l (λ m n e. omega arith) ∙ sym (patched-low offset bytes k _ a)
+          | no a ↦ elim (decLt k (offset + length bytes)) [
+            | yes b ↦
+                let e : bufferAt t j + offset + (k - offset) ≡ bufferAt t j + k = omega arith in
+                rw e at (held-at (t .chain) (t .room) (totalOf t) ram chained bytes (bufferAt t j + offset) (omega arith) (k - offset) (omega arith))
+                ∙ sym (patched-in offset bytes k _ (omega arith) b)
+            | no b ↦ off k l (λ m n e. omega arith) ∙ sym (patched-high offset bytes k _ (omega arith))
+          ]
+        ]
+      where
+        off : (k : ℕ) → k < sizeAt t (channelAt t channel) → ((m : ℕ) → m < length bytes → k ≡ offset + m → ⊥)
+            → byteAt t (putLine (t .chain) (t .room) ram (bufferAt t (channelAt t channel) + offset) bytes) (channelAt t channel) k ≡ byteAt t ram (channelAt t channel) k
+        off k l away =
+            let j = channelAt t channel in
+            let w = record-within t j (r .good) h in
+            put-elsewhere (placeOf (t .chain) (t .room)) bytes ram (bufferAt t j + offset) (placeOf (t .chain) (t .room) (bufferAt t j + k))
+            (λ m n e. away m n (let s = place-apart (t .chain) (t .room) (totalOf t) (length ram) chained (bufferAt t j + k) (bufferAt t j + offset + m) (omega arith) (omega arith) e in omega arith))
+
+    pub write-law : Holds (λ c k. cond (eqb channel c) (patched offset bytes k (f c k)) (f c k)) t written-ram
+    write-law i a k b =
+        let j = channelAt t channel in
+        let number : channelIn t j ≡ channel = found channel h in
+        elim (ℕ-discrete i j) [
+          | yes q ↦ rw (q, eq-eqb channel (channelIn t j) (sym number)) (write-here k (rw q at b) ∙ ap (patched offset bytes k) (holds j h k (rw q at b)))
+          | no q ↦
+              rw (ne-eqb channel (channelIn t i) (λ e. q (one-row i j a h (sym e ∙ sym number))))
+              (put-elsewhere (placeOf (t .chain) (t .room)) bytes ram (bufferAt t j + offset) (placeOf (t .chain) (t .room) (bufferAt t i + k))
+              (λ m n e.
+              let w = record-within t j (r .good) h in
+              let s : bufferAt t i + k ≡ bufferAt t j + offset + m =
+              place-apart (t .chain) (t .room) (totalOf t) (length ram) chained (bufferAt t i + k) (bufferAt t j + offset + m) (inside i k a b) (omega arith) e in
+              q (two-rows i j k (offset + m) a h b (omega arith) (omega arith)))
+              ∙ holds i a k b)
+        ]
+
+  -- open appends a buffer of zeros and keeps the others
+  module _ (u : Tables) (c : Channel) (o : Opens t u c) (few : t .opened < 32) (s : Ready u (length ram)) where
+    new-row : getD (u .channels) (t .opened) noChannel ≡ c
+    new-row = opens-row (r .good) o few
+
+    old-row : (i : ℕ) → i < t .opened → getD (u .channels) i noChannel ≡ getD (t .channels) i noChannel
+    old-row i h = rw (o .channels) (getD-set-other (t .channels) (t .opened) i c noChannel (λ e. omega arith))
+
+    starts-same : (i : ℕ) → i ≤ t .opened → recordAt u i ≡ recordAt t i
+    starts-same i h = rw (o .channels) (ap sumOf (take-set-le i (t .channels) (t .opened) c h))
+
+    open-chain : Chain (u .chain) (t .room) (totalOf t + 16 + getD (u .channels) (t .opened) noChannel .n) (length ram)
+    open-chain = rw (opens-total (r .good) o few, o .room) at (good-chain u (length ram) (s .good) (s .size))
+
+    pub open-law : Holds (λ d k. cond (eqb (c .number) d) 0 (f d k)) u (ramOpened t u ram)
+    open-law i a k b =
+        let d = getD (u .channels) (t .opened) noChannel in
+        let points = opened-points (u .chain) (t .room) ram (totalOf t) (d .number) (d .device) (d .unit) (d .n) open-chain in
+        elim (decLt i (t .opened)) [
+          | yes h ↦
+              let p = bufferAt t i + k in
+              let size : k < sizeAt t i = rw (sizeAt, old-row i h) at b in
+              let within : p < totalOf t = inside i k h size in
+              let number : channelIn u i ≡ channelIn t i = ap (λ (x : Channel). x .number) (old-row i h) in
+              let buffer : bufferAt u i ≡ bufferAt t i = ap (λ (x : ℕ). x + 16) (starts-same i (omega arith)) in
+              let apart : c .number ≡ channelIn t i → ⊥ = λ e.
+              s .good .channels .differ i (t .opened) h (omega (arith, o .opened)) (number ∙ sym e ∙ sym (ap (λ (x : Channel). x .number) new-row)) in
+              rw (number, ne-eqb (c .number) (channelIn t i) apart, buffer, o .room)
+              (points .kept (placeOf (u .chain) (t .room) p)
+              (λ m n e.
+              let q : p ≡ totalOf t + m =
+              place-apart (u .chain) (t .room) (totalOf t + 16 + d .n) (length ram) open-chain p (totalOf t + m) (omega arith) (omega arith) e in
+              omega arith)
+              ∙ ap (λ (x : ℕ). getD ram x 0) (place-same (u .chain) (t .chain) (t .room) p (o .chain (linkOf (t .room) p) (link-held p within)))
+              ∙ holds i h k size)
+          | no h ↦
+              let q : i ≡ t .opened = omega (arith, o .opened) in
+              let number : c .number ≡ channelIn u (t .opened) = sym (ap (λ (x : Channel). x .number) new-row) in
+              let buffer : bufferAt u (t .opened) ≡ totalOf t + 16 = ap (λ (x : ℕ). x + 16) (starts-same (t .opened) (omega arith)) in
+              rw (q, eq-eqb (c .number) (channelIn u (t .opened)) number, buffer, o .room)
+              (points .zeroed k (rw q at b))
+        ]
+
+  -- close drops one buffer and keeps the others
+  module _ (u : Tables) (j : ℕ) (o : Closes t u j) (have : j < t .opened) (s : Ready u (length ram)) where
+    pub close-law : Holds f u (ramClosed t ram j)
+    close-law i a k b =
+        let cs = t .channels in
+        let n : length cs ≡ 32 = r .good .sized .channels in
+        let most = r .good .channels .most in
+        let less : i < t .opened - 1 = rw (o .opened) at a in
+        let row : getD (u .channels) i noChannel ≡ getD cs (from j i) noChannel = rw (o .channels) (without-at noChannel noChannel j cs i (omega arith) (omega arith)) in
+        let gap = 16 + sizeAt t j in
+        let points = closed-points (t .chain) (t .room) ram (recordAt t j) gap (totalOf t) chained (record-within t j (r .good) have) in
+        let p = bufferAt u i + k in
+        let within : p < totalOf u = omega (arith, record-within u i (s .good) a) in
+        let link : linkOf (u .room) p < u .held = rw (s .good .line) (link-short (u .room) (totalOf u) p within) in
+        let place : placeOf (u .chain) (u .room) p ≡ placeOf (t .chain) (t .room) p =
+        place-same (u .chain) (t .chain) (u .room) p (o .chain (linkOf (u .room) p) link) ∙ ap (λ (x : ℕ). placeOf (t .chain) x p) (o .room) in
+        elim (decLt i j) [
+          | yes h ↦
+              let same : getD (u .channels) i noChannel ≡ getD cs i noChannel = row ∙ ap (λ (x : ℕ). getD cs x noChannel) (from-low j i h) in
+              let number : channelIn u i ≡ channelIn t i = ap (λ (x : Channel). x .number) same in
+              let size : sizeAt u i ≡ sizeAt t i = ap (λ (x : Channel). x .n) same in
+              let begin : recordAt u i ≡ recordAt t i = rw (o .channels) (ap sumOf (take-less cs i j (omega arith) (omega arith))) in
+              let buffer : bufferAt u i + k ≡ bufferAt t i + k = ap (λ (x : ℕ). x + 16 + k) begin in
+              let before : bufferAt t i + k < recordAt t j = omega (arith, record-before t i j (r .good) h (omega arith)) in
+              rw (number, place, buffer)
+              (points .kept (placeOf (t .chain) (t .room) (bufferAt t i + k))
+              (λ q l m e.
+              let z : bufferAt t i + k ≡ q =
+              place-apart (t .chain) (t .room) (totalOf t) (length ram) chained (bufferAt t i + k) q (omega arith) m e in
+              omega arith)
+              ∙ holds i (omega arith) k (omega arith))
+          | no h ↦
+              let same : getD (u .channels) i noChannel ≡ getD cs (suc i) noChannel = row ∙ ap (λ (x : ℕ). getD cs x noChannel) (from-high j i (omega arith)) in
+              let number : channelIn u i ≡ channelIn t (suc i) = ap (λ (x : Channel). x .number) same in
+              let size : sizeAt u i ≡ sizeAt t (suc i) = ap (λ (x : Channel). x .n) same in
+              let begin : recordAt u i + gap ≡ recordAt t (suc i) = rw (o .channels) (sum-without noChannel noChannel j cs i (omega arith) (omega arith)) in
+              let later : recordAt t j + gap ≤ recordAt t (suc i) = record-before t j (suc i) (r .good) (omega arith) (omega arith) in
+              let buffer : bufferAt u i + k + gap ≡ bufferAt t (suc i) + k = omega arith in
+              let end : bufferAt t (suc i) + k < totalOf t = inside (suc i) k (omega arith) (omega arith) in
+              rw (number, place)
+              (points .moved (bufferAt u i + k) (omega arith) (omega arith)
+              ∙ ap (λ (x : ℕ). getD ram (placeOf (t .chain) (t .room) x) 0) buffer
+              ∙ holds (suc i) (omega arith) k (omega arith))
+        ]
+
+  -- link keeps all buffers
+  pub link-law : (u : Tables) (m : ℕ) → Links t u m → m ≤ t .room → Ready u (length ram) → Holds f u (linked (u .chain) (t .room) m ram (totalOf t))
+  link-law u m o le s i a k b =
+      let total : totalOf u ≡ totalOf t = rw (o .opened, o .channels) in
+      let few : i < t .opened = rw (o .opened) at a in
+      let number : channelIn u i ≡ channelIn t i = rw (o .channels) in
+      let size : sizeAt u i ≡ sizeAt t i = rw (o .channels) in
+      let buffer : bufferAt u i ≡ bufferAt t i = rw (o .channels) in
+      let p = bufferAt t i + k in
+      let within : p < totalOf t = inside i k few (omega arith) in
+      let small : t .room ≤ 16384 = omega (arith, r .good .room .most, r .good .room .top) in
+      let chain : Chain (u .chain) (t .room) (totalOf t + m) (length ram) =
+      chain-shift (u .chain) (t .room) m (totalOf t) (length ram) le small (rw (total, o .room) at (good-chain u (length ram) (s .good) (s .size))) in
+      rw (number, buffer, o .room)
+      (linked-points (u .chain) (t .room) m ram (totalOf t) chain le .moved p within
+      ∙ ap (λ (x : ℕ). getD ram x 0) (place-same (u .chain) (t .chain) (t .room) p (o .chain (linkOf (t .room) p) (link-held p within)))
+      ∙ holds i few k (omega arith))
+
+  -- a store touches no buffer
+  pub store-law : (row offset : ℕ) (bytes : List ℕ) → mayReach t row ≡ true → offset + length bytes ≤ reachOf t row
+      → Holds f t (putAt ram (segmentAt row + offset) bytes)
+  store-law row offset bytes m h i a k b =
+      let x = placeOf (t .chain) (t .room) (bufferAt t i + k) in
+      let at = segmentAt row + offset in
+      let known : row < t .segments = ltb-true _ _ (and-left (ltb row (t .segments)) _ m) in
+      let fits : at + length bytes ≤ length ram = omega (arith, reach-small t (r .good) row, r .size) in
+      put-at-is ram at bytes x fits
+      ∙ elim (decLt x at) [
+        | yes l ↦ patched-low at bytes x (getD ram x 0) l
+        | no l ↦ elim (decLt x (at + length bytes)) [
+          | yes q ↦
+              let there : segmentAt row + (x - segmentAt row) ≡ x = omega arith in
+              absurd (off-line t (r .good) row (x - segmentAt row) (reach-users t row (x - segmentAt row) m (omega arith)) (bufferAt t i + k) (inside i k a b) there)
+          | no q ↦ patched-high at bytes x (getD ram x 0) (omega arith)
+        ]
+      ]
+      ∙ holds i a k b
+
+  -- reset drops all buffers or keeps them
+  no-rows : (i : ℕ) → i < emptying t .opened → ⊥
+  no-rows i a = not-suc-le-zero (rw (emptying-opened t) at a)
+
+  flags-law : (four five six : Bool)
+      → Holds f (let u = cond (four || five) (emptying t) t in let v = cond five (restoring u) u in cond six (releasing v) v)
+      (let emptied = cond (four || five) (putLine (t .chain) (t .room) ram 0 (replicate (totalOf t) 0)) ram in
+      cond five (putLine (t .chain) (t .cold) emptied 0 (replicate (t .cold - t .room) 0)) emptied)
+  unfolding restoring releasing
+  flags-law true true true = λ i a. absurd (no-rows i a)
+  flags-law true true false = λ i a. absurd (no-rows i a)
+  flags-law true false true = λ i a. absurd (no-rows i a)
+  flags-law true false false = λ i a. absurd (no-rows i a)
+  flags-law false true true = λ i a. absurd (no-rows i a)
+  flags-law false true false = λ i a. absurd (no-rows i a)
+  flags-law false false true = holds
+  flags-law false false false = holds
+
+  pub reset-law : (flags : ℕ) → Holds f (resetting t flags) (ramReset t ram flags)
+  unfolding resetting
+  reset-law flags = flags-law (bit4 flags) (bit5 flags) (bit6 flags)

@@ -1,0 +1,144 @@
+-- "A byte read from an open channel is the one last written there through that channel since its opening, or zero if none was, however often the buffer moved."
+use mathlib.Core.Path.{_≡_, refl, sym, ap, subst, _∙_}
+use mathlib.Core.Bool.{true, cond}
+use mathlib.Core.List.{List, [], _∷_}
+use Prim.Native.Nat.{ℕ, _+_, _-_, _≤_, _<_}
+use native.Mathlib.Nat.{not-suc-le-zero}
+use native.Mathlib.Decide.{ℕ-discrete}
+use native.Mathlib.Omega.{arith}
+use borrow.Author.Tests.{eq-eqb, ne-eqb}
+use lib.Dec.{eqb}
+use lib.ListN.{length, getD, drop, List·getD-append}
+use Rattle.names.specs.Words.{wordOf}
+use Rattle.rows.specs.Classes.{SHARED}
+use Rattle.line.specs.Line.{placeOf, lineFrom}
+use Rattle.line.specs.Ram.{taken}
+use Rattle.line.proofs.Walks.{length-bytes, bytes-at}
+use Rattle.kernel.specs.Definition.Tables.{classAt, rowOf, channelAt}
+use Rattle.kernel.specs.Definition.Line.{sizeAt, bufferAt, opening, closing}
+use Rattle.kernel.specs.Definition.Segments.{granting, sharingLast, freeing, bounding}
+use Rattle.kernel.specs.Definition.Devices.{linking}
+use Rattle.kernel.specs.Definition.Reset.{started}
+use Rattle.kernel.specs.Definition.Answers.{granted}
+use Rattle.kernel.specs.Definition.Calls.{Call, read}
+use Rattle.kernel.specs.Definition.Step.{ramOpened, ramAfter, outputAfter, completed, step}
+use Rattle.kernel.specs.Laws.Fields.{Fields}
+use Rattle.kernel.specs.Laws.Keeps.{start-passed, start-is}
+use Rattle.kernel.specs.Laws.Ready.{Ready, ready-heard}
+use Rattle.kernel.specs.declared.Tables.{Tables}
+use Rattle.kernel.specs.declared.Outcome.{Outcome}
+use Rattle.history.specs.Bytes.Runs.{State, History, after, event, Started, NoStart, Runs, stay, then, Run, written, lastWritten}
+use Rattle.history.specs.Bytes.Done.{Done, resets, opens, closes, reads, writes, names, counts, links, tells, bounds, grants, shares, frees, stores, loads, heard-done}
+use Rattle.history.specs.Bytes.Changes.{opening-opens, closing-closes, linking-links}
+use Rattle.history.specs.Bytes.Buffers.{Holds, found, write-law, open-law, close-law, link-law, store-law, reset-law}
+use Rattle.history.specs.Bytes.Steps.{Sound, done-length, Stepped, refused, done, stepped, step-sound, start-sound}
+
+freeing-law : (t : Tables) (row : ℕ) (ram : List ℕ) (f : ℕ → ℕ → ℕ) → Holds f t ram → Holds f (freeing t row) ram
+unfolding freeing
+freeing-law t row ram f holds = elim (ℕ-discrete (classAt t row) SHARED) [ yes q ↦ rw (eq-eqb _ _ q) holds | no q ↦ rw (ne-eqb _ _ q) holds ]
+
+-- every done call makes of every open channel's bytes what `written` says
+done-holds : {t u : Tables} {output : ℕ} {c : Call} (ram : List ℕ) (f : ℕ → ℕ → ℕ) → Ready t (length ram) → Ready u (length ram) → Holds f t ram
+    → Done t output c u → Holds (λ channel k. written c channel k (f channel k)) u (ramAfter t u ram c)
+unfolding written ramAfter granting sharingLast bounding
+done-holds {t} ram f r s holds (resets {flags}) = reset-law t ram r f holds flags
+done-holds {t} ram f r s holds (opens c e few) =
+    subst (λ (x : ℕ). Holds (λ d k. cond (eqb x d) 0 (f d k)) (opening t c) (ramOpened t (opening t c) ram)) e
+    (open-law t ram r f holds (opening t c) c (opening-opens t c) few s)
+done-holds {t} ram f r s holds (closes {channel} h) =
+    close-law t ram r f holds (closing t (channelAt t channel)) (channelAt t channel) (closing-closes t (channelAt t channel)) h s
+done-holds {t} ram f r s holds (reads h l) = holds
+done-holds {t} ram f r s holds (writes {channel} {offset} {bytes} h l) = write-law t ram r f holds channel offset bytes h l
+done-holds {t} ram f r s holds names = holds
+done-holds {t} ram f r s holds counts = holds
+done-holds {t} ram f r s holds (links {m} {name} h) =
+    link-law t ram r f holds (linking t m (wordOf name) (length name)) m (linking-links t m (wordOf name) (length name)) (omega arith) s
+done-holds {t} ram f r s holds tells = holds
+done-holds {t} ram f r s holds bounds = holds
+done-holds {t} ram f r s holds grants = holds
+done-holds {t} ram f r s holds shares = holds
+done-holds {t} ram f r s holds (frees {caller} {segment}) = freeing-law t (rowOf t segment) ram f holds
+done-holds {t} ram f r s holds (stores {segment} {offset} {bytes} m h) = store-law t ram r f holds (rowOf t segment) offset bytes m h
+done-holds {t} ram f r s holds (loads m h) = holds
+
+-- after a start no channel is open
+start-none : (s : State) → Started s → s .tables .opened ≡ 0
+unfolding step completed started
+start-none s z =
+    let b = z .before in
+    let passed = start-passed (b .tables) (length (b .ram)) (length (z .output)) (z .room) (z .list) (z .accepted) in
+    ap (λ (x : State). x .tables .opened) (z .left)
+    ∙ ap (λ (o : Outcome). o .tables .opened) (start-is (b .tables) (length (b .ram)) (length (z .output)) (z .room) (z .list) passed)
+
+step-holds : (s : State) (c : Call) (output : List ℕ) (h : History) → Sound s → Fields c → NoStart (event s c output) → Holds (lastWritten h) (s .tables) (s .ram)
+    → Holds (lastWritten (event s c output ∷ h)) (after s c output .tables) (after s c output .ram)
+unfolding lastWritten
+step-holds s c output h r f n holds = go (stepped s c output r f n)
+  where
+    go : Stepped s c output → Holds (lastWritten (event s c output ∷ h)) (after s c output .tables) (after s c output .ram)
+    go (refused e q) =
+        let same : Holds (lastWritten h) (after s c output .tables) (after s c output .ram) = subst (λ (x : State). Holds (lastWritten h) (x .tables) (x .ram)) (sym q) holds in
+        rw e same
+    go (done e d q) =
+        let there : Ready (after s c output .tables) (length (s .ram)) = rw (q, done-length (s .ram) r d) at (step-sound s c output r f n) in
+        rw (e, q) (done-holds (s .ram) (lastWritten h) r there holds d)
+
+-- every state of a run is sound, and every byte of its open channels is the one last written there
+pub run-holds : {P : State → Type 0} {s t : State} {h : History} → Started s → Runs P s h t → Sound t × Holds (lastWritten h) (t .tables) (t .ram)
+run-holds {s = s} z (stay _) = (start-sound s z, λ i a. absurd (not-suc-le-zero (rw (start-none s z) at a)))
+run-holds z (then {h = h} {t = t} r c output f n _) =
+    let b = run-holds z r in
+    (step-sound t c output (b .0) f n, step-holds t c output h (b .0) f n (b .1))
+
+-- a done read gives the bytes of its channel
+read-known : {t u : Tables} {output channel offset size : ℕ} → Done t output (read channel offset size) u
+    → (channelAt t channel < t .opened) × (offset + size ≤ sizeAt t (channelAt t channel))
+read-known (reads h l) = (h, l)
+
+module _ (t : State) (f : ℕ → ℕ → ℕ) (r : Sound t) (holds : Holds f (t .tables) (t .ram)) where
+  read-gives : (channel offset size : ℕ) (output : List ℕ) → granted (event t (read channel offset size) output .answer) ≡ true
+      → (i : ℕ) → i < size → getD (event t (read channel offset size) output .output) i 0 ≡ f channel (offset + i)
+  unfolding step completed outputAfter taken
+  read-gives channel offset size output e i h =
+      let u = t .tables in
+      let j = channelAt u channel in
+      let c = read channel offset size in
+      let heard-is = ready-heard u (length (t .ram)) (length output) c r in
+      let known = read-known (heard-done u (length output) (length (t .ram)) c refl (rw heard-is at e)) in
+      let walk = placeOf (u .chain) (u .room) in
+      let p = bufferAt u j + offset in
+      let n : length (lineFrom (u .chain) (u .room) (t .ram) p size) ≡ size = length-bytes walk (t .ram) p size in
+      let at : p + i ≡ bufferAt u j + (offset + i) = omega arith in
+      rw e (List·getD-append (lineFrom (u .chain) (u .room) (t .ram) p size) (drop size output) 0 i (omega arith))
+      ∙ bytes-at walk (t .ram) p size i h
+      ∙ ap (λ (x : ℕ). getD (t .ram) (walk x) 0) at
+      ∙ holds j (known .0) (offset + i) (omega (arith, known .1))
+      ∙ ap (λ (x : ℕ). f x (offset + i)) (found u (t .ram) r f holds channel (known .0))
+
+-- A read that is done after any sequence of calls since an accepted start, with no second start: each byte that it gives is the one last written
+-- there through that channel since its opening, or zero if none was.
+pub bytes-read : {h : History} {t : State} → Run h t → (channel offset size : ℕ) (output : List ℕ)
+    → granted (event t (read channel offset size) output .answer) ≡ true
+    → (i : ℕ) → i < size → getD (event t (read channel offset size) output .output) i 0 ≡ lastWritten h channel (offset + i)
+bytes-read {h} {t} r = let b = run-holds (r .started) (r .runs) in read-gives t (lastWritten h) (b .0) (b .1)
+
+-- every done read of a history gave the bytes last written before it
+abbrev pub Right : History → Type 0
+Right [] = Unit {0}
+Right (e ∷ h) =
+    ((channel offset size : ℕ) → e .call ≡ read channel offset size → granted (e .answer) ≡ true
+    → (i : ℕ) → i < size → getD (e .output) i 0 ≡ lastWritten h channel (offset + i)) × Right h
+
+right : {P : State → Type 0} {s t : State} {h : History} → Started s → Runs P s h t → Right h
+right z (stay _) = tt
+right z (then {h = h} {t = t} r c output f n _) =
+    let b = run-holds z r in (
+      λ channel offset size q.
+          subst (λ (x : Call). granted (event t x output .answer) ≡ true → (i : ℕ) → i < size → getD (event t x output .output) i 0 ≡ lastWritten h channel (offset + i))
+          (sym q) (read-gives t (lastWritten h) (b .0) (b .1) channel offset size output),
+      right z r,
+    )
+
+-- The same of every read of the sequence itself, over nothing but its calls and replies.
+pub reads-right : {h : History} {t : State} → Run h t → Right h
+reads-right r = right (r .started) (r .runs)

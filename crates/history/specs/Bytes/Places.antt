@@ -1,0 +1,148 @@
+-- The line's places: the chain's first segments stay where it grows or shrinks, and no place of the line is the user's.
+use mathlib.Core.Path.{_≡_, refl, sym, _∙_}
+use mathlib.Core.Bool.{true, _||_, false≢true}
+use mathlib.Core.List.{List}
+use Prim.Native.Nat.{ℕ, zero, suc, _+_, _-_, _*_, _≤_, _<_}
+use native.Mathlib.Decide.{decLe, decLt, ℕ-discrete}
+use native.Mathlib.Omega.{arith}
+use borrow.Author.Tests.{eq-eqb, ne-eqb, ltb-true}
+use lib.Dec.{eqb, ltb}
+use lib.Seq.{getD-set-other}
+use Rattle.rows.specs.Lists.{at, and-left, and-right}
+use Rattle.rows.specs.Classes.{USER, SHARED, held?}
+use Rattle.rows.specs.Sizes.{chainLength, edgeAt, Ends, ends, length-high, length-some, edge-low}
+use Rattle.line.specs.Line.{linkOf, offsetOf, placeOf}
+use Rattle.line.proofs.Places.{link-low, link-high, offset-low, offset-high, offset-lt}
+use Rattle.kernel.specs.Definition.Tables.{SEGMENT, classAt}
+use Rattle.kernel.specs.Definition.Line.{totalOf, oneMore, grown, oneLess, shrunk}
+use Rattle.kernel.specs.Definition.Segments.{mayReach, reachOf}
+use Rattle.kernel.specs.Definition.Good.{Good}
+use Rattle.kernel.specs.Definition.Step.{segmentAt}
+use Rattle.kernel.specs.Laws.Facts.{chain-exactly}
+use Rattle.kernel.specs.declared.Tables.{Tables}
+
+-- a chain that grew, and one that shrank by k
+pub grown-chain : (k : ℕ) (t : Tables) (i : ℕ) → i < t .held → at (grown k t .chain) i ≡ at (t .chain) i
+unfolding grown oneMore
+grown-chain zero t i h = refl
+grown-chain (suc k) t i h = grown-chain k (oneMore t) i (omega arith) ∙ getD-set-other (t .chain) (t .held) i _ 0 (λ e. omega arith)
+
+pub shrunk-chain : (k : ℕ) (t : Tables) (i : ℕ) → i + k < t .held → at (shrunk k t .chain) i ≡ at (t .chain) i
+unfolding shrunk oneLess
+shrunk-chain zero t i h = refl
+shrunk-chain (suc k) t i h = shrunk-chain k (oneLess t) i (omega arith) ∙ getD-set-other (t .chain) (t .held - 1) i 0 0 (λ e. omega arith)
+
+-- a position lies at the same place of two chains that hold its segment alike
+pub place-same : (chain other : List ℕ) (room p : ℕ) → at chain (linkOf room p) ≡ at other (linkOf room p) → placeOf chain room p ≡ placeOf other room p
+unfolding placeOf
+place-same chain other room p e = rw e
+
+-- a line's position is in one of the segments that the line takes
+pub link-short : (room total p : ℕ) → p < total → linkOf room p < chainLength room total
+link-short room total p h =
+    elim (decLt p room) [
+      | yes l ↦ omega (arith, link-low room p l, length-some room total)
+      | no l ↦ let g : room ≤ p = omega arith in omega (arith, link-high room p g, length-high room total (omega arith))
+    ]
+
+-- and in the last of them no lower than the EXOS boundary
+edge-under : (room total p : ℕ) → p < total → linkOf room p + 1 ≡ chainLength room total → edgeAt room total ≤ offsetOf room p
+edge-under room total p h e =
+    elim (decLt p room) [
+      | yes l ↦ elim (decLe total room) [
+        | yes q ↦ omega (arith, offset-low room p l, edge-low room total q)
+        | no q ↦ absurd (omega (arith, link-low room p l, length-high room total (omega arith)))
+      ]
+      | no l ↦
+          let g : room ≤ p = omega arith in
+          let x : Ends room total (chainLength room total - 1) (edgeAt room total) = ends room total (omega arith) in
+          omega (arith, link-high room p g, offset-high room p g, x .sum)
+    ]
+
+edge-small : (room total : ℕ) → room < 16384 → edgeAt room total < 16384
+edge-small room total h =
+    elim (decLe total room) [
+      | yes q ↦ omega (arith, edge-low room total q)
+      | no q ↦ let x : Ends room total (chainLength room total - 1) (edgeAt room total) = ends room total (omega arith) in x .top
+    ]
+
+-- "the page zero segment and user segments up to 16,384, a shared one up to the user boundary": an offset of the segment in this row is the user's
+pub data Users (t : Tables) (row offset : ℕ) : Type 0 where
+  page-zero : row ≡ 0 → offset < SEGMENT → Users t row offset
+  own : row < t .segments → classAt t row ≡ USER → offset < SEGMENT → Users t row offset
+  shared : row < t .segments → classAt t row ≡ SHARED → offset < t .user → Users t row offset
+
+-- what a store or load may reach is the user's
+pub reach-users : (t : Tables) (row offset : ℕ) → mayReach t row ≡ true → offset < reachOf t row → Users t row offset
+reach-users t row offset m h =
+    let known : row < t .segments = ltb-true _ _ (and-left (ltb row (t .segments)) _ m) in
+    let which : eqb row 0 || eqb (classAt t row) USER || eqb (classAt t row) SHARED ≡ true = and-right (ltb row (t .segments)) _ m in
+    elim (ℕ-discrete (classAt t row) SHARED) [
+      | yes q ↦ shared known q (rw (eq-eqb _ _ q) at h)
+      | no q ↦
+          let below : offset < SEGMENT = rw (ne-eqb _ _ q) at h in
+          elim (ℕ-discrete row 0) [
+            | yes z ↦ page-zero z below
+            | no z ↦ elim (ℕ-discrete (classAt t row) USER) [
+              | yes w ↦ own known w below
+              | no w ↦ absurd (false≢true (rw (ne-eqb _ _ q, ne-eqb _ _ z, ne-eqb _ _ w) at which))
+            ]
+          ]
+    ]
+
+module _ (t : Tables) (g : Good t) where
+  small : t .room < 16384
+  small = omega (arith, g .room .most, g .room .top)
+
+  -- a place of the chain's segment i that is in a row of another class than system and shared
+  held-not : (i row : ℕ) → i < t .held → at (t .chain) i ≡ row → held? (classAt t row) ≡ 0 → ⊥
+  held-not i row h e z = omega (arith, (rw e at (chain-exactly t g .only i h)))
+
+  once : (i j : ℕ) → i < t .held → j < t .held → at (t .chain) i ≡ at (t .chain) j → i ≡ j
+  once i j h k e =
+      elim (decLt i j) [
+        | yes a ↦ absurd (chain-exactly t g .once i j a k e)
+        | no a ↦ elim (decLt j i) [ yes b ↦ absurd (chain-exactly t g .once j i b h (sym e)) | no b ↦ omega arith ]
+      ]
+
+  pub users-small : (row offset : ℕ) → Users t row offset → offset < 16384
+  users-small row offset (page-zero z h) = h
+  users-small row offset (own k c h) = h
+  users-small row offset (shared k c h) = omega (arith, g .user .most, edge-small (t .room) (totalOf t) small)
+
+  -- a store or load reaches no further than its segment
+  pub reach-small : (row : ℕ) → reachOf t row ≤ 16384
+  reach-small row =
+      elim (ℕ-discrete (classAt t row) SHARED) [
+        | yes q ↦ rw (eq-eqb _ _ q) (omega (arith, g .user .most, edge-small (t .room) (totalOf t) small))
+        | no q ↦ rw (ne-eqb _ _ q) (omega arith)
+      ]
+
+  -- a chain's segment that has a place of the user's is the last, and shared
+  users-last : (row offset i : ℕ) → Users t row offset → i < t .held → at (t .chain) i ≡ row → (i + 1 ≡ t .held) × (offset < t .user)
+  users-last row offset i (page-zero z h) l e = absurd (held-not i row l e (rw (z, g .classes .page)))
+  users-last row offset i (own k c h) l e = absurd (held-not i row l e (rw c))
+  users-last row offset i (shared k c h) l e =
+      let m = g .chain .holds in
+      let last : i ≡ t .held - 1 = once i (t .held - 1) l (omega arith) (e ∙ sym (g .chain .last row k c)) in
+      (omega arith, h)
+
+  -- no place of the line is the user's
+  pub off-line : (row offset : ℕ) → Users t row offset → (p : ℕ) → p < totalOf t → segmentAt row + offset ≡ placeOf (t .chain) (t .room) p → ⊥
+  unfolding placeOf
+  off-line row offset u p h e =
+      let so = users-small row offset u in
+      let sp = offset-lt (t .room) p (omega (arith, small)) in
+      let same : at (t .chain) (linkOf (t .room) p) ≡ row = omega arith in
+      let l : linkOf (t .room) p < t .held = rw (g .line) (link-short (t .room) (totalOf t) p h) in
+      let last = users-last row offset (linkOf (t .room) p) u l same in
+      omega (arith, edge-under (t .room) (totalOf t) p h (last .0 ∙ g .line), last .1, g .user .most)
+
+  -- nor is one of segment 255 from R on
+  pub off-room : (row offset : ℕ) → Users t row offset → (o : ℕ) → t .room ≤ o → o < 16384 → segmentAt row + offset ≡ at (t .chain) 0 * 16384 + o → ⊥
+  off-room row offset u o h l e =
+      let so = users-small row offset u in
+      let same : at (t .chain) 0 ≡ row = omega arith in
+      let last = users-last row offset 0 u (g .chain .holds) same in
+      let low : totalOf t ≤ t .room = elim (decLe (totalOf t) (t .room)) [ yes q ↦ q | no q ↦ absurd (omega (arith, last .0, g .line, length-high (t .room) (totalOf t) (omega arith))) ] in
+      omega (arith, last .1, g .user .most, edge-low (t .room) (totalOf t) low)

@@ -1,0 +1,120 @@
+-- One step: a done call is known by its kind, the RAM keeps its length, and good tables with RAM of their size stay so.
+use mathlib.Core.Path.{_≡_, refl, sym, subst, _∙_}
+use mathlib.Core.Bool.{Bool, true, false, cond, _&&_, _||_, false≢true}
+use mathlib.Core.List.{List, _++_}
+use Prim.Native.Nat.{ℕ, _+_, _-_, _≤_, _<_}
+use native.Mathlib.Omega.{arith}
+use borrow.Author.Tests.{ltb-true}
+use lib.Dec.{ltb}
+use lib.ListN.{length, take, drop, replicate, length-append, length-take, length-drop, length-replicate}
+use Rattle.rows.specs.Lists.{and-left}
+use Rattle.line.specs.Line.{placeOf, putLine, opened, closed, linked}
+use Rattle.line.specs.Ram.{putAt}
+use Rattle.line.proofs.Walks.{length-put}
+use Rattle.kernel.specs.Definition.Tables.{rowOf}
+use Rattle.kernel.specs.Definition.Line.{totalOf}
+use Rattle.kernel.specs.Definition.Reset.{bit4, bit5}
+use Rattle.kernel.specs.Definition.Segments.{mayReach, reachOf}
+use Rattle.kernel.specs.Definition.Answers.{granted}
+use Rattle.kernel.specs.Definition.Calls.{Call, isStart}
+use Rattle.kernel.specs.Definition.Step.{segmentAt, ramAfter, completed, step}
+use Rattle.kernel.specs.Laws.Fields.{Fields}
+use Rattle.kernel.specs.Laws.Ready.{Ready, ready-heard, decided-ready, start-ready}
+use Rattle.kernel.specs.declared.Tables.{Tables}
+use Rattle.history.specs.Bytes.Runs.{State, after, event, Started, NoStart}
+use Rattle.history.specs.Bytes.Done.{Done, resets, opens, closes, reads, writes, names, counts, links, tells, bounds, grants, shares, frees, stores, loads, heard-done}
+use Rattle.history.specs.Bytes.Refused.{refused-stays}
+use Rattle.history.specs.Bytes.Places.{reach-small}
+
+-- a state with good tables, and RAM of their size
+abbrev pub Sound : State → Type 0
+Sound s = Ready (s .tables) (length (s .ram))
+
+-- the RAM keeps its length
+pub store-fits : (t : Tables) (ram : List ℕ) (row offset size : ℕ) → Ready t (length ram) → mayReach t row ≡ true → offset + size ≤ reachOf t row
+    → segmentAt row + offset + size ≤ length ram
+store-fits t ram row offset size r m h =
+    let known : row < t .segments = ltb-true _ _ (and-left (ltb row (t .segments)) _ m) in
+    omega (arith, reach-small t (r .good) row, r .size)
+
+length-put-at : (ram : List ℕ) (here : ℕ) (xs : List ℕ) → here + length xs ≤ length ram → length (putAt ram here xs) ≡ length ram
+unfolding putAt
+length-put-at ram here xs h =
+    omega (
+      arith,
+      length-append (take here ram) (xs ++ drop (here + length xs) ram),
+      length-append xs (drop (here + length xs) ram),
+      length-take here ram,
+      length-drop (here + length xs) ram,
+    )
+
+length-reset : (t : Tables) (ram : List ℕ) (four five : Bool)
+    → length (let emptied = cond (four || five) (putLine (t .chain) (t .room) ram 0 (replicate (totalOf t) 0)) ram in
+    cond five (putLine (t .chain) (t .cold) emptied 0 (replicate (t .cold - t .room) 0)) emptied) ≡ length ram
+length-reset t ram true true = length-put (placeOf (t .chain) (t .cold)) _ _ 0 ∙ length-put (placeOf (t .chain) (t .room)) _ ram 0
+length-reset t ram true false = length-put (placeOf (t .chain) (t .room)) _ ram 0
+length-reset t ram false true = length-put (placeOf (t .chain) (t .cold)) _ _ 0 ∙ length-put (placeOf (t .chain) (t .room)) _ ram 0
+length-reset t ram false false = refl
+
+pub done-length : {t u : Tables} {output : ℕ} {c : Call} (ram : List ℕ) → Ready t (length ram) → Done t output c u → length (ramAfter t u ram c) ≡ length ram
+unfolding ramAfter opened closed linked
+done-length {t} ram r (resets {flags}) = length-reset t ram (bit4 flags) (bit5 flags)
+done-length ram r (opens c e h) = length-put (placeOf _ _) _ ram _
+done-length ram r (closes h) = length-put (placeOf _ _) _ ram _
+done-length ram r (reads h l) = refl
+done-length ram r (writes h l) = length-put (placeOf _ _) _ ram _
+done-length ram r names = refl
+done-length ram r counts = refl
+done-length ram r (links h) = length-put (placeOf _ _) _ _ 0 ∙ length-put (placeOf _ _) _ ram 0
+done-length ram r tells = refl
+done-length ram r bounds = refl
+done-length ram r grants = refl
+done-length ram r shares = refl
+done-length ram r frees = refl
+done-length {t} ram r (stores {segment} {offset} {bytes} m h) =
+    length-put-at ram (segmentAt (rowOf t segment) + offset) bytes (store-fits t ram (rowOf t segment) offset (length bytes) r m h)
+done-length ram r (loads m h) = refl
+
+tables-ready : (s : State) (c : Call) (output : List ℕ) → Sound s → Fields c → Ready (after s c output .tables) (length (s .ram))
+unfolding step completed
+tables-ready s c output r f = decided-ready (s .tables) (length (s .ram)) (length output) c r f
+
+-- what is known of a call, no accepted start: it is refused and leaves all as it was, or it is done
+pub data Stepped (s : State) (c : Call) (output : List ℕ) : Type 0 where
+  refused : granted (event s c output .answer) ≡ false → after s c output ≡ s → Stepped s c output
+  done : granted (event s c output .answer) ≡ true → Done (s .tables) (length output) c (after s c output .tables)
+      → after s c output .ram ≡ ramAfter (s .tables) (after s c output .tables) (s .ram) c → Stepped s c output
+
+no-start : (a b : Bool) → a && b ≡ false → b ≡ true → a ≡ false
+no-start true b f e = absurd (false≢true (sym f ∙ e))
+no-start false b f e = refl
+
+pub stepped : (s : State) (c : Call) (output : List ℕ) → Sound s → Fields c → NoStart (event s c output) → Stepped s c output
+unfolding step completed
+stepped s c output r f n = go (granted (event s c output .answer)) refl
+  where
+    go : (b : Bool) → granted (event s c output .answer) ≡ b → Stepped s c output
+    go false e =
+        let same : after s c output .tables ≡ s .tables = refused-stays (s .tables) (length (s .ram)) (length output) c f e in
+        refused e (rw (e, same))
+    go true e =
+        let heard-is = ready-heard (s .tables) (length (s .ram)) (length output) c r in
+        done e
+        (rw heard-is
+        (heard-done (s .tables) (length output) (length (s .ram)) c (no-start (isStart c) _ n e) (rw heard-is at e)))
+        (rw e)
+
+-- "each made on the tables and RAM the last one left": they stay good, and of one size
+pub step-sound : (s : State) (c : Call) (output : List ℕ) → Sound s → Fields c → NoStart (event s c output) → Sound (after s c output)
+step-sound s c output r f n = go (stepped s c output r f n)
+  where
+    go : Stepped s c output → Sound (after s c output)
+    go (refused e q) = subst Sound (sym q) r
+    go (done e d q) = rw (q, done-length (s .ram) r d) (tables-ready s c output r f)
+
+pub start-sound : (s : State) → Started s → Sound s
+unfolding step completed ramAfter
+start-sound s z =
+    let b = z .before in
+    let e = z .accepted in
+    rw (z .left, e, length-replicate {A = ℕ} (length (b .ram)) 0) (start-ready (b .tables) (length (b .ram)) (length (z .output)) (z .room) (z .list) e)

@@ -1,0 +1,166 @@
+-- What each done call makes of a byte whose place is the user's before and after it.
+use mathlib.Core.Path.{_≡_, refl, sym, ap, _∙_}
+use mathlib.Core.Bool.{Bool, true, false, cond, _||_}
+use mathlib.Core.List.{List, _++_}
+use Prim.Native.Nat.{ℕ, _+_, _-_, _≤_, _<_}
+use native.Mathlib.Decide.{decLt, ℕ-discrete}
+use native.Mathlib.Omega.{arith}
+use borrow.Author.Tests.{eq-eqb, ne-eqb, ltb-true}
+use lib.Dec.{eqb, ltb}
+use lib.ListN.{length, getD, take, replicate, length-append, length-replicate, length-take}
+use Rattle.names.specs.Words.{wordOf}
+use Rattle.rows.specs.Lists.{at, and-left}
+use Rattle.rows.specs.Channels.{noChannel}
+use Rattle.rows.specs.Count.{first-found}
+use Rattle.rows.specs.declared.Channel.{Channel}
+use Rattle.line.specs.Line.{placeOf, putLine, headingOf, opened, linked, Chain}
+use Rattle.line.specs.Ram.{putAt}
+use Rattle.line.proofs.Walks.{put-elsewhere}
+use Rattle.line.proofs.Makes.{length-heading}
+use Rattle.line.proofs.Places.{place-low}
+use Rattle.line.proofs.PointsClosed.{closed-points}
+use Rattle.line.proofs.PointsLinked.{linked-points}
+use Rattle.kernel.specs.Definition.Tables.{rowOf, channelAt}
+use Rattle.kernel.specs.Definition.Line.{totalOf, recordAt, sizeAt, bufferAt, opening}
+use Rattle.kernel.specs.Definition.Segments.{mayReach, reachOf}
+use Rattle.kernel.specs.Definition.Reset.{bit4, bit5}
+use Rattle.kernel.specs.Definition.Calls.{Call}
+use Rattle.kernel.specs.Definition.Step.{ramOpened, ramClosed, segmentAt, ramAfter}
+use Rattle.kernel.specs.Laws.Chains.{good-chain, chain-shift}
+use Rattle.kernel.specs.Laws.Records.{record-within}
+use Rattle.kernel.specs.Laws.Ready.{Ready}
+use Rattle.kernel.specs.declared.Tables.{Tables}
+use Rattle.history.specs.Bytes.Runs.{patched, stored}
+use Rattle.history.specs.Bytes.Done.{Done, resets, opens, closes, reads, writes, names, counts, links, tells, bounds, grants, shares, frees, stores, loads}
+use Rattle.history.specs.Bytes.Places.{Users, off-line, off-room, users-small, reach-small}
+use Rattle.history.specs.Bytes.Changes.{Opens, opens-total, opening-opens, Links, linking-links}
+use Rattle.history.specs.Bytes.Buffers.{patched-in, patched-low, patched-high, put-at-is}
+use Rattle.history.specs.Bytes.Steps.{store-fits}
+
+-- the offset taken with the segment's start or without
+patched-shift : (start offset : ℕ) (bytes : List ℕ) (k old : ℕ) → patched (start + offset) bytes (start + k) old ≡ patched offset bytes k old
+patched-shift start offset bytes k old =
+    elim (decLt k offset) [
+      | yes l ↦ patched-low (start + offset) bytes (start + k) old (omega arith) ∙ sym (patched-low offset bytes k old l)
+      | no l ↦ elim (decLt k (offset + length bytes)) [
+        | yes q ↦
+            let e : start + k - (start + offset) ≡ k - offset = omega arith in
+            patched-in (start + offset) bytes (start + k) old (omega arith) (omega arith)
+            ∙ ap (λ (x : ℕ). getD bytes x 0) e
+            ∙ sym (patched-in offset bytes k old (omega arith) q)
+        | no q ↦ patched-high (start + offset) bytes (start + k) old (omega arith) ∙ sym (patched-high offset bytes k old (omega arith))
+      ]
+    ]
+
+-- two segments that are listed are in two rows
+one-segment : (t : Tables) (r : ℕ) → Ready t r → (a b : ℕ) → rowOf t a ≡ rowOf t b → rowOf t a < t .segments → a ≡ b
+one-segment t n r a b e h =
+    let xs = take (t .segments) (t .list) in
+    let l : length xs ≡ t .segments = omega (arith, length-take (t .segments) (t .list), r .good .sized .list, r .good .list .most) in
+    sym (first-found a xs (omega arith)) ∙ ap (λ (i : ℕ). getD xs i 0) e ∙ first-found b xs (omega arith)
+
+-- t the tables before the call, u those after it
+module _ (t u : Tables) (ram : List ℕ) (r : Ready t (length ram)) (s : Ready u (length ram)) (row offset : ℕ) (before : Users t row offset) (later : Users u row offset) where
+  -- the place, and its byte as it was
+  abbrev x : ℕ
+  x = segmentAt row + offset
+
+  abbrev old : ℕ
+  old = getD ram x 0
+
+  write-user : (p : ℕ) (bytes : List ℕ) → p + length bytes ≤ totalOf t → getD (putLine (t .chain) (t .room) ram p bytes) x 0 ≡ old
+  write-user p bytes h = put-elsewhere (placeOf (t .chain) (t .room)) bytes ram p x (λ k l e. off-line t (r .good) row offset before (p + k) (omega arith) e)
+
+  open-user : (c : Channel) → Opens t u c → t .opened < 32 → getD (ramOpened t u ram) x 0 ≡ old
+  unfolding opened
+  open-user c o few =
+      let d = getD (u .channels) (t .opened) noChannel in
+      let heading = headingOf (16 + d .n) (d .number) (d .device) (d .unit) in
+      let total = opens-total (r .good) o few in
+      let n : length (heading ++ replicate (d .n) 0) ≡ 16 + d .n =
+      omega (arith, length-append heading (replicate (d .n) 0), length-heading (16 + d .n) (d .number) (d .device) (d .unit), length-replicate {A = ℕ} (d .n) 0) in
+      put-elsewhere (placeOf (u .chain) (t .room)) (heading ++ replicate (d .n) 0) ram (totalOf t) x
+      (λ k l e. off-line u (s .good) row offset later (totalOf t + k) (omega arith) (e ∙ ap (λ (y : ℕ). placeOf (u .chain) y (totalOf t + k)) (sym (o .room))))
+
+  close-user : (j : ℕ) → j < t .opened → getD (ramClosed t ram j) x 0 ≡ old
+  close-user j h =
+      closed-points (t .chain) (t .room) ram (recordAt t j) (16 + sizeAt t j) (totalOf t) (good-chain t (length ram) (r .good) (r .size)) (record-within t j (r .good) h) .kept x
+      (λ p _ l e. off-line t (r .good) row offset before p l e)
+
+  link-user : (m : ℕ) → Links t u m → m ≤ t .room → getD (linked (u .chain) (t .room) m ram (totalOf t)) x 0 ≡ old
+  link-user m o h =
+      let total : totalOf u ≡ totalOf t = rw (o .opened, o .channels) in
+      let small : t .room ≤ 16384 = omega (arith, r .good .room .most, r .good .room .top) in
+      let chain : Chain (u .chain) (t .room) (totalOf t + m) (length ram) =
+      chain-shift (u .chain) (t .room) m (totalOf t) (length ram) h small (rw (total, o .room) at (good-chain u (length ram) (s .good) (s .size))) in
+      linked-points (u .chain) (t .room) m ram (totalOf t) chain h .kept x
+      (λ p l e. off-line u (s .good) row offset later p (omega arith) (e ∙ ap (λ (y : ℕ). placeOf (u .chain) y p) (sym (o .room))))
+      (λ p l k e. off-room u (s .good) row offset later p (omega (arith, o .room)) (omega arith) e)
+
+  -- "closes all channels", and "restores the cold R, the RAM gained becoming zero"
+  empty-user : getD (putLine (t .chain) (t .room) ram 0 (replicate (totalOf t) 0)) x 0 ≡ old
+  empty-user = write-user 0 (replicate (totalOf t) 0) (omega (arith, length-replicate {A = ℕ} (totalOf t) 0))
+
+  gain-user : (emptied : List ℕ) → getD (putLine (t .chain) (t .cold) emptied 0 (replicate (t .cold - t .room) 0)) x 0 ≡ getD emptied x 0
+  gain-user emptied =
+      let n = length-replicate {A = ℕ} (t .cold - t .room) 0 in
+      let top = r .good .room .top in
+      put-elsewhere (placeOf (t .chain) (t .cold)) (replicate (t .cold - t .room) 0) emptied 0 x
+      (λ k l e. off-room t (r .good) row offset before (t .cold - 1 - (0 + k)) (omega arith) (omega arith) (e ∙ place-low (t .chain) (t .cold) (0 + k) (omega arith)))
+
+  flags-user : (four five : Bool)
+      → getD (let emptied = cond (four || five) (putLine (t .chain) (t .room) ram 0 (replicate (totalOf t) 0)) ram in
+      cond five (putLine (t .chain) (t .cold) emptied 0 (replicate (t .cold - t .room) 0)) emptied) x 0 ≡ old
+  flags-user true true = gain-user _ ∙ empty-user
+  flags-user true false = empty-user
+  flags-user false true = gain-user _ ∙ empty-user
+  flags-user false false = refl
+
+-- a store puts its bytes there, or elsewhere
+store-user : (t : Tables) (ram : List ℕ) → Ready t (length ram) → (a segment o offset : ℕ) (bytes : List ℕ)
+    → Users t (rowOf t segment) offset → mayReach t (rowOf t a) ≡ true → o + length bytes ≤ reachOf t (rowOf t a)
+    → getD (putAt ram (segmentAt (rowOf t a) + o) bytes) (segmentAt (rowOf t segment) + offset) 0
+    ≡ cond (eqb a segment) (patched o bytes offset (getD ram (segmentAt (rowOf t segment) + offset) 0)) (getD ram (segmentAt (rowOf t segment) + offset) 0)
+store-user t ram r a segment o offset bytes user m h =
+    let y = segmentAt (rowOf t a) + o in
+    let x = segmentAt (rowOf t segment) + offset in
+    let fits : y + length bytes ≤ length ram = store-fits t ram (rowOf t a) o (length bytes) r m h in
+    put-at-is ram y bytes x fits
+    ∙ elim (ℕ-discrete a segment) [
+      | yes q ↦ rw (eq-eqb a segment q) (rw q (patched-shift (segmentAt (rowOf t segment)) o bytes offset (getD ram x 0)))
+      | no q ↦
+          let known : rowOf t a < t .segments = ltb-true _ _ (and-left (ltb (rowOf t a) (t .segments)) _ m) in
+          let apart : rowOf t a ≡ rowOf t segment → ⊥ = λ e. q (one-segment t (length ram) r a segment e known) in
+          let small = users-small t (r .good) (rowOf t segment) offset user in
+          let reach = reach-small t (r .good) (rowOf t a) in
+          rw (ne-eqb a segment q)
+          (elim (decLt (rowOf t segment) (rowOf t a)) [
+            | yes l ↦ patched-low y bytes x (getD ram x 0) (omega arith)
+            | no l ↦
+                let more : rowOf t a < rowOf t segment = elim (decLt (rowOf t a) (rowOf t segment)) [ yes w ↦ w | no w ↦ absurd (apart (omega arith)) ] in
+                patched-high y bytes x (getD ram x 0) (omega arith)
+          ])
+    ]
+
+-- every done call makes of the byte what `stored` says
+pub done-user : {t u : Tables} {output : ℕ} {c : Call} (ram : List ℕ) → Ready t (length ram) → Ready u (length ram) → (segment offset : ℕ)
+    → Users t (rowOf t segment) offset → Users u (rowOf t segment) offset → Done t output c u
+    → getD (ramAfter t u ram c) (segmentAt (rowOf t segment) + offset) 0 ≡ stored c segment offset (getD ram (segmentAt (rowOf t segment) + offset) 0)
+unfolding ramAfter stored
+done-user {t} {u} ram r s segment offset b l (resets {flags}) = flags-user t _ ram r s (rowOf t segment) offset b l (bit4 flags) (bit5 flags)
+done-user {t} {u} ram r s segment offset b l (opens c e few) = open-user t (opening t c) ram r s (rowOf t segment) offset b l c (opening-opens t c) few
+done-user {t} {u} ram r s segment offset b l (closes {channel} h) = close-user t _ ram r s (rowOf t segment) offset b l (channelAt t channel) h
+done-user ram r s segment offset b l (reads h k) = refl
+done-user {t} {u} ram r s segment offset b l (writes {channel} {offset = o} {bytes} h k) =
+    write-user t t ram r s (rowOf t segment) offset b l (bufferAt t (channelAt t channel) + o) bytes (omega (arith, record-within t (channelAt t channel) (r .good) h))
+done-user ram r s segment offset b l names = refl
+done-user ram r s segment offset b l counts = refl
+done-user {t} {u} ram r s segment offset b l (links {m} {name} h) =
+    link-user t _ ram r s (rowOf t segment) offset b l m (linking-links t m (wordOf name) (length name)) (omega arith)
+done-user ram r s segment offset b l tells = refl
+done-user ram r s segment offset b l bounds = refl
+done-user ram r s segment offset b l grants = refl
+done-user ram r s segment offset b l shares = refl
+done-user ram r s segment offset b l frees = refl
+done-user {t} {u} ram r s segment offset b l (stores {segment = a} {offset = o} {bytes} m h) = store-user t ram r a segment o offset bytes b m h
+done-user ram r s segment offset b l (loads m h) = refl

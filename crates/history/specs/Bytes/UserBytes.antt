@@ -1,0 +1,89 @@
+-- "A user's byte changes only by the user's store while that place stays the user's."
+use mathlib.Core.Path.{_≡_, refl, ap, subst, _∙_}
+use mathlib.Core.List.{List, _∷_}
+use mathlib.Core.Bool.{true}
+use Prim.Native.Nat.{ℕ, _+_, _≤_, _<_}
+use native.Mathlib.Omega.{arith}
+use lib.ListN.{length, getD, take, drop, length-take, length-drop, List·getD-append}
+use lib.Seq.{getD-take, getD-drop}
+use Rattle.line.specs.Ram.{taken}
+use Rattle.kernel.specs.Definition.Tables.{rowOf}
+use Rattle.kernel.specs.Definition.Segments.{mayReach, reachOf}
+use Rattle.kernel.specs.Definition.Answers.{granted}
+use Rattle.kernel.specs.Definition.Calls.{Call, load}
+use Rattle.kernel.specs.Definition.Step.{segmentAt, outputAfter, completed, step}
+use Rattle.kernel.specs.Laws.Fields.{Fields}
+use Rattle.kernel.specs.Laws.Ready.{Ready, ready-heard}
+use Rattle.kernel.specs.declared.Tables.{Tables}
+use Rattle.history.specs.Bytes.Runs.{State, History, after, event, NoStart, Runs, stay, then, Run, stored, lastStored}
+use Rattle.history.specs.Bytes.Done.{Done, loads, heard-done}
+use Rattle.history.specs.Bytes.Places.{Users, reach-users}
+use Rattle.history.specs.Bytes.Changes.{done-listed}
+use Rattle.history.specs.Bytes.Steps.{Sound, store-fits, done-length, Stepped, refused, done, stepped, step-sound}
+use Rattle.history.specs.Bytes.BytesRead.{run-holds}
+use Rattle.history.specs.Bytes.Stores.{done-user}
+
+-- an offset of a segment is the user's, and the byte there
+abbrev pub UsersIn : (segment offset : ℕ) → State → Type 0
+UsersIn segment offset s = Users (s .tables) (rowOf (s .tables) segment) offset
+
+abbrev pub userByte : State → (segment offset : ℕ) → ℕ
+userByte s segment offset = getD (s .ram) (segmentAt (rowOf (s .tables) segment) + offset) 0
+
+module _ (segment offset : ℕ) where
+  step-user : (s : State) (c : Call) (output : List ℕ) (h : History) (first : ℕ) → Sound s → Fields c → NoStart (event s c output)
+      → UsersIn segment offset s → UsersIn segment offset (after s c output) → userByte s segment offset ≡ lastStored h segment offset first
+      → userByte (after s c output) segment offset ≡ lastStored (event s c output ∷ h) segment offset first
+  unfolding lastStored
+  step-user s c output h first r f n b l old = go (stepped s c output r f n)
+    where
+      go : Stepped s c output → userByte (after s c output) segment offset ≡ lastStored (event s c output ∷ h) segment offset first
+      go (refused e q) = rw e (ap (λ (x : State). userByte x segment offset) q ∙ old)
+      go (done e d q) =
+          let there : Ready (after s c output .tables) (length (s .ram)) = rw (q, done-length (s .ram) r d) at (step-sound s c output r f n) in
+          let kept = done-listed d in
+          let row : rowOf (after s c output .tables) segment ≡ rowOf (s .tables) segment = rw (kept .segments, kept .list) in
+          rw (e, row, q)
+          (done-user (s .ram) r there segment offset b (subst (λ (x : ℕ). Users (after s c output .tables) x offset) row l) d
+          ∙ ap (stored c segment offset) old)
+
+  user-runs : {s t : State} {h : History} → Sound s → Runs (UsersIn segment offset) s h t
+      → Sound t × UsersIn segment offset t × (userByte t segment offset ≡ lastStored h segment offset (userByte s segment offset))
+  unfolding lastStored
+  user-runs r (stay u) = (r, u, refl)
+  user-runs {s = s} r (then {h = h} {t = t} w c output f n u) =
+      let b = user-runs r w in
+      (step-sound t c output (b .0) f n, u, step-user t c output h (userByte s segment offset) (b .0) f n (b .1) u (b .2))
+
+-- From any state s of a sequence of calls since an accepted start, over any further calls with no second start through which the place stays the user's:
+-- the byte there is the one that the user last stored there since, or the one that it was.
+pub user-bytes : {h : History} {s : State} → Run h s → (segment offset : ℕ) {j : History} {t : State} → Runs (UsersIn segment offset) s j t
+    → userByte t segment offset ≡ lastStored j segment offset (userByte s segment offset)
+user-bytes r segment offset w = user-runs segment offset (run-holds (r .started) (r .runs) .0) w .2
+
+-- What a done load gives: bytes that are the user's, as they lie.
+load-known : {t u : Tables} {output segment offset size : ℕ} → Done t output (load segment offset size) u
+    → (mayReach t (rowOf t segment) ≡ true) × (offset + size ≤ reachOf t (rowOf t segment))
+load-known (loads m h) = (m, h)
+
+pub user-loads : {h : History} {s : State} → Run h s → (segment offset size : ℕ) (output : List ℕ)
+    → granted (event s (load segment offset size) output .answer) ≡ true
+    → (i : ℕ) → i < size → UsersIn segment (offset + i) s × (getD (event s (load segment offset size) output .output) i 0 ≡ userByte s segment (offset + i))
+unfolding step completed outputAfter taken
+user-loads {s = s} run segment offset size output e i l =
+    let r = run-holds (run .started) (run .runs) .0 in
+    let t = s .tables in
+    let row = rowOf t segment in
+    let c = load segment offset size in
+    let heard-is = ready-heard t (length (s .ram)) (length output) c r in
+    let known = load-known (heard-done t (length output) (length (s .ram)) c refl (rw heard-is at e)) in
+    let fits = store-fits t (s .ram) row offset size r (known .0) (known .1) in
+    let xs = drop (segmentAt row + offset) (s .ram) in
+    let n : length (take size xs) ≡ size = omega (arith, length-take size xs, length-drop (segmentAt row + offset) (s .ram)) in
+    let at : segmentAt row + offset + i ≡ segmentAt row + (offset + i) = omega arith in (
+      reach-users t row (offset + i) (known .0) (omega (arith, known .1)),
+      rw e (List·getD-append (take size xs) (drop size output) 0 i (omega arith))
+          ∙ getD-take size xs i 0 l
+          ∙ getD-drop (segmentAt row + offset) (s .ram) i 0
+          ∙ ap (λ (x : ℕ). getD (s .ram) x 0) at,
+    )

@@ -1,0 +1,1 @@
+// The listing: a log of event records to text.
