@@ -47,11 +47,6 @@ abbrev pub tally : ℕ → List ℕ → ℕ
 tally k [] = 0
 tally k (x ∷ xs) = cond (eqb x k) 1 0 + tally k xs
 
--- all the tests of a list pass
-abbrev pub allOf : List Bool → Bool
-allOf [] = true
-allOf (b ∷ bs) = b && allOf bs
-
 -- the test passes at each number below n
 abbrev pub below : ℕ → (ℕ → Bool) → Bool
 below zero p = true
@@ -69,11 +64,6 @@ and-left false b e = e
 pub and-right : (a b : Bool) → a && b ≡ true → b ≡ true
 and-right true b e = e
 and-right false b e = absurd (false≢true e)
-
-pub nth : (bs : List Bool) → allOf bs ≡ true → (k : ℕ) → k < length bs → getD bs k true ≡ true
-nth [] e k h = refl
-nth (b ∷ bs) e zero h = and-left b (allOf bs) e
-nth (b ∷ bs) e (suc k) h = nth bs (and-right b (allOf bs) e) k (le-of-suc-le-suc h)
 
 pub every-at : {A : Type 0} (p : A → Bool) (xs : List A) (d : A) → every p xs ≡ true → (k : ℕ) → k < length xs → p (getD xs k d) ≡ true
 every-at p [] d t k h = absurd (not-suc-le-zero h)

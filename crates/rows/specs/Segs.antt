@@ -127,18 +127,6 @@ module _ (n : ℕ) (cs chain : List ℕ) (held : ℕ) (lc : length cs ≡ 32) (l
         ];
       }
 
-  -- nothing is shared any more
-  pub less-apart : (v : ℕ) → held? v ≡ 0 → (v ≡ SHARED → ⊥) → at (set cs (at chain (held - 1)) v) (at (set chain (held - 1) 0) (held - 1 - 1)) ≡ SHARED → ⊥
-  less-apart v z five e =
-      let w = at chain (held - 1) in
-      let u = at (set chain (held - 1) 0) (held - 1 - 1) in
-      let c = less-chain v z five in
-      let un : u < n = c .rows (held - 1 - 1) (omega arith) in
-      elim (ℕ-discrete u w) [
-        | yes q ↦ five (sym (getD-set-same cs w v 0 (omega (arith, g .rows (held - 1) (omega arith)))) ∙ (rw q at e))
-        | no q ↦ q (sym (g .last u un (sym (getD-set-other cs w u v 0 q) ∙ e)))
-      ]
-
 -- held and free segments are not more than there are
 pub one-kind : (c : ℕ) → held? c + one FREE c ≤ 1
 one-kind c =

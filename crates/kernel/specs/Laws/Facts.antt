@@ -1,14 +1,13 @@
 -- What follows from good tables: the sentences of 01 that the record does not repeat, and what the calls' code needs.
 use mathlib.Core.Path.{_≡_}
-use Prim.Native.Nat.{ℕ, _+_, _-_, _≤_, _<_}
+use Prim.Native.Nat.{ℕ, _-_, _≤_, _<_}
 use native.Mathlib.Omega.{arith}
 use Rattle.rows.specs.Lists.{at}
-use Rattle.rows.specs.Classes.{FREE, SHARED, held?}
+use Rattle.rows.specs.Classes.{SHARED, held?}
 use Rattle.rows.specs.Exact as exact
 use Rattle.rows.specs.Exact.{Exactly, exactly}
-use Rattle.kernel.specs.Definition.Tables.{classAt, countOf}
+use Rattle.kernel.specs.Definition.Tables.{classAt}
 use Rattle.kernel.specs.Definition.Good.{Good}
-use Rattle.kernel.specs.Laws.Body.{body, body-counted}
 use Rattle.kernel.specs.declared.Tables.{Tables}
 
 -- "the chain below is exactly the system and shared segments without a repeat", as a reader says it
@@ -43,7 +42,3 @@ fit t g = record {
   opened = g .channels .most;
   known = g .devices .most;
 }
-
--- the chain may grow by every free segment
-pub free-fits : (t : Tables) → Good t → t .held + countOf FREE t ≤ 32
-free-fits t g = omega (arith, body-counted t (body t g), g .list .most)
