@@ -6,21 +6,26 @@ use Prim.Native.Nat.{ℕ, zero, suc, _+_, _*_, _/_, _%_, _-_, _<_, _≤_}
 use native.Mathlib.Omega.{arith}
 use native.Mathlib.Numerals.{add-one}
 use lib.ListN.{length, getD, take, drop, set, length-append}
-use lib.Seq.{take-suc-set, take-suc, take-all}
+use lib.Seq.{take-suc-set, take-suc, take-all, drop-set-lt, drop-drop}
 use lib.Dec.{ltb}
 use borrow.Author.Tests.{lt-ltb, le-ltb, ltb-true, ltb-false}
 use mathlib.Core.Logic.{_⊎_, inl, inr}
 use Rattle.text.specs.Text.{Put, fieldsOf, digitOf, decimalIn, decimalOf, glyph, hexOf}
 
 pub put-none : (d : List ℕ) (at : ℕ) → Put d d at at []
-put-none d at = record { stop = omega arith; text = sym (append-nil (take at d)) }
+put-none d at = record { stop = omega arith; text = sym (append-nil (take at d)); behind = refl }
 
 pub put-one : (d : List ℕ) (at b : ℕ) → at < length d → Put d (set d at b) at (at + 1) (b ∷ [])
-put-one d at b h = record { stop = refl; text = rw (add-one, take-suc-set) }
+put-one d at b h = record { stop = refl; text = rw (add-one, take-suc-set); behind = drop-set-lt (at + 1) d at b (omega arith) }
 
 pub put-then : {d e f : List ℕ} {at m r : ℕ} {xs ys : List ℕ} → Put d e at m xs → Put e f m r ys → Put d f at r (xs ++ ys)
 put-then {d} {e} {f} {at} {m} {r} {xs} {ys} p q =
-    record { stop = rw length-append (omega (arith, p .stop, q .stop)); text = q .text ∙ rw (p .text, append-assoc) }
+    let passed : (l : List ℕ) → drop (length ys) (drop m l) ≡ drop r l = λ l. drop-drop (length ys) m l ∙ ap (λ (k : ℕ). drop k l) (sym (q .stop)) in
+    record {
+      stop = rw length-append (omega (arith, p .stop, q .stop));
+      text = q .text ∙ rw (p .text, append-assoc);
+      behind = q .behind ∙ sym (passed e) ∙ ap (drop (length ys)) (p .behind) ∙ passed d;
+    }
 
 split : (b : Bool) → (b ≡ true) ⊎ (b ≡ false)
 split true = inl refl
