@@ -3,7 +3,7 @@ use mathlib.Core.Path.{_≡_, refl}
 use mathlib.Core.Bool.{Bool, true, _&&_}
 use mathlib.Core.List.{List, [], _∷_, _++_}
 use Prim.Native.Nat.{ℕ, _<_}
-use lib.ListN.{getD}
+use lib.ListN.{length, getD}
 use lib.Dec.{eqb}
 use borrow.Author.Tests.{eqb-true}
 use Rattle.rows.specs.Lists.{every, every-at, and-left, and-right, upTo}
@@ -17,13 +17,13 @@ use Rattle.kernel.specs.declared.Tables.{Tables}
 use Rattle.kernel.specs.declared.Outcome.{Outcome}
 
 -- a call, and the number, a and b that it must answer
-pub record Line : Type 0 where
+pub record Expected : Type 0 where
   pub call : Call
   pub number : ℕ
   pub a : ℕ
   pub b : ℕ
 
-abbrev pub asks : Call → (number a b : ℕ) → Line
+abbrev pub asks : Call → (number a b : ℕ) → Expected
 asks call number a b = record { call = call; number = number; a = a; b = b }
 
 -- four segments of RAM and 4,096 bytes of output are lent
@@ -32,18 +32,18 @@ unfolding decided
 answered t c = decided t 65536 4096 c
 
 -- "R = 11,074, list 252 to 255, each from a fresh start."
-abbrev pub fresh : Line
+abbrev pub fresh : Expected
 fresh = asks (start 11074 (252 ∷ 253 ∷ 254 ∷ 255 ∷ [])) 0 4 11074
 
 abbrev pub opens : (channel n : ℕ) → Call
 opens channel n = «open» channel 0 n (86 ∷ 73 ∷ 68 ∷ 69 ∷ 79 ∷ 58 ∷ [])
 
 -- "User allocates .. 253, 254, SHARED 255 with 11,074"
-abbrev pub three : List Line
+abbrev pub three : List Expected
 three = asks (allocate 0) 0 253 16384 ∷ asks (allocate 0) 0 254 16384 ∷ asks (allocate 0) 17 255 11074 ∷ []
 
 -- Case 9 sees that 254 is user by a load of its last byte: a shared segment ends at its user boundary, any other is not the user's.
-abbrev pub cases : List (List Line)
+abbrev pub cases : List (List Expected)
 cases =
     (asks (opens 1 11058) 0 0 0 ∷ asks boundary 0 255 0 ∷ [])
     ∷ (asks (opens 1 11059) 0 0 0 ∷ asks boundary 0 254 16383 ∷ [])
@@ -59,21 +59,21 @@ cases =
     ∷ asks («open» 1 0 0 (110 ∷ 101 ∷ 116 ∷ 48 ∷ 55 ∷ 58 ∷ [])) 0 1 7 ∷ [])
     ∷ []
 
--- each call of a sequence, made on the tables that the last one left, answers what its line says
-abbrev pub Answers : Tables → List Line → Type 0
+-- each call of a sequence, made on the tables that the last one left, answers what is expected of it
+abbrev pub Answers : Tables → List Expected → Type 0
 Answers t [] = Unit {0}
 Answers t (l ∷ ls) =
     (numberOf (answered t (l .call) .answer) ≡ l .number) × (aOf (answered t (l .call) .answer) ≡ l .a)
     × (bOf (answered t (l .call) .answer) ≡ l .b) × Answers (answered t (l .call) .tables) ls
 
 -- the same as a test
-abbrev answersTest : Tables → List Line → Bool
+abbrev answersTest : Tables → List Expected → Bool
 answersTest t [] = true
 answersTest t (l ∷ ls) =
     let o = answered t (l .call) in
     eqb (numberOf (o .answer)) (l .number) && (eqb (aOf (o .answer)) (l .a) && (eqb (bOf (o .answer)) (l .b) && answersTest (o .tables) ls))
 
-tested : (t : Tables) (ls : List Line) → answersTest t ls ≡ true → Answers t ls
+tested : (t : Tables) (ls : List Expected) → answersTest t ls ≡ true → Answers t ls
 tested t [] e = tt
 tested t (l ∷ ls) e =
     let o = answered t (l .call) in
@@ -85,9 +85,12 @@ tested t (l ∷ ls) e =
     let e₂ = and-right q (r && more) e₁ in
     (eqb-true _ _ (and-left p (q && (r && more)) e), eqb-true _ _ (and-left q (r && more) e₁), eqb-true _ _ (and-left r more e₂), tested (o .tables) ls (and-right r more e₂))
 
-all-pass : every (λ (ls : List Line). answersTest noTables (fresh ∷ ls)) cases ≡ true
+all-pass : every (λ (ls : List Expected). answersTest noTables (fresh ∷ ls)) cases ≡ true
 unfolding answered noTables upTo chainLength edgeAt grown shrunk
 all-pass = refl
 
+pub ten : length cases ≡ 10
+ten = refl
+
 pub ten-cases : (k : ℕ) → k < 10 → Answers noTables (fresh ∷ getD cases k [])
-ten-cases k h = tested noTables (fresh ∷ getD cases k []) (every-at (λ (ls : List Line). answersTest noTables (fresh ∷ ls)) cases [] all-pass k h)
+ten-cases k h = tested noTables (fresh ∷ getD cases k []) (every-at (λ (ls : List Expected). answersTest noTables (fresh ∷ ls)) cases [] all-pass k h)

@@ -1,4 +1,5 @@
--- Document 01, in its own order. Its layouts stand with the theorems about them in the crate history, its event records in the crate events.
+-- Document 01, in its own order; answers come before the calls that give them, and a buffer lent on comes last, since it asks for accepted tables.
+-- Its layouts stand with the theorems about them in the crate history, its event records in the crate events.
 pub mod Tables
 pub mod Good
 pub mod Line

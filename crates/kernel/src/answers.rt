@@ -1,4 +1,4 @@
-// The answers: this paper's number and values for each.
+// The answers: 01's number and values for each.
 ghost use mathlib.Core.Path.{_≡_};
 ghost use Rattle.kernel.specs.Definition.Answers.{numberOf, aOf, bOf};
 use super::Answer;

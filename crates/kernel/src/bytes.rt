@@ -245,7 +245,7 @@ impl Tables {
         lent_at(&chain, room, start, self.size_at(i))
     }
 
-    // The buffer lent on, an empty part where the channel is not open.
+    // The buffer lent on; an empty part where nothing is lent.
     pub fn lend<'a>(self, ram: &'a [u8], channel: u8) -> &'a [u8]
         ensures { λ r. ⌜ now r ≡ partFrom self (now (ram .entry)) channel ⌝ }
     {

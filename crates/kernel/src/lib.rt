@@ -33,6 +33,7 @@ pub struct Tables {
     // The open channels, in line order.
     pub opened: u8,
     pub channels: [Channel; 32],
+    // The devices, in linking order.
     pub known: u8,
     pub devices: [Device; 16],
     // The default name with its length and its unit.

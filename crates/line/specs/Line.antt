@@ -8,7 +8,7 @@ use lib.Dec.{ltb}
 use Rattle.line.specs.Ram.{bytesFrom, putFrom}
 
 -- "Position p < R is offset R-1-p of segment 255. Else with q = p-R it is offset 16,383 - (q mod 16,384) of chain segment 1 + q div 16,384."
--- `room` is R. `chain` gives the rows of the chain's segments in the RAM, that of segment 255 first.
+-- "So buffers run downward". `room` is R. `chain` gives the rows of the chain's segments in the RAM, that of segment 255 first.
 
 -- which segment of the chain holds position p
 unfoldable pub linkOf : ℕ → ℕ → ℕ

@@ -12,11 +12,11 @@ use Rattle.rows.specs.declared.Channel.{Channel}
 use Rattle.rows.specs.declared.Place.{Place}
 use Rattle.rows.specs.declared.Place.the-variants.{At, Nowhere}
 
--- 'Unused rows and bytes of the tables are zero'
+-- "Unused rows and bytes of the tables are zero"
 abbrev pub noChannel : Channel
 noChannel = record { number = 0; device = 0; unit = 0; n = 0 }
 
--- 'length L = 16 + n'; 'T is the sum of their lengths'
+-- "length L = 16 + n"; "T is the sum of their lengths"
 abbrev pub sumOf : List Channel → ℕ
 sumOf [] = 0
 sumOf (c ∷ cs) = (16 + c .n) + sumOf cs

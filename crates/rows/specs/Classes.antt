@@ -5,7 +5,7 @@ use Prim.Native.Nat.{ℕ, _-_}
 use lib.Dec.{eqb}
 use lib.ListN.{replicate}
 
--- 'Each other segment has one class: free, user, system, device, shared'. The class byte of the page zero segment and of unused rows is 0
+-- "Each other segment has one class: free, user, system, device, shared". The class byte of the page zero segment and of unused rows is 0
 abbrev pub FREE : ℕ
 FREE = 1
 
@@ -21,7 +21,7 @@ DEVICE = 4
 abbrev pub SHARED : ℕ
 SHARED = 5
 
--- 'the chain below is exactly the system and shared segments': the chain holds a segment of this class
+-- "the chain below is exactly the system and shared segments": the chain holds a segment of this class
 abbrev pub inChain : ℕ → Bool
 inChain c = eqb c SYSTEM || eqb c SHARED
 
@@ -29,10 +29,10 @@ inChain c = eqb c SYSTEM || eqb c SHARED
 abbrev pub held? : ℕ → ℕ
 held? c = cond (inChain c) 1 0
 
--- 'all but page zero and 255 free': the classes of n segments after a start
+-- "all but page zero and 255 free": the classes of n segments after a start
 abbrev pub fresh : ℕ → List ℕ
 fresh n = 0 ∷ (replicate (n - 2) FREE ++ SYSTEM ∷ replicate (32 - n) 0)
 
--- 'bit 6 frees all user segments and ends sharing, the shared one becoming system'
+-- "bit 6 frees all user segments and ends sharing, the shared one becoming system"
 abbrev pub released : ℕ → ℕ
 released c = cond (eqb c USER) FREE (cond (eqb c SHARED) SYSTEM c)

@@ -11,7 +11,7 @@ use Rattle.rows.specs.declared.Device.{Device}
 abbrev pub noDevice : Device
 noDevice = record { name = []; length = 0; enabled = false }
 
--- 'Unused rows and bytes of the tables are zero'
+-- "Unused rows and bytes of the tables are zero"
 abbrev pub zeroDevice : Device
 zeroDevice = record { name = replicate {A = ℕ} 28 0; length = 0; enabled = false }
 
@@ -35,19 +35,19 @@ NET = 78 ∷ 69 ∷ 84 ∷ []
 abbrev pub KEYBOARD : List ℕ
 KEYBOARD = 75 ∷ 69 ∷ 89 ∷ 66 ∷ 79 ∷ 65 ∷ 82 ∷ 68 ∷ []
 
--- 'Devices 0, 1, 2 are VIDEO, NET, KEYBOARD (build)'
+-- "Devices 0, 1, 2 are VIDEO, NET, KEYBOARD (build)"
 abbrev pub builtIn : List Device
 builtIn = deviceOf VIDEO ∷ deviceOf NET ∷ deviceOf KEYBOARD ∷ replicate {A = Device} 13 zeroDevice
 
--- 'An older device of the same name is disabled': the device once one of this name is linked
+-- "An older device of the same name is disabled": the device once one of this name is linked
 abbrev pub muted : List ℕ → ℕ → Device → Device
 muted s n d = record { name = d .name; length = d .length; enabled = d .enabled && not (sameName (d .name) (d .length) s n) }
 
--- 'Link adds a device'
+-- "Link adds a device"
 abbrev pub added : List Device → ℕ → List ℕ → ℕ → List Device
 added ds known s n = set (map (muted s n) ds) known (record { name = s; length = n; enabled = true })
 
--- enabled and so named. 'The empty default matches no device'
+-- enabled and so named. "The empty default matches no device"
 abbrev pub answers : List ℕ → ℕ → Device → Bool
 answers s n d = ltb 0 n && (d .enabled && sameName (d .name) (d .length) s n)
 

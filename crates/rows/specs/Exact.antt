@@ -1,4 +1,4 @@
--- 'exactly the system and shared segments without a repeat' as counts and as a reader would say it. Assumes nothing.
+-- "exactly the system and shared segments without a repeat" as counts and as a reader would say it. Assumes nothing.
 use mathlib.Core.Path.{_≡_, sym, _∙_}
 use mathlib.Core.List.{List}
 use Prim.Native.Nat.{ℕ, _-_, _≤_, _<_}
@@ -11,7 +11,7 @@ use Rattle.rows.specs.Classes.{SHARED, inChain, held?}
 use Rattle.rows.specs.Count.{tally-some, tally-two, tally-most, last-found, cond-most}
 use Rattle.rows.specs.Good.{ChainGood}
 
--- the reader's form of 'exactly the system and shared segments without a repeat'
+-- the reader's form of "exactly the system and shared segments without a repeat"
 pub record Exactly (n : ℕ) (classes chain : List ℕ) (held : ℕ) : Type 0 where
   pub only : (i : ℕ) → i < held → 1 ≤ held? (at classes (at chain i))
   pub all : (row : ℕ) → row < n → 1 ≤ held? (at classes row) → (i : ℕ) × (i < held) × (at chain i ≡ row)
@@ -47,11 +47,11 @@ module _ (n : ℕ) (cs chain : List ℕ) (held : ℕ) (l : length chain ≡ 32) 
         ]
       ]
 
--- 'at most one segment is shared'
+-- "at most one segment is shared"
 pub one-shared : (n : ℕ) (cs chain : List ℕ) (held : ℕ) → ChainGood n cs chain held
     → (i j : ℕ) → i < n → j < n → at cs i ≡ SHARED → at cs j ≡ SHARED → i ≡ j
 one-shared n cs chain held g i j h k p q = sym (g .last i h p) ∙ g .last j k q
 
--- '255 is system or shared'
+-- "255 is system or shared"
 pub top-held : (n : ℕ) (cs chain : List ℕ) (held : ℕ) → length chain ≡ 32 → ChainGood n cs chain held → 1 ≤ held? (at cs (n - 1))
 top-held n cs chain held l g = rw (g .starts) at (exactly n cs chain held l (g .most) (g .rows) (g .exact) .only 0 (g .holds))

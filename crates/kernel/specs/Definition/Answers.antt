@@ -1,4 +1,4 @@
--- The answers: this paper's number and values for each, and the rule that the lowest number wins.
+-- The answers: 01's number and values for each, and the rule that the lowest number wins.
 use mathlib.Core.Bool.{Bool, true, false, cond}
 use mathlib.Core.List.{List, [], _∷_}
 use Prim.Native.Nat.{ℕ}

@@ -24,6 +24,7 @@ use Rattle.kernel.specs.declared.Outcome.{Outcome}
 pub data Call : Type 0 where
   start : (room : ℕ) (list : List ℕ) → Call
   reset : (flags : ℕ) → Call
+  -- "The driver's reply to an open is an input."
   «open» : (channel driver n : ℕ) (name : List ℕ) → Call
   close : (channel : ℕ) → Call
   read : (channel offset size : ℕ) → Call
@@ -61,19 +62,22 @@ isStart (load segment offset size) = false
 isStart unknown = false
 isStart short-start = true
 
--- `ram` and `output` are how many bytes are lent.
+-- `ram` and `output` are how many bytes are lent. Each call is first its refusals in the order of their numbers, then a, b "when done", quoted above it, and
+-- the next tables.
 
+-- "segments, R"
 unfoldable pub onStart : Tables → (ram room : ℕ) (list : List ℕ) → Outcome
 unfolding started
 onStart t ram room list =
     unless (BadStart when not (startTest ram room list) ∷ []) t
     (gives (Done (length list) room) (started room list))
 
+-- "0, 0"
 unfoldable pub onReset : Tables → (flags : ℕ) → Outcome
 unfolding resetting
 onReset t flags = unless (BadFlags when otherBits flags ∷ []) t (gives (Done 0 0) (resetting t flags))
 
--- open, once the string is read: the device and the unit that it means
+-- open, once the string is read: "device, unit"
 unfoldable pub onOpenTo : Tables → (channel driver n : ℕ) → Wanted → Outcome
 unfolding roomFor opening
 onOpenTo t channel driver n w =
@@ -96,13 +100,14 @@ onOpen t channel driver n name =
     unless (NoChannel when eqb channel 255 ∷ Exists when ltb (channelAt t channel) (t .opened) ∷ []) t
     (onOpenNamed t channel driver n (reading name))
 
--- "The channel is looked up once; a channel not found ends the call." 255 is no channel's number in good tables
+-- "The channel is looked up once; a channel not found ends the call." 255 is no channel's number in good tables. "0, 0"
 unfoldable pub onClose : Tables → (channel : ℕ) → Outcome
 unfolding closing
 onClose t channel =
     unless (NoChannel when leb (t .opened) (channelAt t channel) ∷ []) t
     (gives (Done 0 0) (closing t (channelAt t channel)))
 
+-- "0, length"
 unfoldable pub onRead : Tables → (output channel offset size : ℕ) → Outcome
 onRead t output channel offset size =
     unless
@@ -111,6 +116,7 @@ onRead t output channel offset size =
     ∷ []) t
     (gives (Done 0 size) t)
 
+-- "0, length"
 unfoldable pub onWrite : Tables → (channel offset size : ℕ) → Outcome
 onWrite t channel offset size =
     unless
@@ -119,17 +125,18 @@ onWrite t channel offset size =
     ∷ []) t
     (gives (Done 0 size) t)
 
--- "default upper-cases what it keeps"
+-- "default upper-cases what it keeps". "0, 0"
 unfoldable pub onDefault : Tables → (unit : ℕ) (name : List ℕ) → Outcome
 unfolding wordOf
 onDefault t unit name =
     unless (BadName when not (defaultTest name) ∷ []) t
     (gives (Done 0 0) (withDefault t (wordOf name) (length name) unit))
 
--- "lent output too short"
+-- "0, 5"
 unfoldable pub onStatus : Tables → (output : ℕ) → Outcome
 onStatus t output = unless (BadRange when ltb output 5 ∷ []) t (gives (Done 0 5) t)
 
+-- "device, new R"
 unfoldable pub onLink : Tables → (m : ℕ) (name : List ℕ) → Outcome
 unfolding wordOf roomFor linking
 onLink t m name =
@@ -140,15 +147,18 @@ onLink t m name =
     ∷ []) t
     (gives (Done (t .known) (t .room - m)) (linking t m (wordOf name) (length name)))
 
+-- "last chain segment, EXOS boundary"
 unfoldable pub onBoundary : Tables → Outcome
 onBoundary t = gives (Done (numberAt t (lastRow t)) (boundaryOf t)) t
 
+-- "0, 0"
 unfoldable pub onSetUserBoundary : Tables → (value : ℕ) → Outcome
 unfolding bounding
 onSetUserBoundary t value =
     unless (BadBoundary when (not (sharing t) || ltb (boundaryOf t) value) ∷ []) t
     (gives (Done 0 0) (bounding t value))
 
+-- "segment, 16,384"; "17 SHARED is a grant: allocate gave a shared segment, b the user boundary", which becomes the EXOS boundary
 unfoldable pub onAllocate : Tables → (caller : ℕ) → Outcome
 unfolding granting sharingLast
 onAllocate t caller =
@@ -160,6 +170,7 @@ onAllocate t caller =
     (gives (Done (numberAt t (lowestFree t)) SEGMENT) (granting t caller))
     (gives (Shared (numberAt t (lastRow t)) (boundaryOf t)) (sharingLast t)))
 
+-- "0, 0"
 unfoldable pub onFree : Tables → (caller segment : ℕ) → Outcome
 unfolding freeing
 onFree t caller segment =
@@ -169,6 +180,7 @@ onFree t caller segment =
     ∷ []) t
     (gives (Done 0 0) (freeing t (rowOf t segment)))
 
+-- "0, length"
 unfoldable pub onStore : Tables → (segment offset size : ℕ) → Outcome
 onStore t segment offset size =
     unless
@@ -178,6 +190,7 @@ onStore t segment offset size =
     ∷ []) t
     (gives (Done 0 size) t)
 
+-- "0, length"
 unfoldable pub onLoad : Tables → (output segment offset size : ℕ) → Outcome
 onLoad t output segment offset size =
     unless

@@ -16,7 +16,7 @@ pub record Wanted : Type 0 where
   pub length : ℕ
   pub unit : ℕ
 
--- "Name without unit means unit 0; unit without name means the default name; neither means the default name and unit."
+-- "Device: up to 28 letters, upper-cased." "Name without unit means unit 0; unit without name means the default name; neither means the default name and unit."
 abbrev pub wantedBy : Tables → (letters : List ℕ) → UnitNumber → Wanted
 wantedBy t [] Absent = record { name = t .name; length = t .length; unit = t .unit }
 wantedBy t [] (Given u) = record { name = t .name; length = t .length; unit = u }
@@ -26,6 +26,7 @@ wantedBy t (x ∷ xs) (Given u) = record { name = wordOf (x ∷ xs); length = le
 abbrev pub wanted : Tables → Reading → Wanted
 wanted t r = wantedBy t (device r) (unit r)
 
--- the row of the enabled device so named, or the number of devices where there is none. "Every unit count is read as zero": the unit is taken as it is
+-- the row of the enabled device so named, or the number of devices where there is none. "Every unit count is read as zero": the unit is
+-- taken as it is, where a count would be taken off it and the search go on (001, 11.1)
 abbrev pub deviceFor : Tables → Wanted → ℕ
 deviceFor t w = deviceIn (take (t .known) (t .devices)) (w .name) (w .length)

@@ -44,12 +44,13 @@ heard t ram output (load segment offset size) = onLoad t output segment offset s
 heard t ram output unknown = gives BadCall t
 heard t ram output short-start = gives BadCall t
 
--- 1 TABLES: "not for start: tables not good, or RAM length wrong". The answer and the next tables depend on no byte of the RAM or the output
+-- 1 TABLES: "not for start: tables not good, or RAM length wrong". The answer and the next tables depend on no byte of the RAM or the output:
+-- "The kernel never reads it back."
 unfoldable pub decided : Tables → (ram output : ℕ) → Call → Outcome
 unfolding goodTest heard
 decided t ram output c = unless (BadTables when not (isStart c || accepted t ram) ∷ []) t (heard t ram output c)
 
--- "Open appends a record, its buffer zero": the row that the next tables have more, at the end of the line
+-- "Open appends a record, its buffer zero": the record of the row that the next tables have and these have not, at the end of the line
 abbrev pub ramOpened : (t u : Tables) → List ℕ → List ℕ
 ramOpened t u ram =
     let c = getD (u .channels) (t .opened) noChannel in
@@ -69,7 +70,8 @@ ramReset t ram flags =
 abbrev pub segmentAt : ℕ → ℕ
 segmentAt row = SEGMENT * row
 
--- the RAM after a call that was done on the tables t and gave the tables u. "No other byte changes."
+-- the RAM after a call that was done on the tables t and gave the tables u. "Start zeroes all RAM"; an allocate leaves its segment's "bytes untouched";
+-- "No other byte changes."
 unfoldable pub ramAfter : (t u : Tables) → List ℕ → Call → List ℕ
 ramAfter t u ram (start room list) = replicate (length ram) 0
 ramAfter t u ram (reset flags) = ramReset t ram flags

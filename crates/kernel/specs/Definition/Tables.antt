@@ -12,7 +12,8 @@ use Rattle.rows.specs.declared.Device.{Device}
 use Rattle.kernel.specs.declared.Tables.{Tables}
 
 -- The fields: `list` has the numbers of `segments` segments, and `classes` a class for each row of it; `chain` has rows of the list, `held` of them;
--- `user` is the user boundary, `room` R, `cold` the cold R; `channels` has `opened` rows in line order, `devices` `known` rows;
+-- `user` is the user boundary, `room` is R, "the room in the system segment for channels, offsets 0 to R-1", and `cold` the cold R; "255 is the system segment", the
+-- list's last row; `channels` has `opened` rows in line order, `devices` `known` rows;
 -- `name`, `length` and `unit` are the default's.
 
 -- "A segment has 16,384 bytes."
