@@ -1,0 +1,516 @@
+//! The RAM after a record as regions: what a picture shows, exact to the byte.
+
+use crate::answers::answer;
+use crate::records::{records, Record};
+use crate::replay::Machine;
+use crate::words::words;
+use exos_kernel::{class, Channel, Reply, Tables, HEADING, SEGMENT};
+use std::fmt;
+use std::ops::Range;
+
+/// What a picture shows.
+#[derive(Clone, Debug, PartialEq, Eq)]
+pub struct Map {
+    /// How many records were made; 0 is before any.
+    pub after: usize,
+    /// How many records the log has.
+    pub of: usize,
+    /// The last record in words.
+    pub record: Option<String>,
+    /// Its answer in words.
+    pub answer: Option<String>,
+    /// The RAM, after an accepted start.
+    pub ram: Option<Ram>,
+}
+
+/// The RAM that is lent, and the numbers of the tables about it.
+#[derive(Clone, Debug, PartialEq, Eq)]
+pub struct Ram {
+    /// "R is the room in the system segment for channels."
+    pub r: usize,
+    /// "Start fixes the cold R."
+    pub cold_r: usize,
+    /// "T is the sum of their lengths."
+    pub t: usize,
+    /// The EXOS boundary, in the chain's last segment.
+    pub exos: Boundary,
+    /// The user boundary, where a segment is shared.
+    pub user: Option<Boundary>,
+    /// The chain as segment numbers.
+    pub chain: Vec<u8>,
+    /// The segments "in list order".
+    pub segments: Vec<Segment>,
+    /// The open channels' records "in opening order".
+    pub line: Vec<LineRecord>,
+}
+
+/// An offset of a segment.
+#[derive(Clone, Copy, Debug, PartialEq, Eq)]
+pub struct Boundary {
+    /// The segment's number.
+    pub segment: u8,
+    /// The offset.
+    pub offset: usize,
+}
+
+/// A segment.
+#[derive(Clone, Debug, PartialEq, Eq)]
+pub struct Segment {
+    /// Its number.
+    pub number: u8,
+    /// Its class.
+    pub class: Class,
+    /// Where it stands in the chain, from 0.
+    pub link: Option<usize>,
+    /// All its bytes, the highest offsets first, as the line runs.
+    pub regions: Vec<Region>,
+}
+
+/// "Each other segment has one class: free, user, system, device, shared."
+#[derive(Clone, Copy, Debug, PartialEq, Eq)]
+#[allow(missing_docs)]
+pub enum Class {
+    /// "The first in the list is the page zero segment, outside every
+    /// allocation."
+    PageZero,
+    Free,
+    User,
+    System,
+    Device,
+    Shared,
+}
+
+impl fmt::Display for Class {
+    fn fmt(&self, f: &mut fmt::Formatter) -> fmt::Result {
+        f.write_str(match self {
+            Class::PageZero => "page zero",
+            Class::Free => "free",
+            Class::User => "user",
+            Class::System => "system",
+            Class::Device => "device",
+            Class::Shared => "shared",
+        })
+    }
+}
+
+/// Some offsets of a segment and what they hold.
+#[derive(Clone, Debug, PartialEq, Eq)]
+pub struct Region {
+    /// The offsets.
+    pub offsets: Range<usize>,
+    /// What they hold.
+    pub what: What,
+}
+
+/// What a region holds.
+#[derive(Clone, Debug, PartialEq, Eq)]
+pub enum What {
+    /// The page zero segment.
+    PageZero,
+    /// A free segment.
+    Free,
+    /// A user segment, or a shared one below the user boundary: "the user owns
+    /// the offsets below it".
+    User,
+    /// A segment that a device was given.
+    Device,
+    /// Offsets of 255 from the cold R on.
+    AboveColdR,
+    /// Offsets of 255 from R to the cold R: RAM of linked devices.
+    Linked,
+    /// A part of a channel's record.
+    Record {
+        /// Its row in the line.
+        row: usize,
+        /// Its positions in the line.
+        positions: Range<usize>,
+    },
+    /// Offsets of the chain's last segment below the EXOS boundary, down to the
+    /// user boundary where it is shared.
+    Room,
+}
+
+/// A channel's record: "a 16-byte heading and then its buffer of n bytes".
+#[derive(Clone, Debug, PartialEq, Eq)]
+pub struct LineRecord {
+    /// The channel's number.
+    pub channel: u8,
+    /// The row of its device.
+    pub device: u8,
+    /// The device's name.
+    pub device_name: String,
+    /// The unit.
+    pub unit: u8,
+    /// The length of the buffer.
+    pub n: u16,
+    /// Its positions in the line, L = 16 + n of them.
+    pub positions: Range<usize>,
+}
+
+/// The log has fewer records than were asked for.
+#[derive(Clone, Copy, Debug, PartialEq, Eq)]
+pub struct PastTheEnd {
+    /// How many it has.
+    pub records: usize,
+}
+
+/// The RAM after the first `after` records of a log, or after all.
+pub fn map(log: &[u8], after: Option<usize>) -> Result<Map, PastTheEnd> {
+    let of = records(log).count();
+    let after = after.unwrap_or(of);
+    if after > of {
+        return Err(PastTheEnd { records: of });
+    }
+    let mut machine = Machine::default();
+    let mut last = None;
+    for record in records(log).take(after) {
+        last = Some((record, machine.answer(record)));
+    }
+    Ok(Map {
+        after,
+        of,
+        record: last.map(|(record, _)| words(record)),
+        answer: last.map(|(record, reply)| answer_words(record, reply)),
+        ram: machine
+            .tables()
+            .map(|tables| ram(tables, machine.boundary())),
+    })
+}
+
+fn answer_words(record: Record, reply: Option<Reply>) -> String {
+    match (record, reply) {
+        (Record::Whole { .. }, Some(Reply { number, a, b })) => {
+            format!("{}, a {a}, b {b}", answer(number.into()))
+        }
+        _ => "bad: the listing ends here".to_string(),
+    }
+}
+
+/// The RAM of good tables, with what the call `boundary` answers.
+fn ram(tables: &Tables, boundary: Reply) -> Ram {
+    let line = line(tables);
+    let chain = &tables.chain[..usize::from(tables.chain_length)];
+    let rows = 0..usize::from(tables.segments);
+    let user = |row: usize| Boundary {
+        segment: tables.list[row],
+        offset: tables.user_boundary.into(),
+    };
+    Ram {
+        r: tables.r.into(),
+        cold_r: tables.cold_r.into(),
+        t: line.last().map_or(0, |record| record.positions.end),
+        exos: Boundary {
+            segment: boundary.a,
+            offset: boundary.b.into(),
+        },
+        user: rows
+            .clone()
+            .find(|&row| tables.classes[row] == class::SHARED)
+            .map(user),
+        chain: chain
+            .iter()
+            .map(|&row| tables.list[usize::from(row)])
+            .collect(),
+        segments: rows.map(|row| segment(tables, row, &line)).collect(),
+        line,
+    }
+}
+
+/// "Records lie end to end in opening order."
+fn line(tables: &Tables) -> Vec<LineRecord> {
+    let mut at = 0;
+    let record = |channel: &Channel| {
+        let start = at;
+        at += HEADING + usize::from(channel.n);
+        let device = &tables.devices[usize::from(channel.device)];
+        let name = &device.name[..usize::from(device.length)];
+        LineRecord {
+            channel: channel.number,
+            device: channel.device,
+            device_name: name.escape_ascii().to_string(),
+            unit: channel.unit,
+            n: channel.n,
+            positions: start..at,
+        }
+    };
+    let open = usize::from(tables.channel_count);
+    tables.channels[..open].iter().map(record).collect()
+}
+
+fn segment(tables: &Tables, row: usize, line: &[LineRecord]) -> Segment {
+    let chain = &tables.chain[..usize::from(tables.chain_length)];
+    let link = chain.iter().position(|&other| usize::from(other) == row);
+    let class = match tables.classes[row] {
+        class::FREE => Class::Free,
+        class::USER => Class::User,
+        class::SYSTEM => Class::System,
+        class::DEVICE => Class::Device,
+        class::SHARED => Class::Shared,
+        _ => Class::PageZero,
+    };
+    let regions = match link {
+        Some(link) => held(tables, link, class, line),
+        None => vec![Region {
+            offsets: 0..SEGMENT,
+            what: match class {
+                Class::PageZero => What::PageZero,
+                Class::User => What::User,
+                Class::Device => What::Device,
+                _ => What::Free,
+            },
+        }],
+    };
+    Segment {
+        number: tables.list[row],
+        class,
+        link,
+        regions,
+    }
+}
+
+/// The regions of a chain segment. "Position p < R is offset R-1-p of segment
+/// 255. Else with q = p-R it is offset 16,383 - (q mod 16,384) of chain segment
+/// 1 + q div 16,384": position `first + d` is offset `top - 1 - d`.
+fn held(tables: &Tables, link: usize, class: Class, line: &[LineRecord]) -> Vec<Region> {
+    let r = usize::from(tables.r);
+    let cold_r = usize::from(tables.cold_r);
+    let (first, top) = match link.checked_sub(1) {
+        None => (0, r),
+        Some(further) => (r + further * SEGMENT, SEGMENT),
+    };
+    let mut regions = Vec::new();
+    if link == 0 {
+        regions.push((cold_r..SEGMENT, What::AboveColdR));
+        regions.push((r..cold_r, What::Linked));
+    }
+    let mut bottom = top;
+    for (row, record) in line.iter().enumerate() {
+        let start = record.positions.start.max(first);
+        let end = record.positions.end.min(first + top);
+        if start < end {
+            bottom = top - (end - first);
+            let offsets = bottom..top - (start - first);
+            let positions = start..end;
+            regions.push((offsets, What::Record { row, positions }));
+        }
+    }
+    let user = match class {
+        Class::Shared => usize::from(tables.user_boundary),
+        _ => 0,
+    };
+    regions.push((user..bottom, What::Room));
+    regions.push((0..user, What::User));
+    regions
+        .into_iter()
+        .filter(|(offsets, _)| !offsets.is_empty())
+        .map(|(offsets, what)| Region { offsets, what })
+        .collect()
+}
+
+impl Map {
+    /// "RAM after record 4 of 8".
+    pub fn title(&self) -> String {
+        match self.after {
+            0 => format!("RAM before the first of {} records", self.of),
+            after => format!("RAM after record {after} of {}", self.of),
+        }
+    }
+}
+
+impl Ram {
+    /// The numbers of the tables, as two lines.
+    pub fn numbers(&self) -> [String; 2] {
+        let chain: Vec<String> = self.chain.iter().map(u8::to_string).collect();
+        let user = match self.user {
+            Some(Boundary { segment, offset }) => format!("{offset} of {segment}"),
+            None => "0, nothing shared".to_string(),
+        };
+        [
+            format!(
+                "R {}, cold R {}, T {}, chain {}",
+                self.r,
+                self.cold_r,
+                self.t,
+                chain.join(" ")
+            ),
+            format!(
+                "EXOS boundary {} of {}, user boundary {user}",
+                self.exos.offset, self.exos.segment
+            ),
+        ]
+    }
+
+    /// The boundaries and R that lie in a segment, with their names.
+    pub fn marks(&self, segment: u8) -> Vec<(usize, &'static str)> {
+        let mut marks = Vec::new();
+        if self.chain.first() == Some(&segment) {
+            marks.push((self.r, "R"));
+        }
+        if self.exos.segment == segment {
+            marks.push((self.exos.offset, "EXOS boundary"));
+        }
+        if let Some(user) = self.user.filter(|user| user.segment == segment) {
+            marks.push((user.offset, "user boundary"));
+        }
+        marks
+    }
+}
+
+impl Segment {
+    /// Its number, class and place in the chain.
+    pub fn heading(&self) -> String {
+        let link = self
+            .link
+            .map_or(String::new(), |link| format!(", chain segment {link}"));
+        format!("segment {}: {}{link}", self.number, self.class)
+    }
+}
+
+impl Region {
+    /// What it is, in words.
+    pub fn words(&self, ram: &Ram) -> String {
+        match &self.what {
+            What::PageZero => "page zero".to_string(),
+            What::Free => "free".to_string(),
+            What::User => "the user's".to_string(),
+            What::Device => "a device's".to_string(),
+            What::AboveColdR => "above the cold R".to_string(),
+            What::Linked => "linked devices' RAM".to_string(),
+            What::Record { row, .. } => format!("channel {}", ram.line[*row].channel),
+            What::Room => "room".to_string(),
+        }
+    }
+}
+
+#[cfg(test)]
+mod tests {
+    use super::*;
+    use crate::encode;
+
+    fn after(text: &str) -> Ram {
+        let log = encode(text.as_bytes()).unwrap();
+        map(&log, None).unwrap().ram.unwrap()
+    }
+
+    const START: &str = "start 11074 252 253 254 255\n";
+
+    fn regions(segment: &Segment) -> Vec<(usize, usize, String)> {
+        segment
+            .regions
+            .iter()
+            .map(|Region { offsets, what }| (offsets.start, offsets.end, format!("{what:?}")))
+            .collect()
+    }
+
+    #[test]
+    fn a_fresh_start() {
+        let ram = after(START);
+        let classes: Vec<_> = ram.segments.iter().map(|segment| segment.class).collect();
+        let expected = [Class::PageZero, Class::Free, Class::Free, Class::System];
+        assert_eq!(classes, expected);
+        assert_eq!(
+            ram.exos,
+            Boundary {
+                segment: 255,
+                offset: 11_074
+            }
+        );
+        assert_eq!(ram.user, None);
+        assert_eq!(
+            regions(&ram.segments[3]),
+            [
+                (11_074, 16_384, "AboveColdR".to_string()),
+                (0, 11_074, "Room".to_string())
+            ]
+        );
+    }
+
+    #[test]
+    fn a_record_over_two_segments() {
+        let ram = after(&format!("{START}open 5 0 11059 \"VIDEO:\""));
+        assert_eq!(ram.chain, [255, 254]);
+        assert_eq!(
+            regions(&ram.segments[3])[1],
+            (
+                0,
+                11_074,
+                "Record { row: 0, positions: 0..11074 }".to_string()
+            )
+        );
+        assert_eq!(
+            regions(&ram.segments[2]),
+            [
+                (
+                    16_383,
+                    16_384,
+                    "Record { row: 0, positions: 11074..11075 }".to_string()
+                ),
+                (0, 16_383, "Room".to_string())
+            ]
+        );
+    }
+
+    #[test]
+    fn a_shared_segment_and_linked_devices() {
+        let ram = after(&format!(
+            "{START}link 74 \"DISK\"\nopen 5 0 84 \"DISK:\"\nallocate user\nallocate user\n\
+             allocate user\nset user boundary 10000\nopen 6 0 0 \"DISK:\""
+        ));
+        assert_eq!(
+            regions(&ram.segments[3]),
+            [
+                (11_074, 16_384, "AboveColdR".to_string()),
+                (11_000, 11_074, "Linked".to_string()),
+                (
+                    10_900,
+                    11_000,
+                    "Record { row: 0, positions: 0..100 }".to_string()
+                ),
+                (
+                    10_884,
+                    10_900,
+                    "Record { row: 1, positions: 100..116 }".to_string()
+                ),
+                (10_000, 10_884, "Room".to_string()),
+                (0, 10_000, "User".to_string())
+            ]
+        );
+        assert_eq!(
+            ram.numbers(),
+            [
+                "R 11000, cold R 11074, T 116, chain 255",
+                "EXOS boundary 10884 of 255, user boundary 10000 of 255"
+            ]
+        );
+        assert_eq!(
+            ram.marks(255),
+            [
+                (11_000, "R"),
+                (10_884, "EXOS boundary"),
+                (10_000, "user boundary")
+            ]
+        );
+        assert_eq!(
+            ram.segments[3].heading(),
+            "segment 255: shared, chain segment 0"
+        );
+        assert_eq!(ram.line[1].device_name, "DISK");
+    }
+
+    #[test]
+    fn the_kth_record_and_past_the_end() {
+        let log = encode(format!("{START}close 5\nraw 09").as_bytes()).unwrap();
+        let title = |after| map(&log, after).map(|map| map.title());
+        assert_eq!(title(Some(0)).unwrap(), "RAM before the first of 3 records");
+        assert_eq!(title(Some(1)).unwrap(), "RAM after record 1 of 3");
+        assert_eq!(title(None).unwrap(), "RAM after record 3 of 3");
+        assert_eq!(title(Some(4)), Err(PastTheEnd { records: 3 }));
+        assert_eq!(map(&log, Some(0)).unwrap().ram, None);
+        let second = map(&log, Some(2)).unwrap();
+        assert_eq!(second.record.as_deref(), Some("close 5"));
+        assert_eq!(second.answer.as_deref(), Some("3 CHANNEL, a 0, b 0"));
+        let third = map(&log, Some(3)).unwrap();
+        assert_eq!(third.answer.as_deref(), Some("bad: the listing ends here"));
+        assert_eq!(third.ram, second.ram);
+    }
+}
