@@ -150,6 +150,8 @@ pub struct LineRecord {
 /// The log has fewer records than were asked for.
 #[derive(Clone, Copy, Debug, PartialEq, Eq)]
 pub struct PastTheEnd {
+    /// The record that was asked for.
+    pub asked: usize,
     /// How many it has.
     pub records: usize,
 }
@@ -159,7 +161,10 @@ pub fn map(log: &[u8], after: Option<usize>) -> Result<Map, PastTheEnd> {
     let of = records(log).count();
     let after = after.unwrap_or(of);
     if after > of {
-        return Err(PastTheEnd { records: of });
+        return Err(PastTheEnd {
+            asked: after,
+            records: of,
+        });
     }
     let mut machine = Machine::default();
     let mut last = None;
@@ -357,12 +362,12 @@ impl Ram {
 }
 
 impl Segment {
-    /// Its number, class and place in the chain.
-    pub fn heading(&self) -> String {
-        let link = self
-            .link
-            .map_or(String::new(), |link| format!(", chain segment {link}"));
-        format!("segment {}: {}{link}", self.number, self.class)
+    /// Its class and place in the chain.
+    pub fn role(&self) -> String {
+        match self.link {
+            Some(link) => format!("{}, chain segment {link}", self.class),
+            None => self.class.to_string(),
+        }
     }
 }
 
@@ -490,10 +495,7 @@ mod tests {
                 (10_000, "user boundary")
             ]
         );
-        assert_eq!(
-            ram.segments[3].heading(),
-            "segment 255: shared, chain segment 0"
-        );
+        assert_eq!(ram.segments[3].role(), "shared, chain segment 0");
         assert_eq!(ram.line[1].device_name, "DISK");
     }
 
@@ -504,7 +506,13 @@ mod tests {
         assert_eq!(title(Some(0)).unwrap(), "RAM before the first of 3 records");
         assert_eq!(title(Some(1)).unwrap(), "RAM after record 1 of 3");
         assert_eq!(title(None).unwrap(), "RAM after record 3 of 3");
-        assert_eq!(title(Some(4)), Err(PastTheEnd { records: 3 }));
+        assert_eq!(
+            title(Some(4)),
+            Err(PastTheEnd {
+                asked: 4,
+                records: 3
+            })
+        );
         assert_eq!(map(&log, Some(0)).unwrap().ram, None);
         let second = map(&log, Some(2)).unwrap();
         assert_eq!(second.record.as_deref(), Some("close 5"));

@@ -115,7 +115,7 @@ impl<'a> Reader<'a> {
         what: &str,
         read: fn(&mut Self) -> Result<Vec<u8>, Mistake>,
     ) -> Result<(), Mistake> {
-        self.peek();
+        self.skip_blanks();
         let start = self.at;
         let bytes = read(self)?;
         let most = LONGEST_BODY - body.len();
@@ -157,7 +157,7 @@ impl<'a> Reader<'a> {
         let mut flags = 0;
         loop {
             flags |= 1 << self.number("a bit", 7)?;
-            if self.peek().is_empty() {
+            if self.is_at_end() {
                 return Ok(flags);
             }
         }
@@ -176,7 +176,7 @@ impl<'a> Reader<'a> {
 
     fn list(&mut self) -> Result<Vec<u8>, Mistake> {
         let mut list = Vec::new();
-        while !self.peek().is_empty() {
+        while !self.is_at_end() {
             list.push(self.byte("a segment number")?);
         }
         Ok(list)
@@ -200,11 +200,11 @@ impl<'a> Reader<'a> {
 
     /// Reads pairs of hex digits, with blanks between pairs or none.
     fn hex(&mut self, what: &str) -> Result<Vec<u8>, Mistake> {
-        if self.peek().is_empty() {
+        if self.is_at_end() {
             return Err(self.mistake(what.to_string()));
         }
         let mut bytes = Vec::new();
-        while !self.peek().is_empty() {
+        while !self.is_at_end() {
             let high = self.digit("a hex digit")?;
             let low = self.digit("the second hex digit of a byte")?;
             bytes.push(high << 4 | low);
@@ -267,7 +267,7 @@ impl<'a> Reader<'a> {
 
     /// Nothing more may stand on the line.
     fn end(&mut self) -> Result<(), Mistake> {
-        if self.peek().is_empty() {
+        if self.is_at_end() {
             Ok(())
         } else {
             Err(self.mistake("the end of the line".to_string()))
@@ -276,16 +276,21 @@ impl<'a> Reader<'a> {
 
     /// Skips blanks; the next word, empty at a comment or the line's end.
     fn peek(&mut self) -> &'a [u8] {
-        let blank = |byte: &u8| matches!(byte, b' ' | b'\t');
+        self.skip_blanks();
         let rest = &self.line[self.at..];
-        let skipped = rest.iter().take_while(|byte| blank(byte)).count();
-        self.at += skipped;
-        let word = &rest[skipped..];
-        let length = word
-            .iter()
-            .take_while(|byte| !blank(byte) && **byte != b'#')
-            .count();
-        &word[..length]
+        let end = |&byte: &u8| is_blank(byte) || byte == b'#';
+        &rest[..rest.iter().position(end).unwrap_or(rest.len())]
+    }
+
+    /// Skips blanks; whether the line ends here or a comment begins.
+    fn is_at_end(&mut self) -> bool {
+        self.skip_blanks();
+        matches!(self.line.get(self.at), None | Some(b'#'))
+    }
+
+    fn skip_blanks(&mut self) {
+        let rest = &self.line[self.at..];
+        self.at += rest.iter().take_while(|byte| is_blank(**byte)).count();
     }
 
     fn take(&mut self, length: usize) {
@@ -310,6 +315,10 @@ impl<'a> Reader<'a> {
             found: found_words(found),
         }
     }
+}
+
+fn is_blank(byte: u8) -> bool {
+    matches!(byte, b' ' | b'\t')
 }
 
 /// The most bytes of a word that a message repeats.

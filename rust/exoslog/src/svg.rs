@@ -13,25 +13,29 @@ const LEAST_HEIGHT: f64 = 512.0;
 const LABEL: f64 = 15.0;
 /// The width of a segment's column.
 const BOX: f64 = 90.0;
-/// The width of the labels to the right of a column.
-const RIGHT: f64 = 250.0;
-/// The width of the labels to the left of a column without and with marks.
-const LEFT: [f64; 2] = [60.0, 165.0];
+/// From a column to the labels on its left and on its right.
+const LEADERS: [f64; 2] = [24.0, 40.0];
+/// About the width of a character of a label.
+const CHARACTER: f64 = 6.4;
+/// Between a segment's labels and the next segment's.
+const GAP: f64 = 10.0;
+/// The width of a picture with no RAM.
+const NO_RAM: f64 = 480.0;
 /// From a row of text to the next.
 const ROW: f64 = 18.0;
 /// The most characters of a record's words.
 const LONGEST_WORDS: usize = 90;
 
-/// The fills of regions with the words of the legend; the patterns differ in
-/// grey too.
+/// The fills of regions with the words of the legend. Only records are of one
+/// colour, so that they stand out in grey too.
 const LEGEND: [(&str, &str); 7] = [
     ("url(#pagezero)", "page zero"),
     ("url(#free)", "free"),
     ("url(#user)", "the user's"),
     ("url(#device)", "a device's"),
     ("#ffffff", "room"),
-    ("#8c8c8c", "linked devices' RAM"),
-    ("#cfcfcf", "above the cold R"),
+    ("url(#linked)", "linked devices' RAM"),
+    ("url(#above)", "above the cold R"),
 ];
 
 /// The fills of records in line order, dark and light in turn.
@@ -42,6 +46,8 @@ const PATTERNS: &str = r##"<defs>
 <pattern id="free" width="8" height="8" patternUnits="userSpaceOnUse"><rect width="8" height="8" fill="#ffffff"/><circle cx="4" cy="4" r="1" fill="#808080"/></pattern>
 <pattern id="user" width="8" height="8" patternUnits="userSpaceOnUse"><rect width="8" height="8" fill="#dcebf7"/><path d="M-2 6L2 10M-2 -2L10 10M6 -2L10 2" stroke="#4a6f8f" stroke-width="1.2"/></pattern>
 <pattern id="device" width="8" height="8" patternUnits="userSpaceOnUse"><rect width="8" height="8" fill="#efe0f2"/><path d="M0 4H8M4 0V8" stroke="#6b4675" stroke-width="1.2"/></pattern>
+<pattern id="linked" width="4" height="4" patternUnits="userSpaceOnUse"><rect width="4" height="4" fill="#ffffff"/><path d="M-1 1L1 -1M-1 5L5 -1M3 5L5 3" stroke="#303030" stroke-width="1"/></pattern>
+<pattern id="above" width="6" height="6" patternUnits="userSpaceOnUse"><rect width="6" height="6" fill="#f0f0f0"/><path d="M0 3H6" stroke="#808080" stroke-width="1"/></pattern>
 </defs>
 "##;
 
@@ -57,13 +63,14 @@ pub fn svg(map: &Map) -> String {
     }
     let width = match &map.ram {
         Some(ram) => {
-            let width = columns_width(ram);
-            y = drawing.columns(ram, y + 2.0 * ROW);
+            let columns = columns(ram, y + 2.0 * ROW);
+            let width = columns.last().map_or(0.0, |column| column.end - MARGIN);
+            y = drawing.columns(&columns);
             y = drawing.legend(y + 2.0 * ROW, width);
             y = drawing.line_table(ram, y + 2.0 * ROW);
             width
         }
-        None => LEFT[1] + BOX + RIGHT,
+        None => NO_RAM,
     };
     drawing.document(&map.title(), width + 2.0 * MARGIN, y + MARGIN)
 }
@@ -87,15 +94,6 @@ fn cut(words: &str) -> String {
     }
     let start: String = words.chars().take(LONGEST_WORDS).collect();
     format!("{start}...")
-}
-
-fn left(ram: &Ram, segment: &Segment) -> f64 {
-    LEFT[usize::from(!ram.marks(segment.number).is_empty())]
-}
-
-fn columns_width(ram: &Ram) -> f64 {
-    let width = |segment| left(ram, segment) + BOX + RIGHT;
-    ram.segments.iter().map(width).sum()
 }
 
 fn fill(region: &Region) -> &'static str {
@@ -185,80 +183,66 @@ impl Drawing {
         ));
     }
 
-    fn path(&mut self, path: &str, look: &str) {
+    /// A thin line.
+    fn path(&mut self, path: &str) {
         self.put(format_args!(
-            r##"<path d="{path}" fill="none" stroke="#000000" {look}/>"##
+            r##"<path d="{path}" fill="none" stroke="#000000" stroke-width="0.6"/>"##
         ));
     }
 
-    /// The segments side by side in list order; where they end below.
-    fn columns(&mut self, ram: &Ram, top: f64) -> f64 {
-        let labels = ram.segments.iter().map(|segment| segment.regions.len());
-        let height = LEAST_HEIGHT.max(LABEL * labels.max().unwrap_or(0) as f64);
-        let mut x = MARGIN;
-        for segment in &ram.segments {
-            let column = Column {
-                x: x + left(ram, segment),
-                top: top + ROW,
-                height,
-            };
-            let title = Text::at(column.x, top + 4.0).size(13).bold();
-            self.text(title, &segment.heading());
-            for region in &segment.regions {
+    /// The segments side by side; where they end below.
+    fn columns(&mut self, columns: &[Column]) -> f64 {
+        for column in columns {
+            let title = Text::at(column.x, column.top - ROW - 14.0).size(13);
+            let number = format!("segment {}", column.segment.number);
+            self.text(title.bold(), &number);
+            let role = Text::at(column.x, column.top - 14.0).size(13);
+            self.text(role, &column.segment.role());
+            for region in &column.segment.regions {
                 let y = column.y(region.offsets.end);
                 let height = column.y(region.offsets.start) - y;
                 self.rect(column.x, y, BOX, height, fill(region));
             }
-            self.region_labels(ram, segment, &column);
-            self.mark_labels(ram, segment, &column);
-            x = column.x + BOX + RIGHT;
+            self.region_labels(column);
+            self.mark_labels(column);
         }
-        top + ROW + height
+        columns.first().map_or(0.0, Column::bottom)
     }
 
     /// What each region is, to the right of its column.
-    fn region_labels(&mut self, ram: &Ram, segment: &Segment, column: &Column) {
+    fn region_labels(&mut self, column: &Column) {
+        let regions = &column.segment.regions;
         let middle =
             |region: &Region| (column.y(region.offsets.start) + column.y(region.offsets.end)) / 2.0;
-        let wanted: Vec<f64> = segment.regions.iter().map(middle).collect();
-        let places = spread(&wanted, column.top, column.top + column.height);
+        let wanted: Vec<f64> = regions.iter().map(middle).collect();
+        let places = spread(&wanted, column.top, column.bottom());
         let x = column.x + BOX;
-        for ((region, from), to) in segment.regions.iter().zip(wanted).zip(places) {
-            let (near, far) = (x + 6.0, x + 18.0);
-            let leader = format!("M{x:.1} {from:.1}H{near:.1}L{far:.1} {to:.1}");
-            self.path(&leader, r#"stroke-width="0.6""#);
-            let offsets = &region.offsets;
-            let words = format!(
-                "{}: {} to {}, {} bytes",
-                region.words(ram),
-                offsets.start,
-                offsets.end - 1,
-                offsets.len()
-            );
-            self.text(Text::at(far + 3.0, to + 4.0), &words);
+        let (near, far) = (x + 5.0, x + LEADERS[1] - 4.0);
+        for ((words, from), to) in column.right.iter().zip(wanted).zip(places) {
+            self.path(&format!("M{x:.1} {from:.1}H{near:.1}L{far:.1} {to:.1}"));
+            self.text(Text::at(far + 4.0, to + 4.0), words);
         }
     }
 
-    /// The ends of the offsets, R and the boundaries, to the left of a column.
-    fn mark_labels(&mut self, ram: &Ram, segment: &Segment, column: &Column) {
-        let mut marks = ram.marks(segment.number);
-        marks.sort_by_key(|&(offset, _)| std::cmp::Reverse(offset));
-        let mut labels = vec![(column.top, (SEGMENT - 1).to_string())];
-        for (offset, name) in marks {
-            let y = column.y(offset);
-            let (start, end) = (column.x - 8.0, column.x + BOX + 4.0);
-            let look = r#"stroke-width="2" stroke-dasharray="6 2""#;
-            self.path(&format!("M{start:.1} {y:.1}H{end:.1}"), look);
-            labels.push((y, format!("{name} {offset}")));
+    /// The ends of the offsets, R and the boundaries, to the left of a column,
+    /// with an arrow for each of R and the boundaries.
+    fn mark_labels(&mut self, column: &Column) {
+        let wanted: Vec<f64> = column.left.iter().map(|(y, _)| *y).collect();
+        let places = spread(&wanted, column.top, column.bottom());
+        let (near, far) = (column.x - 8.0, column.x - LEADERS[0] + 4.0);
+        for ((from, words), to) in column.left.iter().zip(places) {
+            self.path(&format!(
+                "M{:.1} {from:.1}H{near:.1}L{far:.1} {to:.1}",
+                column.x
+            ));
+            self.text(Text::at(far - 4.0, to + 4.0).to_the_left(), words);
         }
-        labels.push((column.top + column.height, "0".to_string()));
-        let wanted: Vec<f64> = labels.iter().map(|(y, _)| *y).collect();
-        let places = spread(&wanted, column.top, column.top + column.height);
-        for ((from, words), to) in labels.iter().zip(places) {
-            let (near, far) = (column.x - 8.0, column.x - 20.0);
-            let leader = format!("M{:.1} {from:.1}H{near:.1}L{far:.1} {to:.1}", column.x);
-            self.path(&leader, r#"stroke-width="0.6""#);
-            self.text(Text::at(far - 3.0, to + 4.0).to_the_left(), words);
+        for (offset, _) in &column.marks {
+            let y = column.y(*offset);
+            self.put(format_args!(
+                r##"<path d="M{:.1} {y:.1}l-9 -4v8z" fill="#000000"/>"##,
+                column.x
+            ));
         }
     }
 
@@ -269,7 +253,7 @@ impl Drawing {
         let mut entries = LEGEND.to_vec();
         entries.extend(records);
         for (fill, words) in entries {
-            let entry = 36.0 + 8.0 * words.len() as f64;
+            let entry = 48.0 + CHARACTER * words.len() as f64;
             if x + entry > MARGIN + width {
                 x = MARGIN;
                 y += ROW + 4.0;
@@ -333,35 +317,100 @@ impl Drawing {
     }
 }
 
-/// Where a segment is drawn.
-struct Column {
+/// Where a segment is drawn, with its labels.
+struct Column<'a> {
+    segment: &'a Segment,
+    marks: Vec<(usize, &'static str)>,
+    left: Vec<(f64, String)>,
+    right: Vec<String>,
     x: f64,
+    end: f64,
     top: f64,
     height: f64,
 }
 
-impl Column {
+/// The segments in list order, side by side.
+fn columns(ram: &Ram, top: f64) -> Vec<Column<'_>> {
+    let labels = ram.segments.iter().map(|segment| segment.regions.len());
+    let height = LEAST_HEIGHT.max(LABEL * labels.max().unwrap_or(0) as f64);
+    let mut columns = Vec::new();
+    let mut x = MARGIN;
+    for segment in &ram.segments {
+        let column = Column::new(ram, segment, x, top + 2.0 * ROW, height);
+        x = column.end;
+        columns.push(column);
+    }
+    columns
+}
+
+impl<'a> Column<'a> {
+    fn new(ram: &Ram, segment: &'a Segment, start: f64, top: f64, height: f64) -> Column<'a> {
+        let mut marks = ram.marks(segment.number);
+        marks.sort_by_key(|&(offset, _)| std::cmp::Reverse(offset));
+        let words = |region: &Region| {
+            let offsets = &region.offsets;
+            let words = region.words(ram);
+            let (first, last) = (offsets.start, offsets.end - 1);
+            format!("{words}: {first} to {last}, {} bytes", offsets.len())
+        };
+        let mut column = Column {
+            segment,
+            marks,
+            left: Vec::new(),
+            right: segment.regions.iter().map(words).collect(),
+            x: start,
+            end: start,
+            top,
+            height,
+        };
+        let mut left = vec![(column.top, (SEGMENT - 1).to_string())];
+        for (offset, name) in &column.marks {
+            left.push((column.y(*offset), format!("{name} {offset}")));
+        }
+        left.push((column.bottom(), "0".to_string()));
+        column.x += LEADERS[0] + longest(left.iter().map(|(_, words)| words));
+        column.end = column.x + BOX + LEADERS[1] + longest(column.right.iter()) + GAP;
+        column.left = left;
+        column
+    }
+
     /// The height of the edge under an offset's byte.
     fn y(&self, offset: usize) -> f64 {
         self.top + self.height * (1.0 - offset as f64 / SEGMENT as f64)
     }
+
+    fn bottom(&self) -> f64 {
+        self.top + self.height
+    }
 }
 
-/// Places for labels near those wanted, which rise: a label's height apart, and
-/// between top and bottom if there are not too many.
+/// About the width of the longest of some labels.
+fn longest<'a>(labels: impl Iterator<Item = &'a String>) -> f64 {
+    CHARACTER * labels.map(String::len).max().unwrap_or(0) as f64
+}
+
+/// Places for labels as near as can be to those wanted, which rise: a label's
+/// height apart, and between top and bottom if there are not too many.
 fn spread(wanted: &[f64], top: f64, bottom: f64) -> Vec<f64> {
-    let mut places = Vec::with_capacity(wanted.len());
-    let mut least = top;
-    for &place in wanted {
-        places.push(place.max(least));
-        least = place.max(least) + LABEL;
+    // with a label's height taken off for each label above, places need only
+    // not fall: labels that would are held together at their mean
+    let mut held: Vec<(f64, usize)> = Vec::new();
+    for (above, place) in wanted.iter().enumerate() {
+        let mut group = (place - LABEL * above as f64, 1);
+        while let Some(&(mean, count)) = held.last().filter(|(mean, _)| *mean > group.0) {
+            held.pop();
+            let both = count + group.1;
+            let sum = mean * count as f64 + group.0 * group.1 as f64;
+            group = (sum / both as f64, both);
+        }
+        held.push(group);
     }
-    let mut most = bottom;
-    for place in places.iter_mut().rev() {
-        *place = place.min(most);
-        most = *place - LABEL;
-    }
-    places
+    let most = bottom - LABEL * wanted.len().saturating_sub(1) as f64;
+    held.iter()
+        .flat_map(|&(mean, count)| std::iter::repeat_n(mean.min(most).max(top), count))
+        .enumerate()
+        .map(|(above, place)| place + LABEL * above as f64)
+        .collect()
 }
 
 /// Text as XML takes it.
@@ -392,8 +441,8 @@ mod tests {
     fn labels_keep_apart_and_in_order() {
         assert_eq!(spread(&[100.0, 200.0], 0.0, 512.0), [100.0, 200.0]);
         assert_eq!(
-            spread(&[100.0, 100.0, 101.0], 0.0, 512.0),
-            [100.0, 115.0, 130.0]
+            spread(&[100.0, 100.0, 100.0, 400.0], 0.0, 512.0),
+            [85.0, 100.0, 115.0, 400.0]
         );
         assert_eq!(
             spread(&[510.0, 511.0, 512.0], 0.0, 512.0),
@@ -404,11 +453,10 @@ mod tests {
 
     #[test]
     fn columns_are_to_scale() {
-        let column = Column {
-            x: 0.0,
-            top: 100.0,
-            height: 512.0,
-        };
+        let log = encode(b"start 11074 254 255").unwrap();
+        let ram = map(&log, None).unwrap().ram.unwrap();
+        let columns = columns(&ram, 100.0 - 2.0 * ROW);
+        let column = &columns[1];
         assert_eq!(column.y(0), 612.0);
         assert_eq!(column.y(16_384), 100.0);
         assert_eq!(column.y(8_192), 356.0);
@@ -426,7 +474,8 @@ mod tests {
         let picture = picture("start 11074 253 254 255\nopen 5 0 11059 \"VIDEO:\"");
         for words in [
             ">RAM after record 2 of 2</text>",
-            ">segment 254: system, chain segment 1</text>",
+            ">segment 254</text>",
+            ">system, chain segment 1</text>",
             ">channel 5: 0 to 11073, 11074 bytes</text>",
             ">channel 5: 16383 to 16383, 1 bytes</text>",
             ">room: 0 to 16382, 16383 bytes</text>",

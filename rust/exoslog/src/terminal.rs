@@ -54,7 +54,7 @@ fn draw(ram: &Ram, lines: &mut Vec<String>) {
 }
 
 fn draw_segment(ram: &Ram, segment: &Segment, lines: &mut Vec<String>) {
-    lines.push(segment.heading());
+    lines.push(format!("segment {}: {}", segment.number, segment.role()));
     let bar: String = (0..CELLS).map(|cell| shown(segment, cell)).collect();
     lines.push(format!("      |{bar}|"));
     for (offset, name) in ram.marks(segment.number) {

@@ -4,7 +4,9 @@ mod args;
 mod help;
 
 use args::{Arguments, Choice};
-use exoslog::{decode, diff, encode, is_in_words, map, svg, terminal, Listing, Mistake};
+use exoslog::{
+    decode, diff, encode, is_in_words, map, svg, terminal, Listing, Mistake, PastTheEnd,
+};
 use std::ffi::{OsStr, OsString};
 use std::fs;
 use std::io::{self, ErrorKind, IsTerminal, Read, Write};
@@ -161,9 +163,11 @@ fn run_map(arguments: &Arguments) -> Result<u8, Trouble> {
     }
     let at = arguments.value("--at").map(record_number).transpose()?;
     let input = Input::read(arguments.operands(0, 1)?.first())?;
-    let map = map(&input.log(form)?, at).map_err(|past| {
-        let records = past.records;
-        Trouble::Input(format!("exoslog: {} has {records} records\n", input.name))
+    let map = map(&input.log(form)?, at).map_err(|PastTheEnd { asked, records }| {
+        let name = &input.name;
+        Trouble::Input(format!(
+            "exoslog: no record {asked}: {name} has {records} records\n"
+        ))
     })?;
     match drawing {
         Some(_) => write(drawing, svg(&map).as_bytes())?,

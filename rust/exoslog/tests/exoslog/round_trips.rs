@@ -1,0 +1,117 @@
+//! Records to words and back, over random bytes.
+
+use crate::random::Random;
+use exoslog::{decode, encode, records, Record, FORMS};
+
+const LOGS: usize = 100_000;
+
+/// The bytes come back, and their words are what they are again.
+fn check(log: &[u8]) {
+    let text = decode(log);
+    assert_eq!(encode(text.as_bytes()).as_deref(), Ok(log), "{text}");
+    assert_eq!(text.lines().count(), records(log).count());
+    assert!(exoslog::is_in_words(text.as_bytes()));
+}
+
+#[test]
+fn random_bytes() {
+    let mut random = Random::new(1);
+    for _ in 0..LOGS {
+        let length = random.below(64);
+        check(&random.bytes(length));
+    }
+}
+
+/// Lengths that are right more often than not, with random kinds and bodies.
+#[test]
+fn random_records() {
+    let mut random = Random::new(2);
+    let mut whole = 0;
+    for _ in 0..LOGS {
+        let mut log = Vec::new();
+        for _ in 0..random.below(6) {
+            put_record(&mut random, &mut log);
+        }
+        damage(&mut random, &mut log);
+        check(&log);
+        whole += records(&log)
+            .filter(|record| matches!(record, Record::Whole { .. }))
+            .count();
+    }
+    assert!(whole > LOGS, "{whole}");
+}
+
+#[test]
+fn long_records() {
+    let mut random = Random::new(3);
+    for length in [2_u16, 4_094, 4_095, 4_096, 4_097, 65_535] {
+        for form in &FORMS {
+            let mut log = length.to_le_bytes().to_vec();
+            log.extend(form.kind.to_le_bytes());
+            log.extend(random.bytes(usize::from(length) - 2));
+            check(&log);
+            log.pop();
+            check(&log);
+        }
+    }
+}
+
+#[test]
+fn every_byte_in_a_name_and_in_data() {
+    let all: Vec<u8> = (0..=255).collect();
+    for head in [&[1, 0, 5, 0, 0, 0][..], &[8, 0, 5, 0, 0]] {
+        let mut log = ((head.len() + all.len()) as u16).to_le_bytes().to_vec();
+        log.extend(head);
+        log.extend(&all);
+        check(&log);
+    }
+}
+
+/// Words in any spelling have the words of `decode` as their one form.
+#[test]
+fn one_form_for_the_same_records() {
+    let spellings = [
+        ("reset 0x50", "reset bits 4 6"),
+        ("reset bits 6 4", "reset bits 4 6"),
+        ("close 0x05 # last", "close 5"),
+        ("write 5 0 \"AB\"", "write 5 0 4142"),
+        ("write 5 0 41 42", "write 5 0 4142"),
+        ("allocate 0", "allocate user"),
+        ("kind 3 05", "close 5"),
+        ("raw 0200 1400", "status"),
+        ("open 5 0 1 \"\\x41\\\\\"", "open 5 0 1 \"A\\\\\""),
+    ];
+    for (spelling, form) in spellings {
+        let log = encode(spelling.as_bytes()).unwrap();
+        assert_eq!(decode(&log), format!("{form}\n"));
+    }
+}
+
+/// Puts a record, mostly of a kind of 01 with a body of about its length.
+fn put_record(random: &mut Random, log: &mut Vec<u8>) {
+    let kind = if random.one_in(8) {
+        random.next() as u16
+    } else {
+        FORMS[random.below(FORMS.len())].kind
+    };
+    let most = random.pick(&[8, 8, 8, 40]);
+    let body = random.below(most);
+    log.extend((body as u16 + 2).to_le_bytes());
+    log.extend(kind.to_le_bytes());
+    log.extend(random.bytes(body));
+}
+
+/// Now and then changes a byte, cuts the log or puts bytes behind it.
+fn damage(random: &mut Random, log: &mut Vec<u8>) {
+    if random.one_in(4) && !log.is_empty() {
+        let at = random.below(log.len());
+        log[at] = random.next() as u8;
+    }
+    if random.one_in(4) {
+        log.truncate(random.below(log.len() + 1));
+    }
+    if random.one_in(4) {
+        let more = random.below(5);
+        log.extend(random.bytes(more));
+    }
+}
