@@ -12,6 +12,7 @@ mod grammar;
 mod map;
 mod mistakes;
 mod parse;
+mod reader;
 mod records;
 mod replay;
 mod svg;

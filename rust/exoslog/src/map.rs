@@ -371,17 +371,28 @@ impl Segment {
     }
 }
 
-impl Region {
-    /// What it is, in words.
-    pub fn words(&self, ram: &Ram) -> String {
-        match &self.what {
+impl What {
+    /// All that a region may hold, but records.
+    pub const KINDS: [What; 7] = [
+        What::PageZero,
+        What::Free,
+        What::User,
+        What::Device,
+        What::Room,
+        What::Linked,
+        What::AboveColdR,
+    ];
+
+    /// What it is, in words; a record is known by its channel in the line.
+    pub fn words(&self, line: &[LineRecord]) -> String {
+        match self {
             What::PageZero => "page zero".to_string(),
             What::Free => "free".to_string(),
             What::User => "the user's".to_string(),
             What::Device => "a device's".to_string(),
             What::AboveColdR => "above the cold R".to_string(),
             What::Linked => "linked devices' RAM".to_string(),
-            What::Record { row, .. } => format!("channel {}", ram.line[*row].channel),
+            What::Record { row, .. } => format!("channel {}", line[*row].channel),
             What::Room => "room".to_string(),
         }
     }

@@ -2,6 +2,7 @@
 
 use crate::grammar::{Field, Form, FORMS};
 use crate::mistakes::Mistake;
+use crate::reader::Reader;
 use crate::records::{put_record, LONGEST};
 
 /// The most bytes of a body.
@@ -24,19 +25,7 @@ pub fn encode(text: &[u8]) -> Result<Vec<u8>, Vec<Mistake>> {
     }
 }
 
-/// Reads a line from left to right.
-struct Reader<'a> {
-    row: usize,
-    line: &'a [u8],
-    at: usize,
-}
-
-impl<'a> Reader<'a> {
-    fn new(row: usize, line: &'a [u8]) -> Self {
-        let line = line.strip_suffix(b"\r").unwrap_or(line);
-        Reader { row, line, at: 0 }
-    }
-
+impl Reader<'_> {
     /// Reads a record, or nothing but blanks and a comment.
     fn record(&mut self, log: &mut Vec<u8>) -> Result<(), Mistake> {
         match self.peek() {
@@ -64,33 +53,27 @@ impl<'a> Reader<'a> {
         self.end()
     }
 
-    /// Reads the words of a form.
+    /// Reads the words of a form, one by one.
     fn form(&mut self) -> Result<&'static Form, Mistake> {
         let mut forms: Vec<&Form> = FORMS.iter().collect();
-        for place in 0.. {
+        let mut others = vec!["kind", "raw"];
+        let mut place = 0;
+        loop {
             let word = self.peek();
-            let nth = |form: &Form| form.words.split(' ').nth(place);
-            let fitting: Vec<&Form> = forms
-                .iter()
-                .copied()
-                .filter(|form| nth(form).is_some_and(|known| known.as_bytes() == word))
-                .collect();
-            if fitting.is_empty() {
-                let mut known: Vec<&str> = forms.iter().filter_map(|form| nth(form)).collect();
-                if place == 0 {
-                    known.extend(["kind", "raw"]);
-                }
-                return Err(self.mistake(one_of(&known)));
-            }
-            self.take(word.len());
-            forms = fitting;
-            if let [form] = forms[..] {
-                if form.words.split(' ').count() == place + 1 {
+            let nth = |form: &&Form| form.words.split(' ').nth(place);
+            let mut known: Vec<&str> = forms.iter().filter_map(nth).collect();
+            known.append(&mut others);
+            forms.retain(|form| nth(form).is_some_and(|known| known.as_bytes() == word));
+            place += 1;
+            match forms[..] {
+                [] => return Err(self.mistake(one_of(&known))),
+                [form] if form.words.split(' ').count() == place => {
+                    self.take(word.len());
                     return Ok(form);
                 }
+                _ => self.take(word.len()),
             }
         }
-        unreachable!("no form has endless words")
     }
 
     /// Reads a field and puts it behind the body, which stays within 4,094
@@ -115,37 +98,15 @@ impl<'a> Reader<'a> {
         what: &str,
         read: fn(&mut Self) -> Result<Vec<u8>, Mistake>,
     ) -> Result<(), Mistake> {
-        self.skip_blanks();
-        let start = self.at;
+        let start = self.place();
         let bytes = read(self)?;
         let most = LONGEST_BODY - body.len();
         if bytes.len() > most {
-            return Err(Mistake {
-                line: self.row,
-                column: start + 1,
-                width: self.at - start,
-                expected: format!("at most {most} {what}"),
-                found: bytes.len().to_string(),
-            });
+            let expected = format!("at most {most} {what}");
+            return Err(self.mistake_since(start, expected, bytes.len().to_string()));
         }
         body.extend(bytes);
         Ok(())
-    }
-
-    /// Reads a number, decimal or `0x` and hex digits, up to the most.
-    fn number(&mut self, what: &str, most: u16) -> Result<u16, Mistake> {
-        let word = self.peek();
-        match value(word).filter(|&value| value <= most) {
-            Some(value) => {
-                self.take(word.len());
-                Ok(value)
-            }
-            None => Err(self.mistake(format!("{what} 0 to {most}"))),
-        }
-    }
-
-    fn byte(&mut self, what: &str) -> Result<u8, Mistake> {
-        Ok(self.number(what, u8::MAX.into())? as u8)
     }
 
     /// Reads `bits` and the numbers of bits, or the value of the flags.
@@ -197,142 +158,6 @@ impl<'a> Reader<'a> {
             self.hex("data as pairs of hex digits or in double quotes")
         }
     }
-
-    /// Reads pairs of hex digits, with blanks between pairs or none.
-    fn hex(&mut self, what: &str) -> Result<Vec<u8>, Mistake> {
-        if self.is_at_end() {
-            return Err(self.mistake(what.to_string()));
-        }
-        let mut bytes = Vec::new();
-        while !self.is_at_end() {
-            let high = self.digit("a hex digit")?;
-            let low = self.digit("the second hex digit of a byte")?;
-            bytes.push(high << 4 | low);
-        }
-        Ok(bytes)
-    }
-
-    fn digit(&mut self, what: &str) -> Result<u8, Mistake> {
-        let byte = self.line.get(self.at).copied();
-        match byte.and_then(|byte| char::from(byte).to_digit(16)) {
-            Some(digit) => {
-                self.take(1);
-                Ok(digit as u8)
-            }
-            None => Err(self.mistake_in_word(what, 1)),
-        }
-    }
-
-    /// Reads a string from its double quote on.
-    fn string(&mut self) -> Result<Vec<u8>, Mistake> {
-        self.take(1);
-        let mut bytes = Vec::new();
-        loop {
-            match self.line.get(self.at) {
-                Some(b'"') => {
-                    self.take(1);
-                    return Ok(bytes);
-                }
-                Some(b'\\') => bytes.push(self.escape()?),
-                Some(&byte @ b' '..=b'~') => {
-                    bytes.push(byte);
-                    self.take(1);
-                }
-                Some(_) => {
-                    return Err(
-                        self.mistake_in_word("a printable byte or \\x and two hex digits", 1)
-                    )
-                }
-                None => return Err(self.mistake_in_word("a closing double quote", 1)),
-            }
-        }
-    }
-
-    /// Reads `\\`, `\"`, or `\x` and two hex digits.
-    fn escape(&mut self) -> Result<u8, Mistake> {
-        match self.line.get(self.at + 1) {
-            Some(&byte @ (b'\\' | b'"')) => {
-                self.take(2);
-                Ok(byte)
-            }
-            Some(b'x') => {
-                self.take(2);
-                let high = self.digit("a hex digit")?;
-                let low = self.digit("the second hex digit of a byte")?;
-                Ok(high << 4 | low)
-            }
-            _ => Err(self.mistake_in_word("\\\\, \\\" or \\x and two hex digits", 2)),
-        }
-    }
-
-    /// Nothing more may stand on the line.
-    fn end(&mut self) -> Result<(), Mistake> {
-        if self.is_at_end() {
-            Ok(())
-        } else {
-            Err(self.mistake("the end of the line".to_string()))
-        }
-    }
-
-    /// Skips blanks; the next word, empty at a comment or the line's end.
-    fn peek(&mut self) -> &'a [u8] {
-        self.skip_blanks();
-        let rest = &self.line[self.at..];
-        let end = |&byte: &u8| is_blank(byte) || byte == b'#';
-        &rest[..rest.iter().position(end).unwrap_or(rest.len())]
-    }
-
-    /// Skips blanks; whether the line ends here or a comment begins.
-    fn is_at_end(&mut self) -> bool {
-        self.skip_blanks();
-        matches!(self.line.get(self.at), None | Some(b'#'))
-    }
-
-    fn skip_blanks(&mut self) {
-        let rest = &self.line[self.at..];
-        self.at += rest.iter().take_while(|byte| is_blank(**byte)).count();
-    }
-
-    fn take(&mut self, length: usize) {
-        self.at += length;
-    }
-
-    /// The next word is not what was expected.
-    fn mistake(&mut self, expected: String) -> Mistake {
-        let width = self.peek().len();
-        self.mistake_in_word(&expected, width)
-    }
-
-    /// The next bytes are not what was expected.
-    fn mistake_in_word(&self, expected: &str, width: usize) -> Mistake {
-        let rest = &self.line[self.at..];
-        let found = &rest[..width.min(rest.len())];
-        Mistake {
-            line: self.row,
-            column: self.at + 1,
-            width: width.max(1),
-            expected: expected.to_string(),
-            found: found_words(found),
-        }
-    }
-}
-
-fn is_blank(byte: u8) -> bool {
-    matches!(byte, b' ' | b'\t')
-}
-
-/// The most bytes of a word that a message repeats.
-const LONGEST_FOUND: usize = 32;
-
-fn found_words(found: &[u8]) -> String {
-    if found.is_empty() {
-        return "the end of the line".to_string();
-    }
-    let (start, dots) = match found.get(..LONGEST_FOUND) {
-        Some(start) if found.len() > LONGEST_FOUND => (start, "..."),
-        _ => (found, ""),
-    };
-    format!("\"{}{dots}\"", start.escape_ascii())
 }
 
 /// The words, each once, in their order.
@@ -348,19 +173,6 @@ fn one_of(words: &[&str]) -> String {
         Some((last, rest)) => format!("{} or {last}", rest.join(", ")),
         None => String::new(),
     }
-}
-
-/// The value of a number, decimal or `0x` and hex digits.
-fn value(word: &[u8]) -> Option<u16> {
-    let word = std::str::from_utf8(word).ok()?;
-    let (digits, radix) = match word.strip_prefix("0x") {
-        Some(digits) => (digits, 16),
-        None => (word, 10),
-    };
-    if digits.starts_with('+') {
-        return None;
-    }
-    u16::from_str_radix(digits, radix).ok()
 }
 
 #[cfg(test)]
@@ -539,6 +351,10 @@ boundary
         assert_eq!(
             mistake("write 5 98"),
             "1:11: expected data as pairs of hex digits or in double quotes, found the end of the line"
+        );
+        assert_eq!(
+            mistake("write 5 98 xyz"),
+            "1:12: expected data as pairs of hex digits or in double quotes, found \"xyz\""
         );
         assert_eq!(
             mistake("write 5 98 aag5"),

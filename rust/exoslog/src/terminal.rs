@@ -46,11 +46,19 @@ fn draw(ram: &Ram, lines: &mut Vec<String>) {
     }
     draw_line(ram, lines);
     lines.push(String::new());
-    lines.push("a cell of a bar is 256 bytes; z page zero, . free, u the user's, d a".to_string());
-    lines.push(
-        "device's, _ room, l linked devices' RAM, = above the cold R, A and so on".to_string(),
-    );
-    lines.push("channels, * several channels".to_string());
+    lines.extend(legend());
+}
+
+fn legend() -> Vec<String> {
+    let kind = |what: &What| format!("{} {}", sign(what), what.words(&[]));
+    let mut lines = vec![
+        "a cell of a bar is 256 bytes; A and so on are channels, * several channels,".to_string(),
+    ];
+    for kinds in What::KINDS.chunks(5) {
+        let kinds: Vec<String> = kinds.iter().map(kind).collect();
+        lines.push(kinds.join(", "));
+    }
+    lines
 }
 
 fn draw_segment(ram: &Ram, segment: &Segment, lines: &mut Vec<String>) {
@@ -76,21 +84,23 @@ fn shown(segment: &Segment, cell: usize) -> char {
     let here = || segment.regions.iter().filter(|region| bytes(region) > 0);
     let channels = here().filter(|region| matches!(region.what, What::Record { .. }));
     match channels.collect::<Vec<_>>()[..] {
-        [] => here().max_by_key(|region| bytes(region)).map_or(' ', sign),
-        [region] => sign(region),
+        [] => here()
+            .max_by_key(|region| bytes(region))
+            .map_or(' ', |region| sign(&region.what)),
+        [region] => sign(&region.what),
         _ => '*',
     }
 }
 
-fn sign(region: &Region) -> char {
-    match region.what {
+fn sign(what: &What) -> char {
+    match what {
         What::PageZero => 'z',
         What::Free => '.',
         What::User => 'u',
         What::Device => 'd',
         What::AboveColdR => '=',
         What::Linked => 'l',
-        What::Record { row, .. } => letter(row),
+        What::Record { row, .. } => letter(*row),
         What::Room => '_',
     }
 }
@@ -128,7 +138,7 @@ fn row(ram: &Ram, region: &Region) -> String {
         offsets.start,
         offsets.end - 1,
         offsets.len(),
-        region.words(ram)
+        region.what.words(&ram.line)
     )
 }
 
@@ -209,9 +219,9 @@ the line: positions 0 to 4115
   A       5    84   100  0 to 99             3 1 NET
   B      17  4000  4016  100 to 4115         0 3 DISK
 
-a cell of a bar is 256 bytes; z page zero, . free, u the user's, d a
-device's, _ room, l linked devices' RAM, = above the cold R, A and so on
-channels, * several channels
+a cell of a bar is 256 bytes; A and so on are channels, * several channels,
+z page zero, . free, u the user's, d a device's, _ room
+l linked devices' RAM, = above the cold R
 ";
         assert_eq!(picture(text), expected);
     }
