@@ -3,7 +3,7 @@
 use crate::answers::answer;
 use crate::grammar::form_of;
 use crate::records::records;
-use crate::words::words;
+use crate::words::{counted, words};
 use exos_kernel::SHARED_GRANT;
 
 /// A listing with the name of its file.
@@ -41,7 +41,12 @@ fn difference(
     let mut lines = vec![format!("record {record} differs")];
     if let Some(log) = log {
         let words = records(log).nth(record - 1).map_or_else(
-            || format!("none, the log has {} records", records(log).count()),
+            || {
+                format!(
+                    "none, the log has {}",
+                    counted(records(log).count(), "record")
+                )
+            },
             words,
         );
         lines.push(format!("  record: {words}"));
@@ -260,7 +265,7 @@ mod tests {
         );
         assert_eq!(
             compared("20 1 0 0\n", "20 1 0 0\nbad\n", Some("status")).unwrap(),
-            "record 2 differs\n  record: none, the log has 1 records\n  one: ends before this record\n  two: bad\n"
+            "record 2 differs\n  record: none, the log has 1 record\n  one: ends before this record\n  two: bad\n"
         );
     }
 

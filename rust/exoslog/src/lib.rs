@@ -29,7 +29,7 @@ pub use records::{records, Record, Records, LONGEST};
 pub use replay::Machine;
 pub use svg::svg;
 pub use terminal::terminal;
-pub use words::{decode, words};
+pub use words::{counted, decode, words};
 
 /// Whether a log is in words: it has no control byte but tab, newline and
 /// carriage return. A record of a kind of 01 has one, since the high byte of

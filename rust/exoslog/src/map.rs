@@ -3,7 +3,7 @@
 use crate::answers::answer;
 use crate::records::{records, Record};
 use crate::replay::Machine;
-use crate::words::words;
+use crate::words::{counted, words};
 use exos_kernel::{class, Channel, Reply, Tables, HEADING, SEGMENT};
 use std::fmt;
 use std::ops::Range;
@@ -68,15 +68,19 @@ pub struct Segment {
 
 /// "Each other segment has one class: free, user, system, device, shared."
 #[derive(Clone, Copy, Debug, PartialEq, Eq)]
-#[allow(missing_docs)]
 pub enum Class {
     /// "The first in the list is the page zero segment, outside every
     /// allocation."
     PageZero,
+    /// Held by nobody.
     Free,
+    /// Held by the user.
     User,
+    /// Held by the system.
     System,
+    /// Held by a device.
     Device,
+    /// Held by the system above and the user below.
     Shared,
 }
 
@@ -316,7 +320,7 @@ impl Map {
     /// "RAM after record 4 of 8".
     pub fn title(&self) -> String {
         match self.after {
-            0 => format!("RAM before the first of {} records", self.of),
+            0 => format!("RAM before any of {}", counted(self.of, "record")),
             after => format!("RAM after record {after} of {}", self.of),
         }
     }
@@ -514,7 +518,7 @@ mod tests {
     fn the_kth_record_and_past_the_end() {
         let log = encode(format!("{START}close 5\nraw 09").as_bytes()).unwrap();
         let title = |after| map(&log, after).map(|map| map.title());
-        assert_eq!(title(Some(0)).unwrap(), "RAM before the first of 3 records");
+        assert_eq!(title(Some(0)).unwrap(), "RAM before any of 3 records");
         assert_eq!(title(Some(1)).unwrap(), "RAM after record 1 of 3");
         assert_eq!(title(None).unwrap(), "RAM after record 3 of 3");
         assert_eq!(

@@ -59,28 +59,23 @@ impl<'a> Reader<'a> {
 
     /// Reads a string from its double quote on.
     pub(crate) fn string(&mut self) -> Result<Vec<u8>, Mistake> {
+        const PRINTABLE: &str = "a printable byte or \\x and two hex digits";
         self.take(1);
         let mut bytes = Vec::new();
         loop {
-            let expected = match self.line.get(self.at) {
-                Some(b'"') => {
-                    self.take(1);
-                    return Ok(bytes);
-                }
-                Some(b'\\') => {
-                    bytes.push(self.escape()?);
-                    continue;
-                }
+            match self.line.get(self.at) {
+                Some(b'"') => break,
+                Some(b'\\') => bytes.push(self.escape()?),
                 Some(&byte @ b' '..=b'~') => {
                     bytes.push(byte);
                     self.take(1);
-                    continue;
                 }
-                Some(_) => "a printable byte or \\x and two hex digits",
-                None => "a closing double quote",
-            };
-            return Err(self.mistake_in_word(expected, 1));
+                Some(_) => return Err(self.mistake_in_word(PRINTABLE, 1)),
+                None => return Err(self.mistake_in_word("a closing double quote", 1)),
+            }
         }
+        self.take(1);
+        Ok(bytes)
     }
 
     /// Reads `\\`, `\"`, or `\x` and two hex digits.

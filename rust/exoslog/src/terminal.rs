@@ -1,6 +1,7 @@
 //! The picture as plain text, at most 80 columns wide.
 
 use crate::map::{Map, Ram, Region, Segment, What};
+use crate::words::counted;
 
 /// The cells of a segment's bar; a cell is 256 bytes.
 const CELLS: usize = 64;
@@ -49,16 +50,15 @@ fn draw(ram: &Ram, lines: &mut Vec<String>) {
     lines.extend(legend());
 }
 
-fn legend() -> Vec<String> {
+fn legend() -> [String; 3] {
     let kind = |what: &What| format!("{} {}", sign(what), what.words(&[]));
-    let mut lines = vec![
-        "a cell of a bar is 256 bytes; A and so on are channels, * several channels,".to_string(),
-    ];
-    for kinds in What::KINDS.chunks(5) {
-        let kinds: Vec<String> = kinds.iter().map(kind).collect();
-        lines.push(kinds.join(", "));
-    }
-    lines
+    let joined = |kinds: &[What]| kinds.iter().map(kind).collect::<Vec<_>>().join(", ");
+    let (some, others) = What::KINDS.split_at(5);
+    [
+        "a cell of a bar is 256 bytes: A and so on channels, * several channels,".to_string(),
+        joined(some) + ",",
+        joined(others),
+    ]
 }
 
 fn draw_segment(ram: &Ram, segment: &Segment, lines: &mut Vec<String>) {
@@ -134,10 +134,10 @@ fn row(ram: &Ram, region: &Region) -> String {
         _ => String::new(),
     };
     format!(
-        "{:11} to {:5} {:6} bytes  {letter} {}{positions}",
+        "{:11} to {:5} {:>12}  {letter} {}{positions}",
         offsets.start,
         offsets.end - 1,
-        offsets.len(),
+        counted(offsets.len(), "byte"),
         region.what.words(&ram.line)
     )
 }
@@ -181,7 +181,7 @@ mod tests {
     fn no_ram_before_a_start() {
         assert_eq!(
             picture(""),
-            "RAM before the first of 0 records\n\nno RAM: no start was accepted\n"
+            "RAM before any of 0 records\n\nno RAM: no start was accepted\n"
         );
     }
 
@@ -219,8 +219,8 @@ the line: positions 0 to 4115
   A       5    84   100  0 to 99             3 1 NET
   B      17  4000  4016  100 to 4115         0 3 DISK
 
-a cell of a bar is 256 bytes; A and so on are channels, * several channels,
-z page zero, . free, u the user's, d a device's, _ room
+a cell of a bar is 256 bytes: A and so on channels, * several channels,
+z page zero, . free, u the user's, d a device's, _ room,
 l linked devices' RAM, = above the cold R
 ";
         assert_eq!(picture(text), expected);

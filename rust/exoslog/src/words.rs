@@ -79,6 +79,12 @@ fn data(bytes: &[u8]) -> String {
     hex(bytes)
 }
 
+/// A count of things: `1 byte`, `2 bytes`.
+pub fn counted(count: usize, thing: &str) -> String {
+    let s = if count == 1 { "" } else { "s" };
+    format!("{count} {thing}{s}")
+}
+
 /// Bytes in lower-case hex.
 pub(crate) fn hex(bytes: &[u8]) -> String {
     let digit = |value: u8| char::from(b"0123456789abcdef"[usize::from(value)]);

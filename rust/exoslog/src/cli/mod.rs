@@ -5,7 +5,7 @@ mod help;
 
 use args::{Arguments, Choice};
 use exoslog::{
-    decode, diff, encode, is_in_words, map, svg, terminal, Listing, Mistake, PastTheEnd,
+    counted, decode, diff, encode, is_in_words, map, svg, terminal, Listing, Mistake, PastTheEnd,
 };
 use std::ffi::{OsStr, OsString};
 use std::fs;
@@ -138,12 +138,13 @@ fn tell(trouble: Trouble, name: &str) -> u8 {
 }
 
 fn run_encode(arguments: &Arguments) -> Result<u8, Trouble> {
-    let input = Input::read(arguments.operands(0, 1)?.first())?;
+    let file = arguments.operands(0, 1)?.first();
     let output = arguments.value("--output");
     if output.is_none() && io::stdout().is_terminal() {
         let what = "event records are binary: give -o OUT, or send the output to a file or a pipe";
         return Err(Trouble::Usage(what.to_string()));
     }
+    let input = Input::read(file)?;
     let log = encode(&input.bytes).map_err(|mistakes| input.mistakes(&mistakes))?;
     write(output, &log)?;
     Ok(DONE)
@@ -166,7 +167,8 @@ fn run_map(arguments: &Arguments) -> Result<u8, Trouble> {
     let map = map(&input.log(form)?, at).map_err(|PastTheEnd { asked, records }| {
         let name = &input.name;
         Trouble::Input(format!(
-            "exoslog: no record {asked}: {name} has {records} records\n"
+            "exoslog: no record {asked}: {name} has {}\n",
+            counted(records, "record")
         ))
     })?;
     match drawing {

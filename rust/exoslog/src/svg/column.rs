@@ -3,6 +3,7 @@
 use super::drawing::{Drawing, Text};
 use super::{fill, CHARACTER, MARGIN, ROW};
 use crate::map::{Ram, Region, Segment};
+use crate::words::counted;
 use std::cmp::Reverse;
 use std::iter::repeat_n;
 
@@ -59,7 +60,10 @@ impl<'a> Column<'a> {
             let offsets = &region.offsets;
             let (first, last) = (offsets.start, offsets.end - 1);
             let words = region.what.words(&ram.line);
-            format!("{words}: {first} to {last}, {} bytes", offsets.len())
+            format!(
+                "{words}: {first} to {last}, {}",
+                counted(offsets.len(), "byte")
+            )
         };
         let mut left = vec![(top, (SEGMENT - 1).to_string())];
         for (offset, name) in &marks {

@@ -159,7 +159,7 @@ mod tests {
             ">segment 254</text>",
             ">system, chain segment 1</text>",
             ">channel 5: 0 to 11073, 11074 bytes</text>",
-            ">channel 5: 16383 to 16383, 1 bytes</text>",
+            ">channel 5: 16383 to 16383, 1 byte</text>",
             ">room: 0 to 16382, 16383 bytes</text>",
             ">EXOS boundary 16383</text>",
             ">R 11074</text>",

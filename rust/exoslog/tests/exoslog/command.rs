@@ -262,6 +262,30 @@ fn listings_that_differ_and_do_not() {
     assert!(ran.err.contains(":1:7: expected a channel number"));
 }
 
+/// A maker's kernel that compares pages grants a buffer four bytes too long.
+#[test]
+fn a_worked_audit() {
+    let log = include_bytes!("../data/audit.log");
+    let maker = include_bytes!("../data/maker.list");
+    let mut ours = Vec::new();
+    exos_kernel::listing(&run(&["encode"], log).out[..], &mut ours).unwrap();
+    let ours = File::new("ours.list", &ours);
+    let maker = File::new("maker.list", maker);
+    let log = File::new("audit.log", log);
+    let ran = run(&["diff", ours.name(), maker.name(), log.name()], b"");
+    let expected = format!(
+        "record 6 differs\n  record: open 5 0 1062 \"VIDEO:\"\n  {}: 1 9 0 0\n  \
+         {}: 1 0 0 0\n  answer: 9 ROOM, 0 done\n",
+        ours.name(),
+        maker.name()
+    );
+    assert_eq!((ran.status, ran.text()), (1, expected.as_str()));
+    let ran = run(&["map", "--at", "5", log.name()], b"");
+    let numbers = "R 11074, cold R 11074, T 0, chain 255\n\
+                   EXOS boundary 11074 of 255, user boundary 10000 of 255\n";
+    assert!(ran.text().contains(numbers));
+}
+
 #[test]
 fn a_broken_pipe_ends_quietly() {
     let log = File::new("pipe.bin", &[9; 4_000_000]);

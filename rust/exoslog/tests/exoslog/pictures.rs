@@ -1,46 +1,10 @@
 //! What the pictures show, against the bytes of the RAM.
 
+use crate::logs::random_log;
 use crate::random::Random;
-use exoslog::{encode, map, records, svg, terminal, Class, Machine, Map, Ram, What};
+use exoslog::{map, records, svg, terminal, Class, Machine, Map, Ram, What};
 
 const SEGMENT: usize = 16_384;
-
-/// A log of calls that mostly succeed.
-fn random_log(random: &mut Random) -> Vec<u8> {
-    let lists = ["252 253 254 255", "9 200 255", "100 101 102 255", "8 255"];
-    let mut text = format!(
-        "start {} {}\n",
-        256 + random.below(15_873),
-        random.pick(&lists)
-    );
-    for step in 0..random.below(40) {
-        let n = match random.below(4) {
-            0 => random.below(40),
-            1 => random.below(20_000),
-            _ => random.below(3_000),
-        };
-        let channel = random.below(12);
-        let segment = random.pick(&[253, 254, 255, 200, 101, 102]);
-        text.push_str(&match random.below(16) {
-            0..=5 => format!(
-                "open {channel} 0 {n} \"{}\"\n",
-                random.pick(&["video:", "NET-7:f", "DISK:"])
-            ),
-            6..=7 => format!("close {channel}\n"),
-            8..=9 => format!("write {channel} 0 {:02x}\n", step),
-            10 => format!("link {} \"DISK\"\n", random.below(600)),
-            11 => format!("allocate {}\n", random.pick(&["user", "device"])),
-            12 => "allocate user\n".to_string(),
-            13 => format!("set user boundary {n}\n"),
-            14 => format!("free {} {segment}\n", random.pick(&["user", "device"])),
-            _ => format!(
-                "reset bits {}\n",
-                random.pick(&["4", "5", "6", "4 6", "5 6"])
-            ),
-        });
-    }
-    encode(text.as_bytes()).unwrap()
-}
 
 fn after(log: &[u8]) -> (Map, Machine) {
     let mut machine = Machine::default();
@@ -148,5 +112,28 @@ fn pictures_of_random_logs_have_80_columns_and_whole_elements() {
         for element in ["rect", "path", "text"] {
             assert!(drawing.contains(&format!("<{element} ")));
         }
+    }
+}
+
+/// The pictures of the logs in the data folder, as they were looked at.
+#[test]
+fn pictures_to_the_letter() {
+    let pictures = [
+        (
+            include_bytes!("../data/example.log").as_slice(),
+            include_str!("../data/example.map"),
+        ),
+        (
+            include_bytes!("../data/shared.log"),
+            include_str!("../data/shared.map"),
+        ),
+        (
+            include_bytes!("../data/crowded.log"),
+            include_str!("../data/crowded.map"),
+        ),
+    ];
+    for (log, picture) in pictures {
+        let log = exoslog::encode(log).unwrap();
+        assert_eq!(terminal(&map(&log, None).unwrap()), picture);
     }
 }

@@ -1,5 +1,6 @@
 //! Records to words and back, over random bytes.
 
+use crate::logs::damage;
 use crate::random::Random;
 use exoslog::{decode, encode, records, Record, FORMS};
 
@@ -99,19 +100,4 @@ fn put_record(random: &mut Random, log: &mut Vec<u8>) {
     log.extend((body as u16 + 2).to_le_bytes());
     log.extend(kind.to_le_bytes());
     log.extend(random.bytes(body));
-}
-
-/// Now and then changes a byte, cuts the log or puts bytes behind it.
-fn damage(random: &mut Random, log: &mut Vec<u8>) {
-    if random.one_in(4) && !log.is_empty() {
-        let at = random.below(log.len());
-        log[at] = random.next() as u8;
-    }
-    if random.one_in(4) {
-        log.truncate(random.below(log.len() + 1));
-    }
-    if random.one_in(4) {
-        let more = random.below(5);
-        log.extend(random.bytes(more));
-    }
 }
