@@ -26,7 +26,7 @@ pub use map::{map, Boundary, Class, LineRecord, Map, PastTheEnd, Ram, Region, Se
 pub use mistakes::Mistake;
 pub use parse::encode;
 pub use records::{records, Record, Records, LONGEST};
-pub use replay::Machine;
+pub use replay::answer_to;
 pub use svg::svg;
 pub use terminal::terminal;
 pub use words::{counted, decode, words};

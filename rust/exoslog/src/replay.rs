@@ -1,88 +1,29 @@
 //! A log replayed as the listing program runs it.
 
 use crate::records::Record;
-use exos_kernel::{call, decode, Call, Refusal, Reply, Tables, SEGMENT};
+use exos_kernel::{call, decode, Call, Machine, Reply};
 
-/// "It lends at most four segments."
-const SEGMENTS: usize = 4;
-/// "And 4,096 bytes of output."
-const OUTPUT: usize = 4_096;
-
-/// The tables, and the RAM and the output that the listing program lends.
-#[derive(Clone)]
-pub struct Machine {
-    tables: Tables,
-    ram: Vec<u8>,
-    lent: usize,
-    output: Vec<u8>,
-}
-
-impl Default for Machine {
-    /// Before an accepted start: "every other kind answers 1".
-    fn default() -> Self {
-        Machine {
-            tables: Tables::default(),
-            ram: vec![0; SEGMENTS * SEGMENT],
-            lent: 0,
-            output: vec![0; OUTPUT],
-        }
+/// Makes a record's call; "a bad length or cut record" has no answer.
+pub fn answer_to(machine: &mut Machine, record: Record) -> Option<Reply> {
+    match record {
+        Record::Whole { kind, body } => Some(machine.answer(decode(kind, body))),
+        Record::Bad(_) => None,
     }
 }
 
-impl Machine {
-    /// Makes a record's call; "a bad length or cut record" has no answer.
-    pub fn answer(&mut self, record: Record) -> Option<Reply> {
-        let Record::Whole { kind, body } = record else {
-            return None;
-        };
-        let request = decode(kind, body);
-        Some(match request {
-            Call::Start { list, .. } => self.start(request, list.len()),
-            _ => self.call(request, self.lent),
-        })
-    }
-
-    /// "A start of more than four segments answers 16."
-    fn start(&mut self, request: Call, segments: usize) -> Reply {
-        if segments > SEGMENTS {
-            return Refusal::Start.into();
-        }
-        let lent = segments * SEGMENT;
-        let reply = self.call(request, lent);
-        if reply.number == 0 {
-            self.lent = lent;
-        }
-        reply
-    }
-
-    fn call(&mut self, request: Call, lent: usize) -> Reply {
-        let ram = &mut self.ram[..lent];
-        call(&mut self.tables, ram, request, &mut self.output)
-    }
-
-    /// The tables, after an accepted start.
-    pub fn tables(&self) -> Option<&Tables> {
-        (self.lent > 0).then_some(&self.tables)
-    }
-
-    /// The RAM that is lent, "16,384 bytes a segment in list order".
-    pub fn ram(&self) -> &[u8] {
-        &self.ram[..self.lent]
-    }
-
-    /// The last chain segment and the EXOS boundary, as the call `boundary`
-    /// gives them.
-    pub(crate) fn boundary(&self) -> Reply {
-        let mut tables = self.tables.clone();
-        let mut ram = self.ram().to_vec();
-        call(&mut tables, &mut ram, Call::Boundary, &mut [])
-    }
+/// The last chain segment and the EXOS boundary, as the call `boundary` gives
+/// them.
+pub(crate) fn boundary(machine: &Machine) -> Option<Reply> {
+    let mut tables = machine.tables()?.clone();
+    let mut ram = machine.ram().to_vec();
+    Some(call(&mut tables, &mut ram, Call::Boundary, &mut []))
 }
 
 #[cfg(test)]
 mod tests {
     use super::*;
     use crate::{encode, records};
+    use exos_kernel::SEGMENT;
 
     #[test]
     fn the_answers_are_those_of_the_listing() {
@@ -101,7 +42,7 @@ mod tests {
         let log = encode(text).unwrap();
         let mut machine = Machine::default();
         let replies: Vec<String> = records(&log)
-            .map(|record| match machine.answer(record) {
+            .map(|record| match answer_to(&mut machine, record) {
                 Some(Reply { number, a, b }) => format!("{number} {a} {b}"),
                 None => "bad".to_string(),
             })
@@ -121,11 +62,12 @@ mod tests {
         let mut machine = Machine::default();
         let log = encode(b"start 11074 254\nstart 11074 254 255").unwrap();
         let mut records = records(&log);
-        machine.answer(records.next().unwrap());
+        answer_to(&mut machine, records.next().unwrap());
         assert!(machine.tables().is_none());
-        machine.answer(records.next().unwrap());
+        answer_to(&mut machine, records.next().unwrap());
         assert_eq!(machine.tables().unwrap().segments, 2);
         assert_eq!(machine.ram().len(), 2 * SEGMENT);
-        assert_eq!((machine.boundary().a, machine.boundary().b), (255, 11_074));
+        let Reply { a, b, .. } = boundary(&machine).unwrap();
+        assert_eq!((a, b), (255, 11_074));
     }
 }

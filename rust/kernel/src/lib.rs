@@ -12,6 +12,7 @@ mod events;
 mod good;
 mod line;
 mod listing;
+mod machine;
 mod names;
 mod reset;
 mod segments;
@@ -23,6 +24,7 @@ pub use channels::{lend, Lent};
 pub use events::decode;
 pub use good::good;
 pub use listing::listing;
+pub use machine::Machine;
 pub use tables::{
     class, Channel, DefaultName, Device, Tables, HEADING, LEAST_R, MOST_R, NAME, ROWS_OF_CHANNELS,
     ROWS_OF_DEVICES, ROWS_OF_SEGMENTS, SEGMENT,

@@ -3,9 +3,9 @@
 use super::{Boundary, Class, LineRecord, Map, Ram, Region, Segment, What};
 use crate::answers::answer;
 use crate::records::{records, Record};
-use crate::replay::Machine;
+use crate::replay::{answer_to, boundary};
 use crate::words::words;
-use exos_kernel::{class, Channel, Reply, Tables, HEADING, SEGMENT};
+use exos_kernel::{class, Channel, Machine, Reply, Tables, HEADING, SEGMENT};
 
 /// The log has fewer records than were asked for.
 #[derive(Clone, Copy, Debug, PartialEq, Eq)]
@@ -29,7 +29,7 @@ pub fn map(log: &[u8], after: Option<usize>) -> Result<Map, PastTheEnd> {
     let mut machine = Machine::default();
     let mut last = None;
     for record in records(log).take(after) {
-        last = Some((record, machine.answer(record)));
+        last = Some((record, answer_to(&mut machine, record)));
     }
     Ok(Map {
         after,
@@ -38,7 +38,8 @@ pub fn map(log: &[u8], after: Option<usize>) -> Result<Map, PastTheEnd> {
         answer: last.map(|(record, reply)| answer_words(record, reply)),
         ram: machine
             .tables()
-            .map(|tables| ram(tables, machine.boundary())),
+            .zip(boundary(&machine))
+            .map(|(tables, boundary)| ram(tables, boundary)),
     })
 }
 

@@ -2,14 +2,15 @@
 
 use crate::logs::random_log;
 use crate::random::Random;
-use exoslog::{map, records, svg, terminal, Class, Machine, Map, Ram, What};
+use exos_kernel::Machine;
+use exoslog::{answer_to, map, records, svg, terminal, Class, Map, Ram, What};
 
 const SEGMENT: usize = 16_384;
 
 fn after(log: &[u8]) -> (Map, Machine) {
     let mut machine = Machine::default();
     for record in records(log) {
-        machine.answer(record);
+        answer_to(&mut machine, record);
     }
     (map(log, None).unwrap(), machine)
 }

@@ -2,7 +2,8 @@
 
 use crate::logs::{damage, random_log};
 use crate::random::Random;
-use exoslog::{records, Machine};
+use exos_kernel::Machine;
+use exoslog::{answer_to, records};
 
 #[test]
 fn the_answers_are_those_of_the_listing() {
@@ -18,7 +19,7 @@ fn the_answers_are_those_of_the_listing() {
         let mut listed = listing.lines();
         for record in records(&log) {
             let line = listed.next().unwrap();
-            match machine.answer(record) {
+            match answer_to(&mut machine, record) {
                 Some(reply) => {
                     let numbers: Vec<&str> = line.split(' ').skip(1).take(3).collect();
                     let answer = [reply.number.into(), reply.a.into(), reply.b];
