@@ -1,0 +1,237 @@
+//! What was met: counts by kind and answer, and the edges.
+
+use crate::edges::{edges, EDGES};
+use crate::protocol::{Reply, Request};
+use crate::words::{Shape, SHAPES};
+use exos_kernel::Tables;
+use std::fmt::{self, Display, Formatter};
+
+/// The answers 0 to 17.
+const ANSWERS: usize = 18;
+/// The rows: the kinds in the order of the table of bodies, and unknown ones.
+const ROWS: usize = SHAPES.len() + 1;
+
+/// The answers that document 01 allows for a kind. Every kind but start may
+/// answer TABLES, and every kind CALL: "body short of its fixed fields, or
+/// longer without name, data or list".
+fn allowed(kind: Option<u16>) -> &'static [u16] {
+    match kind {
+        // START: "list, R or RAM length wrong"
+        Some(256) => &[0, 2, 16],
+        // FLAGS: "a bit other than 4, 5, 6"
+        Some(0) => &[0, 1, 2, 15],
+        // CHANNEL ("open: 255 only"), EXISTS, NAME, DEVICE, DRIVER, FULL, ROOM
+        Some(1) => &[0, 1, 2, 3, 4, 5, 6, 7, 8, 9],
+        // CHANNEL: "255, or not open"
+        Some(3) => &[0, 1, 2, 3],
+        // RANGE: "offset + length past the end, or lent output too short"
+        Some(6 | 8) => &[0, 1, 2, 3, 13],
+        // NAME: "against the rules above"
+        Some(19) => &[0, 1, 2, 5],
+        // RANGE: "lent output too short"
+        Some(20) => &[0, 1, 2, 13],
+        // NAME, FULL ("16 devices already"), ROOM ("link: also R-m < 256")
+        Some(21) => &[0, 1, 2, 5, 8, 9],
+        Some(22) => &[0, 1, 2],
+        // BOUNDARY: "nothing shared, or value above the EXOS boundary"
+        Some(23) => &[0, 1, 2, 12],
+        // SEGMENT: "nothing to allocate"; "17 SHARED is a grant"
+        Some(24) => &[0, 1, 2, 10, 17],
+        // OWNER: "segment not the caller's to free, store or load"
+        Some(25) => &[0, 1, 2, 11],
+        // OWNER, RANGE, GUARD
+        Some(257) => &[0, 1, 2, 11, 13, 14],
+        // OWNER, RANGE
+        Some(258) => &[0, 1, 2, 11, 13],
+        // CALL: "kind unknown"
+        _ => &[1, 2],
+    }
+}
+
+/// The row of the counts for a kind.
+fn row_of(kind: u16) -> usize {
+    let known = SHAPES.iter().position(|shape| shape.kind == kind);
+    known.unwrap_or(SHAPES.len())
+}
+
+fn shape_of(row: usize) -> Option<&'static Shape> {
+    SHAPES.get(row)
+}
+
+fn allows(row: usize, answer: usize) -> bool {
+    allowed(shape_of(row).map(|shape| shape.kind)).contains(&(answer as u16))
+}
+
+fn name_of(row: usize) -> String {
+    shape_of(row).map_or("unknown".to_string(), |shape| {
+        format!("{} {}", shape.kind, shape.name)
+    })
+}
+
+/// How often each kind got each answer, and each edge was met.
+#[derive(Clone)]
+pub struct Counts {
+    pairs: [[u64; ANSWERS]; ROWS],
+    /// A kind with an answer above 17, which no call may give.
+    strange: u64,
+    edges: [u64; EDGES.len()],
+}
+
+impl Counts {
+    /// Nothing counted yet.
+    pub fn new() -> Counts {
+        Counts {
+            pairs: [[0; ANSWERS]; ROWS],
+            strange: 0,
+            edges: [0; EDGES.len()],
+        }
+    }
+
+    /// Counts one call, made on the tables before it.
+    pub fn add(&mut self, before: &Tables, ram_length: usize, request: &Request, reply: &Reply) {
+        match self.pairs[row_of(request.kind())].get_mut(usize::from(reply.number)) {
+            Some(count) => *count += 1,
+            None => self.strange += 1,
+        }
+        edges(before, ram_length, request, reply, |edge| {
+            self.edges[edge as usize] += 1;
+        });
+    }
+
+    /// Adds the counts of another.
+    pub fn join(&mut self, other: &Counts) {
+        for (mine, theirs) in self.pairs.iter_mut().zip(&other.pairs) {
+            add_all(mine, theirs);
+        }
+        add_all(&mut self.edges, &other.edges);
+        self.strange += other.strange;
+    }
+
+    /// How many calls were counted.
+    pub fn calls(&self) -> u64 {
+        self.pairs.iter().flatten().sum::<u64>() + self.strange
+    }
+
+    /// The pairs of kind and answer that 01 allows and that were not met.
+    pub fn missing(&self) -> Vec<String> {
+        self.those(|row, answer, count| allows(row, answer) && count == 0)
+    }
+
+    /// The pairs of kind and answer that were met and that 01 does not allow.
+    pub fn forbidden(&self) -> Vec<String> {
+        let mut those = self.those(|row, answer, count| !allows(row, answer) && count > 0);
+        if self.strange > 0 {
+            those.push(format!("{} answers above 17", self.strange));
+        }
+        those
+    }
+
+    fn those(&self, is: impl Fn(usize, usize, u64) -> bool) -> Vec<String> {
+        let mut those = Vec::new();
+        for (row, counts) in self.pairs.iter().enumerate() {
+            for (answer, &count) in counts.iter().enumerate() {
+                if is(row, answer, count) {
+                    those.push(format!("{}: answer {answer}", name_of(row)));
+                }
+            }
+        }
+        those
+    }
+
+    /// The edges that were not met.
+    pub fn unmet(&self) -> Vec<&'static str> {
+        let unmet = EDGES.iter().zip(&self.edges).filter(|edge| *edge.1 == 0);
+        unmet.map(|edge| *edge.0).collect()
+    }
+}
+
+impl Default for Counts {
+    fn default() -> Counts {
+        Counts::new()
+    }
+}
+
+fn add_all(mine: &mut [u64], theirs: &[u64]) {
+    for (mine, theirs) in mine.iter_mut().zip(theirs) {
+        *mine += theirs;
+    }
+}
+
+impl Display for Counts {
+    /// A line a kind, then a line an edge.
+    fn fmt(&self, to: &mut Formatter<'_>) -> fmt::Result {
+        writeln!(to, "calls by kind and answer (answer: count):")?;
+        for (row, counts) in self.pairs.iter().enumerate() {
+            write!(
+                to,
+                "  {:<22}{:>10} ",
+                name_of(row),
+                counts.iter().sum::<u64>()
+            )?;
+            for (answer, count) in counts.iter().enumerate().filter(|pair| *pair.1 > 0) {
+                write!(to, " {answer}: {count},")?;
+            }
+            writeln!(to)?;
+        }
+        writeln!(to, "edges met:")?;
+        for (edge, count) in EDGES.iter().zip(&self.edges) {
+            writeln!(to, "  {count:>10}  {edge}")?;
+        }
+        Ok(())
+    }
+}
+
+#[cfg(test)]
+mod tests {
+    use super::*;
+
+    fn reply(number: u16) -> Reply {
+        Reply {
+            number,
+            a: 0,
+            b: 0,
+            image: 0,
+            ram: 0,
+            output: 0,
+        }
+    }
+
+    #[test]
+    fn pairs_are_counted_and_told_apart() {
+        let mut counts = Counts::new();
+        let missing = counts.missing().len();
+        let mut add = |kind, number| {
+            let request = Request::new(0, kind, &[]);
+            counts.add(&Tables::default(), 0, &request, &reply(number));
+        };
+        add(20, 1);
+        add(20, 1);
+        add(999, 2);
+        assert_eq!(counts.calls(), 3);
+        assert_eq!(counts.missing().len(), missing - 2);
+        assert!(counts.forbidden().is_empty());
+        let request = Request::new(0, 256, &[]);
+        counts.add(&Tables::default(), 0, &request, &reply(1));
+        counts.add(&Tables::default(), 0, &request, &reply(18));
+        assert_eq!(
+            counts.forbidden(),
+            ["256 start: answer 1", "1 answers above 17"]
+        );
+    }
+
+    #[test]
+    fn the_allowed_pairs_are_74() {
+        assert_eq!(Counts::new().missing().len(), 74);
+    }
+
+    #[test]
+    fn counts_are_joined() {
+        let mut one = Counts::new();
+        let request = Request::new(0, 22, &[]);
+        one.add(&Tables::default(), 0, &request, &reply(1));
+        let mut sum = one.clone();
+        sum.join(&one);
+        assert_eq!(sum.calls(), 2);
+        assert!(sum.to_string().contains("22 boundary"));
+    }
+}

@@ -1,0 +1,19 @@
+//! Holds the independent kernel against the proved program `exos_answer`:
+//! the same requests to both, and after every call the answer, both values,
+//! the tables, every byte of the RAM and the output compared.
+
+pub mod cases;
+pub mod counts;
+mod damage;
+mod edges;
+pub mod judge;
+pub mod machine;
+pub mod program;
+pub mod protocol;
+mod random;
+pub mod report;
+pub mod run;
+pub mod shrink;
+mod steer;
+mod view;
+pub mod words;

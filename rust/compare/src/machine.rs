@@ -1,0 +1,131 @@
+//! The independent kernel's side: its tables, its RAM and their digests.
+
+use crate::protocol::{
+    digest, image_of, joined, power, ram_of, tables_of, Case, Reply, Request, UNTOUCHED,
+};
+use exos_kernel::{call, decode, Tables};
+
+/// Tables and RAM on which requests are made in turn.
+pub struct Machine {
+    /// The tables.
+    pub tables: Tables,
+    ram: Watched,
+}
+
+impl Machine {
+    /// The machine that a case begins with.
+    pub fn of(case: &Case) -> Machine {
+        Machine {
+            tables: tables_of(&case.image),
+            ram: Watched::new(ram_of(case.ram_length, case.seed)),
+        }
+    }
+
+    /// Makes one request.
+    pub fn answer(&mut self, request: &Request) -> Reply {
+        let mut output = vec![UNTOUCHED; usize::from(request.output)];
+        let asked = decode(request.kind(), request.body());
+        let reply = call(&mut self.tables, &mut self.ram.bytes, asked, &mut output);
+        Reply {
+            number: u16::from(reply.number),
+            a: u16::from(reply.a),
+            b: reply.b,
+            image: digest(&image_of(&self.tables)),
+            ram: self.ram.digest(),
+            output: digest(&output),
+        }
+    }
+
+    /// The length of the RAM.
+    pub fn ram_length(&self) -> usize {
+        self.ram.bytes.len()
+    }
+}
+
+/// The replies of the independent kernel to a case.
+pub fn replies(case: &Case) -> Vec<Reply> {
+    let mut machine = Machine::of(case);
+    let requests = case.requests.iter();
+    requests.map(|request| machine.answer(request)).collect()
+}
+
+/// How many bytes share one kept digest.
+const BLOCK: usize = 512;
+
+/// RAM with the digest of each block, as it was when last asked for. Most
+/// calls change few blocks, and comparing is much faster than digesting.
+struct Watched {
+    bytes: Vec<u8>,
+    known: Vec<u8>,
+    digests: Vec<u64>,
+}
+
+impl Watched {
+    fn new(bytes: Vec<u8>) -> Watched {
+        Watched {
+            known: bytes.clone(),
+            digests: bytes.chunks(BLOCK).map(digest).collect(),
+            bytes,
+        }
+    }
+
+    /// The digest of all bytes as they are now.
+    fn digest(&mut self) -> u64 {
+        let now = self.bytes.chunks(BLOCK);
+        let known = self.known.chunks_mut(BLOCK);
+        for ((now, known), kept) in now.zip(known).zip(&mut self.digests) {
+            if now != known {
+                *kept = digest(now);
+                known.copy_from_slice(now);
+            }
+        }
+        let rest = self.bytes.len() % BLOCK;
+        let (whole, last) = self.digests.split_at(self.bytes.len() / BLOCK);
+        let block = power(BLOCK);
+        let whole = whole.iter().fold(0, |h, &kept| joined(h, kept, block));
+        last.iter()
+            .fold(whole, |h, &kept| joined(h, kept, power(rest)))
+    }
+}
+
+#[cfg(test)]
+mod tests {
+    use super::*;
+
+    #[test]
+    fn the_kept_digest_is_the_digest() {
+        for length in [0, 1, BLOCK - 1, BLOCK, BLOCK + 1, 3 * BLOCK + 7] {
+            let mut ram = Watched::new(ram_of(length as u32, 4));
+            assert_eq!(ram.digest(), digest(&ram.bytes));
+            for at in [0, BLOCK, length.saturating_sub(1)] {
+                if let Some(byte) = ram.bytes.get_mut(at) {
+                    *byte ^= 0x40;
+                }
+                assert_eq!(ram.digest(), digest(&ram.bytes), "{length} {at}");
+            }
+        }
+    }
+
+    #[test]
+    fn a_call_on_the_machine() {
+        let start = Request::new(0, 256, &[0x42, 0x2B, 252, 253, 254, 255]);
+        let status = Request::new(6, 20, &[]);
+        let case = Case {
+            image: [0; crate::protocol::IMAGE],
+            ram_length: 65_536,
+            seed: 1,
+            requests: vec![status.clone(), start, status],
+        };
+        let replies = replies(&case);
+        let numbers: Vec<_> = replies
+            .iter()
+            .map(|reply| (reply.number, reply.a, reply.b))
+            .collect();
+        assert_eq!(numbers, [(1, 0, 0), (0, 4, 11_074), (0, 0, 5)]);
+        assert_eq!(replies[0].output, digest(&[165; 6]));
+        assert_eq!(replies[0].ram, digest(&ram_of(65_536, 1)));
+        assert_eq!(replies[1].ram, digest(&[0; 65_536]));
+        assert_eq!(replies[2].output, digest(&[2, 0, 1, 0, 0, 165]));
+        assert_eq!(replies[2].image, replies[1].image);
+    }
+}

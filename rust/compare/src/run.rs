@@ -1,0 +1,185 @@
+//! Runs the cases of a seed through both sides, several at a time.
+
+use crate::cases::{played, Played};
+use crate::counts::Counts;
+use crate::judge::Difference;
+use crate::program::Answerer;
+use crate::protocol::Case;
+use crate::report::report;
+use crate::shrink::shrink;
+use std::io;
+use std::sync::atomic::{AtomicBool, AtomicU64, Ordering};
+use std::thread;
+
+/// When a run ends.
+#[derive(Clone, Copy)]
+pub enum Until {
+    /// After so many cases.
+    Cases(u64),
+    /// After so many calls, to the end of a case.
+    Calls(u64),
+}
+
+/// What comes of a run.
+pub enum Outcome {
+    /// No difference.
+    Same(Box<Counts>),
+    /// A difference, shrunk, in words.
+    Differs(String),
+}
+
+/// A run: which cases, and how many at a time.
+pub struct Run {
+    /// The seed of all cases.
+    pub seed: u64,
+    /// How far.
+    pub until: Until,
+    /// How many pairs of sides work beside each other.
+    pub pairs: usize,
+}
+
+/// What the pairs share.
+struct Shared<'a> {
+    run: &'a Run,
+    cases: AtomicU64,
+    calls: AtomicU64,
+    ended: AtomicBool,
+}
+
+impl Run {
+    /// Runs the cases. `program` makes the other side for each pair; `told`
+    /// hears the number of calls after each case.
+    pub fn compare<A: Answerer>(
+        &self,
+        program: impl Fn() -> A + Sync,
+        told: impl Fn(u64) + Sync,
+    ) -> io::Result<Outcome> {
+        let shared = Shared {
+            run: self,
+            cases: AtomicU64::new(0),
+            calls: AtomicU64::new(0),
+            ended: AtomicBool::new(false),
+        };
+        let outcomes: Vec<_> = thread::scope(|scope| {
+            let work = || shared.work(&mut program(), &told);
+            let pairs: Vec<_> = (0..self.pairs).map(|_| scope.spawn(work)).collect();
+            let ends = pairs.into_iter().map(|pair| pair.join());
+            ends.map(|end| end.expect("no side panics")).collect()
+        });
+        let mut all = Counts::new();
+        for outcome in outcomes {
+            match outcome? {
+                Outcome::Same(counts) => all.join(&counts),
+                differs => return Ok(differs),
+            }
+        }
+        Ok(Outcome::Same(Box::new(all)))
+    }
+}
+
+impl Shared<'_> {
+    /// The number of the next case, while there is one.
+    fn next(&self) -> Option<u64> {
+        let number = self.cases.fetch_add(1, Ordering::Relaxed);
+        let goes_on = match self.run.until {
+            Until::Cases(cases) => number < cases,
+            Until::Calls(calls) => self.calls.load(Ordering::Relaxed) < calls,
+        };
+        (goes_on && !self.ended.load(Ordering::Relaxed)).then_some(number)
+    }
+
+    fn work(&self, program: &mut dyn Answerer, told: &impl Fn(u64)) -> io::Result<Outcome> {
+        let mut all = Counts::new();
+        while let Some(number) = self.next() {
+            let Played {
+                case,
+                replies,
+                counts,
+            } = played(self.run.seed, number);
+            if Difference::first(&replies, &program.replies(&case)?).is_some() {
+                self.ended.store(true, Ordering::Relaxed);
+                let title = format!("seed {}, case {number}", self.run.seed);
+                return Ok(Outcome::Differs(shrunk(&title, program, case)?));
+            }
+            all.join(&counts);
+            let calls = counts.calls();
+            told(self.calls.fetch_add(calls, Ordering::Relaxed) + calls);
+        }
+        Ok(Outcome::Same(Box::new(all)))
+    }
+}
+
+/// The least case that shows a difference, in words.
+fn shrunk(title: &str, program: &mut dyn Answerer, case: Case) -> io::Result<String> {
+    let before = case.requests.len();
+    let mut failed = None;
+    let case = shrink(case, |case| {
+        let found = Difference::between(program, case).unwrap_or_else(|error| {
+            failed = Some(error);
+            None
+        });
+        found.map(|found| found.request)
+    });
+    if let Some(error) = failed {
+        return Err(error);
+    }
+    let Some(found) = Difference::between(program, &case)? else {
+        return Ok(format!("{title}: a difference that does not come again\n"));
+    };
+    let records = case.requests.len();
+    let title = format!("{title}: a difference, shrunk from {before} records to {records}\n");
+    Ok(title + &report(&case, &found))
+}
+
+#[cfg(test)]
+mod tests {
+    use super::*;
+    use crate::machine;
+    use crate::protocol::Reply;
+
+    #[test]
+    fn the_kernel_against_itself() {
+        let run = Run {
+            seed: 1,
+            until: Until::Cases(60),
+            pairs: 2,
+        };
+        let told = AtomicU64::new(0);
+        let outcome = run
+            .compare(
+                || machine::replies,
+                |calls| told.store(calls, Ordering::Relaxed),
+            )
+            .unwrap();
+        let Outcome::Same(counts) = outcome else {
+            panic!("the kernel differs from itself");
+        };
+        assert!(counts.calls() > 1_000);
+        assert!(told.load(Ordering::Relaxed) > 1_000);
+    }
+
+    #[test]
+    fn a_side_that_ends_early_is_found() {
+        let run = Run {
+            seed: 1,
+            until: Until::Calls(100_000),
+            pairs: 1,
+        };
+        let short = |case: &Case| -> Vec<Reply> {
+            let mut replies = machine::replies(case);
+            let links = case.requests.iter().position(|call| call.kind() == 21);
+            replies.truncate(links.unwrap_or(replies.len()));
+            replies
+        };
+        let outcome = run.compare(|| short, |_| {}).unwrap();
+        let Outcome::Differs(text) = outcome else {
+            panic!("no difference was found");
+        };
+        assert!(text.contains("to 1\n"), "{text}");
+        assert!(
+            text.contains("1. link 0 \"A\", output of 0: 1 0 0"),
+            "{text}"
+        );
+        assert!(text.contains("ended without a reply"), "{text}");
+    }
+}

@@ -1,0 +1,335 @@
+//! Makes a case that shows a difference as small as it can: fewer records,
+//! then smaller numbers, shorter names and data, plainer tables.
+
+use crate::cases::start_of;
+use crate::protocol::{tables_of, Case, Request, IMAGE};
+use crate::words::{Shape, Tail};
+use exos_kernel::SEGMENT;
+
+/// Shrinks a case. `differs` runs both sides anew and tells the first request
+/// whose replies differ.
+pub fn shrink(case: Case, differs: impl FnMut(&Case) -> Option<usize>) -> Case {
+    let mut shrinker = Shrinker { case, differs };
+    shrinker.accepts(shrinker.case.clone());
+    loop {
+        let before = shrinker.case.clone();
+        shrinker.drop_requests();
+        shrinker.simplify_tables();
+        shrinker.drop_segments();
+        for row in 0..shrinker.case.requests.len() {
+            shrinker.simplify_request(row);
+        }
+        shrinker.rename_channels();
+        if shrinker.case == before {
+            return before;
+        }
+    }
+}
+
+struct Shrinker<Differs> {
+    case: Case,
+    differs: Differs,
+}
+
+impl<Differs: FnMut(&Case) -> Option<usize>> Shrinker<Differs> {
+    /// Goes on with a case if it shows a difference, and cuts what comes
+    /// after that.
+    fn accepts(&mut self, mut case: Case) -> bool {
+        match (self.differs)(&case) {
+            Some(request) => {
+                case.requests.truncate(request + 1);
+                self.case = case;
+                true
+            }
+            None => false,
+        }
+    }
+
+    /// Leaves out runs of requests: half of them at first, one in the end.
+    fn drop_requests(&mut self) {
+        let mut run = self.case.requests.len() / 2;
+        while run > 0 {
+            let mut end = self.case.requests.len();
+            while end > 0 {
+                let start = end.saturating_sub(run);
+                let mut case = self.case.clone();
+                case.requests.drain(start..end.min(case.requests.len()));
+                if !case.requests.is_empty() {
+                    self.accepts(case);
+                }
+                end = start.min(self.case.requests.len());
+            }
+            run /= 2;
+        }
+    }
+
+    /// Tries no tables and a start, then each byte of the tables zero.
+    fn simplify_tables(&mut self) {
+        if self.case.image == [0; IMAGE] {
+            return;
+        }
+        let mut case = self.case.clone();
+        case.image = [0; IMAGE];
+        if self.accepts(case.clone()) {
+            return;
+        }
+        let tables = tables_of(&self.case.image);
+        if usize::from(tables.segments) <= tables.list.len() {
+            case.requests.insert(0, start_of(&tables));
+            if self.accepts(case) {
+                return;
+            }
+        }
+        for at in 0..IMAGE {
+            if self.case.image[at] != 0 {
+                let mut case = self.case.clone();
+                case.image[at] = 0;
+                self.accepts(case);
+            }
+        }
+    }
+
+    /// Tries a shorter list in the start that a case begins with.
+    fn drop_segments(&mut self) {
+        let mut row = 0;
+        loop {
+            let mut case = self.case.clone();
+            let start = &mut case.requests[0];
+            if start.kind() != 256 || start.record.len() <= 4 + row {
+                return;
+            }
+            start.record.remove(4 + row);
+            case.ram_length = case.ram_length.saturating_sub(SEGMENT as u32);
+            if !self.accepts(case) {
+                row += 1;
+            }
+        }
+    }
+
+    /// Gives each channel the lowest number that is not taken, in all calls.
+    fn rename_channels(&mut self) {
+        for row in 0..self.case.requests.len() {
+            let Some(old) = self.case.requests.get(row).and_then(channel_of) else {
+                continue;
+            };
+            for new in 0..old {
+                let mut case = self.case.clone();
+                let taken = |request: &Request| channel_of(request) == Some(new);
+                if case.requests.iter().any(taken) {
+                    continue;
+                }
+                for request in &mut case.requests {
+                    if channel_of(request) == Some(old) {
+                        request.record[2] = new;
+                    }
+                }
+                if self.accepts(case) {
+                    break;
+                }
+            }
+        }
+    }
+
+    fn simplify_request(&mut self, row: usize) {
+        let output = |request: &mut Request, value: u16| request.output = value;
+        self.lower(row, |request| Some(request.output), output);
+        let Some(fields) = self.case.requests.get(row).map(fields_of) else {
+            return;
+        };
+        for field in 0..fields {
+            let value = |request: &Request| Some(parts(request)?.0[field]);
+            let set = |request: &mut Request, value: u16| {
+                if let Some((mut fields, tail)) = parts(request) {
+                    fields[field] = value;
+                    put(request, &fields, &tail);
+                }
+            };
+            self.lower(row, value, set);
+        }
+        self.simplify_tail(row);
+    }
+
+    /// Lowers a number of a request as far as halving finds.
+    fn lower(
+        &mut self,
+        row: usize,
+        value: impl Fn(&Request) -> Option<u16>,
+        set: impl Fn(&mut Request, u16),
+    ) {
+        let Some(mut high) = self.case.requests.get(row).and_then(value) else {
+            return;
+        };
+        let mut low = 0;
+        while low < high {
+            let middle = if low == 0 { 0 } else { low + (high - low) / 2 };
+            let mut case = self.case.clone();
+            let Some(request) = case.requests.get_mut(row) else {
+                return;
+            };
+            set(request, middle);
+            if self.accepts(case) {
+                high = middle;
+            } else {
+                low = middle + 1;
+            }
+        }
+    }
+
+    /// Tries a plain name, a shorter tail, and zero data.
+    fn simplify_tail(&mut self, row: usize) {
+        let Some(shape) = self.shape(row) else {
+            return;
+        };
+        match shape.tail {
+            Tail::None | Tail::List => return,
+            Tail::Name => {
+                for plain in [&b"A"[..], b"VIDEO:", b"NET:"] {
+                    if self.tail(row) == plain || self.try_tail(row, plain.to_vec()) {
+                        return;
+                    }
+                }
+            }
+            Tail::Data => {
+                let zero = vec![0; self.tail(row).len()];
+                if self.tail(row) != zero {
+                    self.try_tail(row, zero);
+                }
+            }
+        }
+        self.shorten_tail(row);
+    }
+
+    /// Leaves out runs of the tail's bytes: half of them at first.
+    fn shorten_tail(&mut self, row: usize) {
+        let mut run = self.tail(row).len();
+        while run > 0 {
+            let mut end = self.tail(row).len();
+            while end > 0 {
+                let start = end.saturating_sub(run);
+                let mut tail = self.tail(row);
+                tail.drain(start..end.min(tail.len()));
+                self.try_tail(row, tail);
+                end = start.min(self.tail(row).len());
+            }
+            run /= 2;
+        }
+    }
+
+    fn shape(&self, row: usize) -> Option<&'static Shape> {
+        let request = self.case.requests.get(row)?;
+        parts(request).and(Shape::of(request.kind()))
+    }
+
+    fn tail(&self, row: usize) -> Vec<u8> {
+        let request = self.case.requests.get(row);
+        request.and_then(parts).map_or(Vec::new(), |(_, tail)| tail)
+    }
+
+    fn try_tail(&mut self, row: usize, tail: Vec<u8>) -> bool {
+        let mut case = self.case.clone();
+        let Some(request) = case.requests.get_mut(row) else {
+            return false;
+        };
+        let Some((fields, _)) = parts(request) else {
+            return false;
+        };
+        put(request, &fields, &tail);
+        self.accepts(case)
+    }
+}
+
+/// The fields and the tail of a request whose body is whole.
+fn parts(request: &Request) -> Option<(Vec<u16>, Vec<u8>)> {
+    let (fields, tail) = Shape::of(request.kind())?.split(request.body())?;
+    Some((fields, tail.to_vec()))
+}
+
+/// The channel that a request names first in its body.
+fn channel_of(request: &Request) -> Option<u8> {
+    let names_channel = matches!(request.kind(), 1 | 3 | 6 | 8);
+    names_channel.then(|| request.body().first().copied())?
+}
+
+fn fields_of(request: &Request) -> usize {
+    parts(request).map_or(0, |(fields, _)| fields.len())
+}
+
+fn put(request: &mut Request, fields: &[u16], tail: &[u8]) {
+    if let Some(shape) = Shape::of(request.kind()) {
+        let body = shape.body(fields, tail);
+        *request = Request::new(usize::from(request.output), shape.kind, &body);
+    }
+}
+
+#[cfg(test)]
+mod tests {
+    use super::*;
+    use crate::cases::played;
+    use crate::judge::Difference;
+    use crate::machine;
+    use crate::protocol::Reply;
+    use crate::words::words;
+
+    /// A side that writes a buffer's byte wrong from the second channel on,
+    /// for writes of two bytes or more.
+    fn faulty(case: &Case) -> Vec<Reply> {
+        let mut open = 0;
+        let mut replies = machine::replies(case);
+        for (request, reply) in case.requests.iter().zip(&mut replies) {
+            let done = reply.number == 0;
+            open += i32::from(done && request.kind() == 1);
+            open -= i32::from(done && request.kind() == 3);
+            if matches!(request.kind(), 0 | 256) && done {
+                open = 0;
+            }
+            if done && request.kind() == 8 && reply.b >= 2 && open >= 2 {
+                reply.ram ^= 1;
+            }
+        }
+        replies
+    }
+
+    fn differs(case: &Case) -> Option<usize> {
+        let found = Difference::between(&mut faulty, case).unwrap();
+        found.map(|found| found.request)
+    }
+
+    #[test]
+    fn a_fault_is_shrunk_to_its_least_records() {
+        let found = (0..).map(|number| played(1, number).case);
+        let mut found = found.filter(|case| differs(case).is_some_and(|at| at > 10));
+        for _ in 0..5 {
+            let case = shrink(found.next().unwrap(), differs);
+            let said: Vec<_> = case.requests.iter().map(words).collect();
+            let first = case.requests[0].record[4];
+            assert_eq!(said[0], format!("start 256 [{first}, 255]"));
+            let written = case.requests[3].record[2];
+            assert_eq!(said[3..], [format!("write {written} 0 [00 00]")]);
+            let mut opens = [said[1].as_str(), &said[2]];
+            opens.sort_by_key(|open| open.starts_with(&format!("open {written} ")));
+            assert_eq!(opens[0], format!("open {} 0 0 \"VIDEO:\"", 1 - written));
+            assert_eq!(opens[1], format!("open {written} 0 2 \"VIDEO:\""));
+            assert_eq!(case.ram_length, 32_768);
+        }
+    }
+
+    #[test]
+    fn a_fault_on_damaged_tables_keeps_them() {
+        // a side that takes tables with a cold R of 0 for good
+        let mut faulty = |case: &Case| {
+            let mut replies = machine::replies(case);
+            if tables_of(&case.image).cold_r == 77 {
+                replies[0].number ^= 4;
+            }
+            replies
+        };
+        let mut case = played(1, 14).case;
+        case.image[102..104].copy_from_slice(&[77, 0]);
+        let case = shrink(case, |case| {
+            Some(Difference::between(&mut faulty, case).unwrap()?.request)
+        });
+        assert_eq!(case.requests.len(), 1);
+        let left = case.image.iter().filter(|&&byte| byte != 0).count();
+        assert_eq!((left, case.image[102]), (1, 77));
+    }
+}

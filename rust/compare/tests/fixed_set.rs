@@ -1,0 +1,29 @@
+//! The gate's fixed set: some hundred thousand calls through the proved
+//! program and the independent kernel.
+
+use exos_compare::program::{find_program, Program};
+use exos_compare::run::{Outcome, Run, Until};
+use std::time::Instant;
+
+#[test]
+fn the_proved_program_and_the_kernel_agree() {
+    let path = find_program().unwrap_or_else(|error| panic!("{error}"));
+    let run = Run {
+        seed: 1,
+        until: Until::Cases(5_000),
+        pairs: 2,
+    };
+    let began = Instant::now();
+    match run.compare(|| Program::at(&path), |_| {}) {
+        Ok(Outcome::Same(counts)) => {
+            println!("{counts}");
+            println!("{} calls, {:?}", counts.calls(), began.elapsed());
+            assert!(counts.calls() > 100_000);
+            assert_eq!(counts.missing(), [""; 0], "pairs that 01 allows");
+            assert_eq!(counts.forbidden(), [""; 0], "pairs that 01 does not allow");
+            assert_eq!(counts.unmet(), [""; 0], "edges");
+        }
+        Ok(Outcome::Differs(text)) => panic!("{text}"),
+        Err(error) => panic!("{}: {error}", path.display()),
+    }
+}
