@@ -20,6 +20,8 @@ macro_rules! name_edges {
 }
 
 name_edges! {
+    LongestRecord "a record of 65,535 bytes"
+    LongestOutput "an output of 65,535 bytes"
     BadTables "tables not good, RAM length right: 1"
     WrongRam "tables good, RAM length wrong: 1"
     StartOnBad "start over tables not good: done"
@@ -161,6 +163,8 @@ pub fn edges(
         number: reply.number,
         met,
     };
+    meeting.at(request.record.len() == 65_535, Edge::LongestRecord);
+    meeting.at(request.output == 65_535, Edge::LongestOutput);
     let call = decode(request.kind(), request.body());
     let right_length = ram_length == SEGMENT * usize::from(before.segments);
     let usable = good(before);
@@ -168,8 +172,8 @@ pub fn edges(
         meeting.done(!usable, Edge::StartOnBad);
         meeting.start(r, list, ram_length);
     } else {
-        meeting.refused(1, !usable && right_length, Edge::BadTables);
-        meeting.refused(1, usable && !right_length, Edge::WrongRam);
+        meeting.answered(1, !usable && right_length, Edge::BadTables);
+        meeting.answered(1, usable && !right_length, Edge::WrongRam);
         if usable && right_length {
             meeting.call(call);
         }
@@ -177,16 +181,18 @@ pub fn edges(
 }
 
 impl<Met: FnMut(Edge)> Meeting<'_, Met> {
-    fn done(&mut self, at: bool, edge: Edge) {
-        if at && self.number == 0 {
+    fn at(&mut self, at: bool, edge: Edge) {
+        if at {
             (self.met)(edge);
         }
     }
 
-    fn refused(&mut self, number: u16, at: bool, edge: Edge) {
-        if at && self.number == number {
-            (self.met)(edge);
-        }
+    fn done(&mut self, at: bool, edge: Edge) {
+        self.answered(0, at, edge);
+    }
+
+    fn answered(&mut self, number: u16, at: bool, edge: Edge) {
+        self.at(at && self.number == number, edge);
     }
 
     fn start(&mut self, r: u16, list: &[u8], ram_length: usize) {
@@ -201,13 +207,13 @@ impl<Met: FnMut(Edge)> Meeting<'_, Met> {
         let long = (2..=32).contains(&list.len());
         let first = list.first().is_some_and(|&first| first > 7);
         let right = rising && first && long;
-        self.refused(16, r == 255 && right && fits, Edge::StartBelowR);
-        self.refused(16, r == 16_129 && right && fits, Edge::StartAboveR);
-        self.refused(16, list.len() == 1 && rising && room, Edge::StartOne);
-        self.refused(16, list.len() == 33 && rising && room, Edge::StartMore);
+        self.answered(16, r == 255 && right && fits, Edge::StartBelowR);
+        self.answered(16, r == 16_129 && right && fits, Edge::StartAboveR);
+        self.answered(16, list.len() == 1 && rising && room, Edge::StartOne);
+        self.answered(16, list.len() == 33 && rising && room, Edge::StartMore);
         let seven = rising && long && list.first() == Some(&7);
-        self.refused(16, seven && room && fits, Edge::StartSeven);
-        self.refused(16, right && room && !fits, Edge::StartWrongRam);
+        self.answered(16, seven && room && fits, Edge::StartSeven);
+        self.answered(16, right && room && !fits, Edge::StartWrongRam);
     }
 
     fn call(&mut self, call: Call) {
@@ -236,11 +242,11 @@ impl<Met: FnMut(Edge)> Meeting<'_, Met> {
             Call::Default { name, .. } => {
                 self.done(name.len() == NAME, Edge::DefaultLongest);
                 let letters = name.iter().all(u8::is_ascii_alphabetic);
-                self.refused(5, name.len() == NAME + 1 && letters, Edge::DefaultLonger);
+                self.answered(5, name.len() == NAME + 1 && letters, Edge::DefaultLonger);
             }
             Call::Status => {
                 self.done(self.output == 5, Edge::StatusExact);
-                self.refused(13, self.output == 4, Edge::StatusShort);
+                self.answered(13, self.output == 4, Edge::StatusShort);
             }
             Call::Link { m, name } => self.link(usize::from(m), name),
             Call::SetUserBoundary { value } => self.set_user_boundary(usize::from(value)),
@@ -265,10 +271,10 @@ impl<Met: FnMut(Edge)> Meeting<'_, Met> {
         let (r, limit, t) = (view.r(), view.limit(), view.t() + HEADING + n);
         let shared = view.is_shared();
         self.done(t == limit && !shared, Edge::OpenLimit);
-        self.refused(9, t == limit + 1 && !shared, Edge::OpenOver);
+        self.answered(9, t == limit + 1 && !shared, Edge::OpenOver);
         self.done(t == limit && shared, Edge::OpenSharedLimit);
-        self.refused(9, t == limit + 1 && shared, Edge::OpenSharedOver);
-        self.refused(9, shared && view.free() > 0, Edge::OpenSharedFree);
+        self.answered(9, t == limit + 1 && shared, Edge::OpenSharedOver);
+        self.answered(9, shared && view.free() > 0, Edge::OpenSharedFree);
         self.done(t == r, Edge::OpenR);
         self.done(t == r + 1, Edge::OpenPastR);
         let whole = t > r && (t - r) % SEGMENT == 0;
@@ -279,33 +285,33 @@ impl<Met: FnMut(Edge)> Meeting<'_, Met> {
         self.done(n == 65_535, Edge::OpenLongest);
         let open = view.channels().len();
         self.done(open + 1 == ROWS_OF_CHANNELS, Edge::Open32);
-        self.refused(8, open == ROWS_OF_CHANNELS, Edge::Open33);
+        self.answered(8, open == ROWS_OF_CHANNELS, Edge::Open33);
         self.done(channel == 254, Edge::OpenLast);
-        self.refused(3, channel == 255, Edge::Open255);
+        self.answered(3, channel == 255, Edge::Open255);
     }
 
     fn name(&mut self, name: &[u8]) {
         self.done(name.len() == 255, Edge::NameString255);
-        self.refused(5, name.len() == 256, Edge::NameString256);
+        self.answered(5, name.len() == 256, Edge::NameString256);
         self.done(name.is_empty(), Edge::NameEmpty);
         let default_empty = self.view.0.default.length == 0;
-        self.refused(6, name.is_empty() && default_empty, Edge::NameNoDefault);
+        self.answered(6, name.is_empty() && default_empty, Edge::NameNoDefault);
         let mut parts = name.splitn(2, |&byte| byte == b':');
         let (front, file) = (parts.next().unwrap_or(&[]), parts.next());
         let file = file.unwrap_or(front);
         self.done(file.len() == NAME, Edge::NameFile28);
         let plain = |byte: &u8| matches!(byte, 0x21..=0x7E) && *byte != b':';
         let long = file.len() == NAME + 1 && file.iter().all(plain);
-        self.refused(5, long, Edge::NameFile29);
+        self.answered(5, long, Edge::NameFile29);
         let letters = front
             .iter()
             .take_while(|byte| byte.is_ascii_alphabetic())
             .count();
-        self.refused(6, letters == NAME, Edge::NameDevice28);
-        self.refused(5, letters == NAME + 1, Edge::NameDevice29);
+        self.answered(6, letters == NAME, Edge::NameDevice28);
+        self.answered(5, letters == NAME + 1, Edge::NameDevice29);
         let unit = &front[letters..];
         self.done(unit.ends_with(b"255"), Edge::NameUnit255);
-        self.refused(5, unit == b"256" || unit == b"-256", Edge::NameUnit256);
+        self.answered(5, unit == b"256" || unit == b"-256", Edge::NameUnit256);
     }
 
     fn close(&mut self, channel: u8) {
@@ -330,7 +336,7 @@ impl<Met: FnMut(Edge)> Meeting<'_, Met> {
 
     fn buffer(&mut self, n: usize, offset: usize, length: usize) {
         self.done(length == 0 && offset == n, Edge::NoBytesAtEnd);
-        self.refused(13, length == 0 && offset == n + 1, Edge::NoBytesPast);
+        self.answered(13, length == 0 && offset == n + 1, Edge::NoBytesPast);
     }
 
     fn read(&mut self, channel: u8, offset: usize, length: usize) {
@@ -340,9 +346,9 @@ impl<Met: FnMut(Edge)> Meeting<'_, Met> {
         let (n, end) = (usize::from(found.n), offset + length);
         self.buffer(n, offset, length);
         self.done(end == n && length > 0, Edge::ReadEnd);
-        self.refused(13, end == n + 1 && self.output >= length, Edge::ReadPast);
+        self.answered(13, end == n + 1 && self.output >= length, Edge::ReadPast);
         self.done(self.output == length && length > 0, Edge::ReadExact);
-        self.refused(13, end <= n && self.output + 1 == length, Edge::ReadShort);
+        self.answered(13, end <= n && self.output + 1 == length, Edge::ReadShort);
     }
 
     fn write(&mut self, channel: u8, offset: usize, length: usize) {
@@ -357,7 +363,7 @@ impl<Met: FnMut(Edge)> Meeting<'_, Met> {
         let (n, end) = (usize::from(view.channels()[row].n), offset + length);
         self.buffer(n, offset, length);
         self.done(end == n && length > 0, Edge::WriteEnd);
-        self.refused(13, end == n + 1, Edge::WritePast);
+        self.answered(13, end == n + 1, Edge::WritePast);
         let before = view.channels()[..row].iter();
         let start: usize = before.map(|other| HEADING + usize::from(other.n)).sum();
         let first = start + HEADING + offset;
@@ -370,16 +376,16 @@ impl<Met: FnMut(Edge)> Meeting<'_, Met> {
         let view = self.view;
         let (r, t, limit) = (view.r(), view.t(), view.limit());
         self.done(r == m + 256, Edge::LinkLeastR);
-        self.refused(9, r == m + 255, Edge::LinkBelowR);
+        self.answered(9, r == m + 255, Edge::LinkBelowR);
         self.done(t + m == limit, Edge::LinkLimit);
-        self.refused(9, t + m == limit + 1 && r >= m + 256, Edge::LinkOver);
+        self.answered(9, t + m == limit + 1 && r >= m + 256, Edge::LinkOver);
         self.done(m == 0, Edge::LinkNothing);
         let links = |r: usize| t.saturating_sub(r).div_ceil(SEGMENT);
         self.done(r >= m && links(r - m) > links(r), Edge::LinkGrows);
         self.done(m > 0 && links(r) > 0, Edge::LinkMoves);
         let devices = view.devices();
         self.done(devices.len() + 1 == ROWS_OF_DEVICES, Edge::Link16);
-        self.refused(8, devices.len() == ROWS_OF_DEVICES, Edge::Link17);
+        self.answered(8, devices.len() == ROWS_OF_DEVICES, Edge::Link17);
         let named = |length: u8| usize::from(length) == name.len();
         let older = devices
             .iter()
@@ -387,33 +393,33 @@ impl<Met: FnMut(Edge)> Meeting<'_, Met> {
         self.done(older, Edge::LinkAgain);
         self.done(name.len() == NAME, Edge::LinkLongest);
         let capitals = name.iter().all(u8::is_ascii_uppercase);
-        self.refused(5, name.len() == NAME + 1 && capitals, Edge::LinkLonger);
+        self.answered(5, name.len() == NAME + 1 && capitals, Edge::LinkLonger);
         self.done(view.is_shared() && m > 0 && t > 0, Edge::LinkShared);
     }
 
     fn set_user_boundary(&mut self, value: usize) {
         let (shared, boundary) = (self.view.is_shared(), self.view.boundary());
         self.done(value == boundary, Edge::SetBoundary);
-        self.refused(12, shared && value == boundary + 1, Edge::SetBeyond);
-        self.refused(12, !shared && value <= boundary, Edge::SetUnshared);
+        self.answered(12, shared && value == boundary + 1, Edge::SetBeyond);
+        self.answered(12, !shared && value <= boundary, Edge::SetUnshared);
     }
 
     fn allocate(&mut self, caller: u8) {
         let view = self.view;
         let alone = view.0.chain_length == 1;
-        self.refused(17, alone, Edge::ShareSystem);
-        self.refused(17, !alone, Edge::ShareOther);
-        self.refused(10, caller == 0 && view.is_shared(), Edge::ShareTwice);
+        self.answered(17, alone, Edge::ShareSystem);
+        self.answered(17, !alone, Edge::ShareOther);
+        self.answered(10, caller == 0 && view.is_shared(), Edge::ShareTwice);
         let zero = view.boundary() == 0 && !view.is_shared();
-        self.refused(10, caller == 0 && zero, Edge::ShareNothing);
-        self.refused(10, caller == 1, Edge::DeviceNone);
+        self.answered(10, caller == 0 && zero, Edge::ShareNothing);
+        self.answered(10, caller == 1, Edge::DeviceNone);
     }
 
     fn free(&mut self, segment: u8) {
         let held = self.view.class(segment);
         self.done(held == Some(class::SHARED), Edge::FreeShared);
-        self.refused(11, held == Some(class::NONE), Edge::FreePageZero);
-        self.refused(11, held.is_none(), Edge::FreeAbsent);
+        self.answered(11, held == Some(class::NONE), Edge::FreePageZero);
+        self.answered(11, held.is_none(), Edge::FreeAbsent);
     }
 
     fn store(&mut self, segment: u8, offset: usize, length: usize) {
@@ -422,9 +428,9 @@ impl<Met: FnMut(Edge)> Meeting<'_, Met> {
         let (end, some, whole) = (offset + length, length > 0, reach == SEGMENT);
         let shared = held == Some(class::SHARED);
         self.done(some && whole && end == reach, Edge::StoreEnd);
-        self.refused(13, some && whole && end == reach + 1, Edge::StorePast);
+        self.answered(13, some && whole && end == reach + 1, Edge::StorePast);
         self.done(some && shared && end == reach, Edge::StoreShared);
-        self.refused(13, shared && end == reach + 1, Edge::StoreSharedPast);
+        self.answered(13, shared && end == reach + 1, Edge::StoreSharedPast);
         if held == Some(class::NONE) {
             self.guard(offset, end);
         }
@@ -433,16 +439,16 @@ impl<Met: FnMut(Edge)> Meeting<'_, Met> {
     fn guard(&mut self, offset: usize, end: usize) {
         let some = offset < end;
         self.done(some && end == 0x30, Edge::GuardBefore);
-        self.refused(14, offset <= 0x30 && end == 0x31, Edge::GuardFirst);
-        self.refused(
+        self.answered(14, offset <= 0x30 && end == 0x31, Edge::GuardFirst);
+        self.answered(
             14,
             offset == 0x3C && end > 0x3C && end <= 0x3F,
             Edge::Guard3C,
         );
         self.done(offset == 0x3D && end == 0x3F, Edge::GuardGap);
         let last = (0x3D..=0x3F).contains(&offset) && end == 0x40;
-        self.refused(14, last, Edge::Guard3F);
-        self.refused(14, offset == 0x5B, Edge::GuardLast);
+        self.answered(14, last, Edge::Guard3F);
+        self.answered(14, offset == 0x5B, Edge::GuardLast);
         self.done(some && offset == 0x5C, Edge::GuardAfter);
         let inside = (0x31..0x5B).contains(&offset);
         self.done(!some && inside, Edge::GuardNothing);
@@ -454,11 +460,11 @@ impl<Met: FnMut(Edge)> Meeting<'_, Met> {
         let (end, whole) = (offset + length, reach == SEGMENT);
         let (some, lent) = (length > 0, self.output >= length);
         self.done(some && whole && end == reach, Edge::LoadEnd);
-        self.refused(13, whole && lent && end == reach + 1, Edge::LoadPast);
+        self.answered(13, whole && lent && end == reach + 1, Edge::LoadPast);
         self.done(some && shared && end == reach, Edge::LoadShared);
-        self.refused(13, shared && lent && end == reach + 1, Edge::LoadSharedPast);
+        self.answered(13, shared && lent && end == reach + 1, Edge::LoadSharedPast);
         let short = end <= reach && self.output + 1 == length;
-        self.refused(13, short, Edge::LoadShort);
+        self.answered(13, short, Edge::LoadShort);
     }
 
     fn reset(&mut self, flags: u8) {
@@ -476,10 +482,10 @@ impl<Met: FnMut(Edge)> Meeting<'_, Met> {
         self.done(flags == 0x70 && shared, Edge::Reset70);
         self.done(flags == 0x10 && open && shared && alone, Edge::ResetKeeps);
         self.done(flags == 0x10 && shared && !alone, Edge::ResetToUser);
-        self.refused(15, flags == 0x01, Edge::ResetBit0);
-        self.refused(15, flags == 0x02, Edge::ResetBit1);
-        self.refused(15, flags == 0x04, Edge::ResetBit2);
-        self.refused(15, flags == 0x08, Edge::ResetBit3);
-        self.refused(15, flags == 0x80, Edge::ResetBit7);
+        self.answered(15, flags == 0x01, Edge::ResetBit0);
+        self.answered(15, flags == 0x02, Edge::ResetBit1);
+        self.answered(15, flags == 0x04, Edge::ResetBit2);
+        self.answered(15, flags == 0x08, Edge::ResetBit3);
+        self.answered(15, flags == 0x80, Edge::ResetBit7);
     }
 }

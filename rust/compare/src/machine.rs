@@ -4,6 +4,14 @@ use crate::protocol::{
     digest, image_of, joined, power, ram_of, tables_of, Case, Reply, Request, UNTOUCHED,
 };
 use exos_kernel::{call, decode, Tables};
+use std::panic::{self, AssertUnwindSafe};
+
+/// What stands for the answer of a kernel that panicked: no call gives it.
+const PANICKED: exos_kernel::Reply = exos_kernel::Reply {
+    number: 255,
+    a: 0,
+    b: 0,
+};
 
 /// Tables and RAM on which requests are made in turn.
 pub struct Machine {
@@ -25,7 +33,9 @@ impl Machine {
     pub fn answer(&mut self, request: &Request) -> Reply {
         let mut output = vec![UNTOUCHED; usize::from(request.output)];
         let asked = decode(request.kind(), request.body());
-        let reply = call(&mut self.tables, &mut self.ram.bytes, asked, &mut output);
+        let (tables, ram) = (&mut self.tables, &mut self.ram.bytes);
+        let reply = panic::catch_unwind(AssertUnwindSafe(|| call(tables, ram, asked, &mut output)));
+        let reply = reply.unwrap_or(PANICKED);
         Reply {
             number: u16::from(reply.number),
             a: u16::from(reply.a),

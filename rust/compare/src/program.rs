@@ -154,3 +154,42 @@ fn find(path: &OsStr, name: &str) -> Option<PathBuf> {
         .map(|folder| folder.join(name))
         .find(|file| file.is_file())
 }
+
+#[cfg(test)]
+mod tests {
+    use super::*;
+    use crate::cases::played;
+    use crate::protocol::{Request, IMAGE};
+
+    #[test]
+    fn replies_are_read_in_order() {
+        let case = Case {
+            image: [7; IMAGE],
+            ram_length: 1,
+            seed: 2,
+            requests: vec![Request::new(3, 22, &[4]); 20],
+        };
+        let mut echo = Running::start(&mut Command::new("cat")).unwrap();
+        let replies = echo.replies(&case).unwrap();
+        let sent = case.to_stream();
+        let parts = sent.chunks_exact(REPLY).take(20);
+        let expected: Vec<_> = parts
+            .map(|part| Reply::from_bytes(part.try_into().unwrap()))
+            .collect();
+        assert_eq!(replies, expected);
+    }
+
+    #[test]
+    fn a_program_that_ends_gives_no_reply() {
+        let mut ends = Running::start(&mut Command::new("true")).unwrap();
+        assert_eq!(ends.replies(&played(1, 0).case).unwrap(), []);
+    }
+
+    #[test]
+    fn programs_are_found_on_the_path() {
+        let here = Path::new(env!("CARGO_MANIFEST_DIR"));
+        let path = env::join_paths([&here.join("nowhere"), &here.join("src")]).unwrap();
+        assert_eq!(find(&path, "lib.rs"), Some(here.join("src/lib.rs")));
+        assert_eq!(find(&path, "rt"), None);
+    }
+}

@@ -8,29 +8,28 @@ use exos_kernel::{class, good, Device, Tables};
 use std::fmt::Write;
 
 /// The case in 01's words, with the answers of both sides and what differs.
+/// It ends at the request that differs.
 pub fn report(case: &Case, found: &Difference) -> String {
-    let mut text = String::new();
-    let mut machine = Machine::of(case);
+    let mut text = format!("  RAM: {} bytes, seed {}\n", case.ram_length, case.seed);
     let tables = tables_of(&case.image);
-    let _ = writeln!(text, "RAM: {} bytes, seed {}", case.ram_length, case.seed);
     if tables == Tables::default() {
-        text += "tables to begin with: all zero\n";
+        text += "  tables to begin with: all zero\n";
     } else {
         text += &tables_in_words("tables to begin with", &tables);
     }
+    let mut machine = Machine::of(case);
+    let mut before = tables;
     for (row, request) in case.requests.iter().enumerate() {
-        let at = format!("{:>3}. {}", row + 1, words(request));
-        let lent = format!("output of {}", request.output);
-        if row == found.request {
-            text += &tables_in_words("the kernel's tables before the call", &machine.tables);
-        }
-        let reply = machine.answer(request);
-        let _ = writeln!(text, "{at}, {lent}: {}", answer(&reply));
+        before = machine.tables.clone();
+        let answered = answer(&machine.answer(request));
+        let (row, said, lent) = (row + 1, words(request), request.output);
+        let _ = writeln!(text, "{row:>4}. {said}, output of {lent}: {answered}");
     }
     let program = found.program.as_ref().map_or("nothing".into(), answer);
-    let _ = writeln!(text, "     the program: {program}");
-    let _ = writeln!(text, "     differs: {}", found.fields().join(", "));
-    text + &tables_in_words("the kernel's tables after the call", &machine.tables)
+    let _ = writeln!(text, "      the program: {program}");
+    let _ = writeln!(text, "      differs: {}", found.fields().join(", "));
+    text += &tables_in_words("the kernel's tables before that call", &before);
+    text + &tables_in_words("the kernel's tables after it", &machine.tables)
 }
 
 fn answer(reply: &Reply) -> String {

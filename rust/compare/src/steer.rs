@@ -41,7 +41,7 @@ impl Mood {
             Mood::Mixed => [2, 4, 40, 20, 18, 20, 8, 6, 10, 8, 14, 24, 20, 24, 16, 2],
             Mood::Channels => [0, 1, 90, 16, 24, 24, 6, 3, 3, 4, 4, 8, 6, 8, 6, 1],
             Mood::Room => [0, 3, 60, 36, 16, 20, 3, 3, 14, 8, 8, 14, 16, 8, 6, 1],
-            Mood::Segments => [1, 5, 34, 22, 8, 10, 3, 8, 8, 8, 34, 50, 24, 30, 20, 1],
+            Mood::Segments => [1, 9, 34, 22, 8, 10, 3, 8, 8, 8, 34, 50, 24, 30, 20, 1],
             Mood::Devices => [0, 3, 40, 14, 14, 14, 14, 3, 60, 6, 6, 10, 8, 6, 6, 1],
         };
         let mut kinds = [(UNKNOWN, 0); 16];
@@ -135,7 +135,11 @@ impl<'a> Steer<'a> {
     }
 
     fn made(&mut self, kind: u16, fields: &[usize], tail: &[u8]) -> Request {
-        let output = self.random.below(8);
+        let output = if self.random.one_in(400) {
+            usize::from(u16::MAX)
+        } else {
+            self.random.below(8)
+        };
         self.lent(output, kind, fields, tail)
     }
 
@@ -529,7 +533,10 @@ impl<'a> Steer<'a> {
         match self.random.below(6) {
             0 => record.truncate(2 + self.random.below(body + 1)),
             1 => record.truncate(2 + self.random.below(body.min(5) + 1)),
-            2 => record.extend(self.random.bytes(1)),
+            2 => {
+                let more = self.random.pick(&[1, 1, 1, 1, 65_533]);
+                record.extend(self.random.bytes(more));
+            }
             3 => {
                 let at = self.random.below(record.len());
                 record[at] = self.random.byte();
