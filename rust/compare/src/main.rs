@@ -30,19 +30,26 @@ fn main() -> ExitCode {
 }
 
 fn settings() -> Option<(u64, Run)> {
-    let (mut calls, mut seed, mut pairs) = (1_000_000, 1, 2);
+    let (mut calls, mut seed, mut first, mut pairs) = (1_000_000, 1, 0, 2);
     let mut words = env::args().skip(1);
     while let Some(word) = words.next() {
         let number: u64 = words.next()?.parse().ok()?;
         match word.as_str() {
             "--calls" => calls = number,
             "--seed" => seed = number,
+            "--first" => first = number,
             "--pairs" => pairs = number.clamp(1, 64) as usize,
             _ => return None,
         }
     }
     let until = Until::Calls(calls);
-    Some((calls, Run { seed, until, pairs }))
+    let run = Run {
+        seed,
+        first,
+        until,
+        pairs,
+    };
+    Some((calls, run))
 }
 
 fn compare(calls: u64, run: &Run) -> io::Result<ExitCode> {

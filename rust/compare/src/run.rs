@@ -32,6 +32,8 @@ pub enum Outcome {
 pub struct Run {
     /// The seed of all cases.
     pub seed: u64,
+    /// The number of the first case.
+    pub first: u64,
     /// How far.
     pub until: Until,
     /// How many pairs of sides work beside each other.
@@ -56,7 +58,7 @@ impl Run {
     ) -> io::Result<Outcome> {
         let shared = Shared {
             run: self,
-            cases: AtomicU64::new(0),
+            cases: AtomicU64::new(self.first),
             calls: AtomicU64::new(0),
             ended: AtomicBool::new(false),
         };
@@ -82,7 +84,7 @@ impl Shared<'_> {
     fn next(&self) -> Option<u64> {
         let number = self.cases.fetch_add(1, Ordering::Relaxed);
         let goes_on = match self.run.until {
-            Until::Cases(cases) => number < cases,
+            Until::Cases(cases) => number - self.run.first < cases,
             Until::Calls(calls) => self.calls.load(Ordering::Relaxed) < calls,
         };
         (goes_on && !self.ended.load(Ordering::Relaxed)).then_some(number)
@@ -141,6 +143,7 @@ mod tests {
     fn the_kernel_against_itself() {
         let run = Run {
             seed: 1,
+            first: 0,
             until: Until::Cases(60),
             pairs: 2,
         };
@@ -162,6 +165,7 @@ mod tests {
     fn a_side_that_ends_early_is_found() {
         let run = Run {
             seed: 1,
+            first: 0,
             until: Until::Calls(100_000),
             pairs: 1,
         };

@@ -4,26 +4,39 @@
 use crate::cases::start_of;
 use crate::protocol::{tables_of, Case, Request, IMAGE};
 use crate::words::{Shape, Tail};
-use exos_kernel::SEGMENT;
+use exos_kernel::{HEADING, SEGMENT};
+use std::ops::Range;
+
+/// Where an open's record has its n.
+const N: Range<usize> = 4..6;
+/// A channel's record without its buffer.
+const RECORD: u16 = HEADING as u16;
+
+/// How often all is tried again: numbers that hang together, as R and an n,
+/// could go on falling by little for long.
+const ROUNDS: usize = 10;
 
 /// Shrinks a case. `differs` runs both sides anew and tells the first request
 /// whose replies differ.
 pub fn shrink(case: Case, differs: impl FnMut(&Case) -> Option<usize>) -> Case {
     let mut shrinker = Shrinker { case, differs };
     shrinker.accepts(shrinker.case.clone());
-    loop {
+    for _ in 0..ROUNDS {
         let before = shrinker.case.clone();
         shrinker.drop_requests();
+        shrinker.join_opens();
         shrinker.simplify_tables();
         shrinker.drop_segments();
         for row in 0..shrinker.case.requests.len() {
             shrinker.simplify_request(row);
+            shrinker.lower_with_room(row);
         }
         shrinker.rename_channels();
         if shrinker.case == before {
-            return before;
+            break;
         }
     }
+    shrinker.case
 }
 
 struct Shrinker<Differs> {
@@ -61,6 +74,29 @@ impl<Differs: FnMut(&Case) -> Option<usize>> Shrinker<Differs> {
             }
             run /= 2;
         }
+    }
+
+    /// Leaves out an open and lengthens the buffer of another by its record.
+    fn join_opens(&mut self) {
+        let mut row = 0;
+        while row < self.case.requests.len() {
+            let dropped = (0..self.case.requests.len()).any(|other| self.joins(row, other));
+            row += usize::from(!dropped);
+        }
+    }
+
+    fn joins(&mut self, row: usize, other: usize) -> bool {
+        let mut case = self.case.clone();
+        let lengths = (buffer_of(&case, row), buffer_of(&case, other));
+        let (Some(dropped), Some(n)) = lengths else {
+            return false;
+        };
+        let Some(n) = n.checked_add(dropped).and_then(|n| n.checked_add(RECORD)) else {
+            return false;
+        };
+        case.requests[other].record[N].copy_from_slice(&n.to_le_bytes());
+        case.requests.remove(row);
+        row != other && self.accepts(case)
     }
 
     /// Tries no tables and a start, then each byte of the tables zero.
@@ -175,6 +211,25 @@ impl<Differs: FnMut(&Case) -> Option<usize>> Shrinker<Differs> {
         }
     }
 
+    /// Lowers the R of the start that a case begins with and the last number
+    /// of a request by the same amount.
+    fn lower_with_room(&mut self, row: usize) {
+        let mut by = u16::MAX;
+        while by > 0 {
+            let mut case = self.case.clone();
+            let lowered = row > 0
+                && case.requests[0].kind() == 256
+                && lower_last(&mut case.requests[0], by)
+                && case
+                    .requests
+                    .get_mut(row)
+                    .is_some_and(|request| lower_last(request, by));
+            if !(lowered && self.accepts(case)) {
+                by /= 2;
+            }
+        }
+    }
+
     /// Tries a plain name, a shorter tail, and zero data.
     fn simplify_tail(&mut self, row: usize) {
         let Some(shape) = self.shape(row) else {
@@ -250,8 +305,28 @@ fn channel_of(request: &Request) -> Option<u8> {
     names_channel.then(|| request.body().first().copied())?
 }
 
+/// The n of an open.
+fn buffer_of(case: &Case, row: usize) -> Option<u16> {
+    let request = case.requests.get(row)?;
+    let n = (request.kind() == 1).then(|| request.record.get(N))??;
+    Some(u16::from_le_bytes([n[0], n[1]]))
+}
+
 fn fields_of(request: &Request) -> usize {
     parts(request).map_or(0, |(fields, _)| fields.len())
+}
+
+/// Lowers the last number of a body by so much; false where that cannot be.
+fn lower_last(request: &mut Request, by: u16) -> bool {
+    let Some((mut fields, tail)) = parts(request) else {
+        return false;
+    };
+    let lowered = fields.last().and_then(|last| last.checked_sub(by));
+    if let (Some(last), Some(lowered)) = (fields.last_mut(), lowered) {
+        *last = lowered;
+        put(request, &fields, &tail);
+    }
+    lowered.is_some()
 }
 
 fn put(request: &mut Request, fields: &[u16], tail: &[u8]) {

@@ -10,6 +10,7 @@ fn the_proved_program_and_the_kernel_agree() {
     let path = find_program().unwrap_or_else(|error| panic!("{error}"));
     let run = Run {
         seed: 1,
+        first: 0,
         until: Until::Cases(5_000),
         pairs: 2,
     };
