@@ -138,10 +138,15 @@ impl Counts {
         those
     }
 
+    /// The edges in words, each with its count.
+    pub fn edges(&self) -> impl Iterator<Item = (&'static str, u64)> + '_ {
+        EDGES.iter().copied().zip(self.edges.iter().copied())
+    }
+
     /// The edges that were not met.
     pub fn unmet(&self) -> Vec<&'static str> {
-        let unmet = EDGES.iter().zip(&self.edges).filter(|edge| *edge.1 == 0);
-        unmet.map(|edge| *edge.0).collect()
+        let unmet = self.edges().filter(|edge| edge.1 == 0);
+        unmet.map(|edge| edge.0).collect()
     }
 }
 
@@ -158,24 +163,16 @@ fn add_all(mine: &mut [u64], theirs: &[u64]) {
 }
 
 impl Display for Counts {
-    /// A line a kind, then a line an edge.
+    /// A line a kind: how often it was called, and each answer with its count.
     fn fmt(&self, to: &mut Formatter<'_>) -> fmt::Result {
-        writeln!(to, "calls by kind and answer (answer: count):")?;
+        writeln!(to, "calls by kind, with answer: count")?;
         for (row, counts) in self.pairs.iter().enumerate() {
-            write!(
-                to,
-                "  {:<22}{:>10} ",
-                name_of(row),
-                counts.iter().sum::<u64>()
-            )?;
-            for (answer, count) in counts.iter().enumerate().filter(|pair| *pair.1 > 0) {
-                write!(to, " {answer}: {count},")?;
-            }
-            writeln!(to)?;
-        }
-        writeln!(to, "edges met:")?;
-        for (edge, count) in EDGES.iter().zip(&self.edges) {
-            writeln!(to, "  {count:>10}  {edge}")?;
+            let answers = counts.iter().enumerate().filter(|pair| *pair.1 > 0);
+            let answers: Vec<_> = answers
+                .map(|(answer, count)| format!("{answer}: {count}"))
+                .collect();
+            let (name, all) = (name_of(row), counts.iter().sum::<u64>());
+            writeln!(to, "  {name:<22}{all:>10}  {}", answers.join(", "))?;
         }
         Ok(())
     }
@@ -232,6 +229,8 @@ mod tests {
         let mut sum = one.clone();
         sum.join(&one);
         assert_eq!(sum.calls(), 2);
-        assert!(sum.to_string().contains("22 boundary"));
+        assert!(sum
+            .to_string()
+            .contains("22 boundary                    2  1: 2\n"));
     }
 }

@@ -59,6 +59,10 @@ fn compare(calls: u64, run: &Run) -> io::Result<ExitCode> {
     match outcome {
         Outcome::Same(counts) => {
             print!("{counts}");
+            println!("edges met");
+            for (edge, count) in counts.edges() {
+                println!("  {count:>10}  {edge}");
+            }
             for pair in counts.missing() {
                 println!("not met: {pair}");
             }

@@ -3,6 +3,7 @@
 
 use exos_compare::program::{find_program, Program};
 use exos_compare::run::{Outcome, Run, Until};
+use std::io::{self, Write};
 use std::time::Instant;
 
 #[test]
@@ -17,8 +18,10 @@ fn the_proved_program_and_the_kernel_agree() {
     let began = Instant::now();
     match run.compare(|| Program::at(&path), |_| {}) {
         Ok(Outcome::Same(counts)) => {
-            println!("{counts}");
-            println!("{} calls, {:?}", counts.calls(), began.elapsed());
+            let (calls, edges, took) = (counts.calls(), counts.edges().count(), began.elapsed());
+            // not println, which cargo shows of failed tests alone
+            let text = format!("\n{counts}{calls} calls, {edges} edges, {took:.0?}\n");
+            io::stdout().write_all(text.as_bytes()).unwrap();
             assert!(counts.calls() > 100_000);
             assert_eq!(counts.missing(), [""; 0], "pairs that 01 allows");
             assert_eq!(counts.forbidden(), [""; 0], "pairs that 01 does not allow");
