@@ -12,3 +12,4 @@ pub mod Closing
 pub mod Resetting
 pub mod Spans
 pub mod ByteCalls
+pub mod Values

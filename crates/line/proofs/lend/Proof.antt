@@ -1,6 +1,6 @@
 -- `line::lend` meets its contract: what is lent lies in the RAM, and each answer is a case of `partOf`. Assumes nothing.
 use denote.Ref.{now}
-use mathlib.Core.Path.{_≡_}
+use mathlib.Core.Path.{_≡_, sym, _∙_}
 use Prim.Native.Nat.{_+_, _≤_}
 use native.Mathlib.Omega.{arith}
 use borrow.Author.Needs.{needs}
@@ -19,7 +19,7 @@ enum-known-at c = search needs
 
 -- where a part is lent, its start is that of `lentAt`, and it lies in the RAM
 part : (c : tie.After-known-told) → let a = c .before .before .before .before .before .args in Part (c .before .at .given .0 .0) ≡ lentAt (now (a .chain)) (a .room) (a .start) (a .n)
-part c = cc
+part c = sym (c .before .at .given .1) ∙ c .before .before .before .lent-at .ensures
 
 inside : (c : tie.After-known-told) → let a = c .before .before .before .before .before .args in c .before .at .given .0 .0 + a .n ≤ length (now (a .ram))
 inside c =
@@ -59,7 +59,7 @@ returns c =
 returns-2 : tie.Need-returns-2
 returns-2 c =
     let a = c .before .before .before .before .before .args in
-    let none : Nothing ≡ lentAt (now (a .chain)) (a .room) (a .start) (a .n) = cc in
+    let none : Nothing ≡ lentAt (now (a .chain)) (a .room) (a .start) (a .n) = sym (c .before .enum-told .given .1) ∙ c .before .before .before .lent-at .ensures in
     lent-empty (now (a .chain)) (a .room) (a .start) (a .n) (now (a .ram)) none
 
 pub lend-spec : {M : Type 1} → statement M
