@@ -24,7 +24,7 @@ refuse-requires : tie.Need-refuse-requires
 refuse-requires c κs = search needs
 
 returns : tie.Need-returns
-returns c = rw (c .refuse .ensures) (load-other _ _ _ _ _ _ _ _ _ (c .before .before .before .before .wide .ensures .0) (c .before .before .before .first-of .ensures) (c .before .before .may-reach .ensures) (c .before .if1 .taken))
+returns c = rw (c .refuse .ensures) (load-other (c .before .before .before .before .before .before .before .before .args .self) _ _ _ _ _ _ _ _ (c .before .before .before .before .wide .ensures .0) (c .before .before .before .first-of .ensures) (c .before .before .may-reach .ensures) (c .before .if1 .taken))
 
 wide16-requires : tie.Need-wide16-requires
 wide16-requires c κs = search needs

@@ -50,7 +50,7 @@ returns-2 : tie.Need-returns-2
 returns-2 c =
     let s = c .before .before .before .before .before .before .before .before .before .before in
     λ out. refused (s .args .self) _ _ _ _ _ out (c .refuse2 .ensures) refl
-    (row-none _ _ _ _ _ _ (c .before .before .before .before .before .before .before .if1 .left) (c .before .before .before .before .before .wide .ensures .0)
+    (row-none (s .args .self) (s .args .c) _ _ _ _ (c .before .before .before .before .before .before .before .if1 .left) (c .before .before .before .before .before .wide .ensures .0)
     (c .before .before .before .before .total .ensures .0) (c .before .before .before .wide16 .ensures .0) (c .before .before .room-for .ensures)
     (c .before .if2 .taken))
 

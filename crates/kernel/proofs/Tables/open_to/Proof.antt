@@ -28,7 +28,7 @@ refuse-requires-2 : tie.Need-refuse-requires-2
 refuse-requires-2 c κs = search needs
 
 returns-2 : tie.Need-returns-2
-returns-2 c = λ out. refused (c .before .before .before .before .before .before .before .before .before .before .args .self) _ _ _ _ _ out (c .refuse2 .ensures) refl (to-driver _ _ _ _ _ _ _ (c .before .before .before .before .before .before .wide .ensures .0) (c .before .before .before .before .before .device-place .ensures) _ (c .before .before .before .row .given .1) (c .before .if1 .taken))
+returns-2 c = λ out. refused (c .before .before .before .before .before .before .before .before .before .before .args .self) _ _ _ _ _ out (c .refuse2 .ensures) refl (to-driver (c .before .before .before .before .before .before .before .before .before .before .args .self) _ _ _ (c .before .before .before .before .before .before .before .before .before .before .args .w) _ _ (c .before .before .before .before .before .before .wide .ensures .0) (c .before .before .before .before .before .device-place .ensures) _ (c .before .before .before .row .given .1) (c .before .if1 .taken))
 
 cast-t16 : tie.Need-cast-t16
 cast-t16 c = search needs
@@ -41,7 +41,7 @@ same-length c = search needs
 
 returns-3 : tie.Need-returns-3
 returns-3 c = λ out. onward (c .before .before .before .before .before .before .before .before .before .before .before .before .before .args .self) _ _ _ _ out _ _ _ _ _ _ _ _
-    (to-row _ _ _ _ _ _ _ (c .before .before .before .before .before .before .before .before .before .wide .ensures .0) (c .before .before .before .before .before .before .before .before .device-place .ensures) _ (c .before .before .before .before .before .before .row .given .1) (c .before .before .before .before .before .before .before .before .before .before .before .before .before .pre .0) (c .before .before .before .before .if1 .left)) (c .before .before .open-row .ensures out)
+    (to-row (c .before .before .before .before .before .before .before .before .before .before .before .before .before .args .self) _ _ _ (c .before .before .before .before .before .before .before .before .before .before .before .before .before .args .w) _ _ (c .before .before .before .before .before .before .before .before .before .wide .ensures .0) (c .before .before .before .before .before .before .before .before .device-place .ensures) _ (c .before .before .before .before .before .before .row .given .1) (c .before .before .before .before .before .before .before .before .before .before .before .before .before .pre .0) (c .before .before .before .before .if1 .left)) (c .before .before .open-row .ensures out)
 
 pub open-to-spec : {M : Type 1} → statement M
 open-to-spec =

@@ -27,7 +27,7 @@ refuse-requires : tie.Need-refuse-requires
 refuse-requires c κs = search needs
 
 returns : tie.Need-returns
-returns c = rw (c .refuse .ensures) (read-closed _ _ _ _ _ _ (open-none (c .before .before .before .before .before .before .before .before .args .self) _ _ _ (c .before .before .before .before .wide .ensures .0) (c .before .before .before .channel-place .ensures) (c .before .enum-told .given .1)))
+returns c = rw (c .refuse .ensures) (read-closed (c .before .before .before .before .before .before .before .before .args .self) _ _ _ _ _ (open-none (c .before .before .before .before .before .before .before .before .args .self) _ _ _ (c .before .before .before .before .wide .ensures .0) (c .before .before .before .channel-place .ensures) (c .before .enum-told .given .1)))
 
 wide16-requires : tie.Need-wide16-requires
 wide16-requires c κs = search needs
