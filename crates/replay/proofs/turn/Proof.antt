@@ -1,0 +1,47 @@
+-- `replay::turn` meets its contract. Assumes nothing.
+use native.Mathlib.Omega.{arith}
+use Rattle.replay.proofs.Laws.{accepted-ready, stays-ready}
+use borrow.Author.Needs.{needs}
+use Rattle.replay.proofs.turn.Statement.{statement}
+use Rattle.replay.proofs.turn.Tie as tie
+
+call-good-requires : tie.Need-call-good-requires
+call-good-requires c κs = let r = c .before .before .before .before .before .before .pre (c .before .before .if1 .taken) in (r .good, r .size)
+
+same-length : tie.Need-same-length
+same-length c = search needs
+
+same-length-2 : tie.Need-same-length-2
+same-length-2 c = search needs
+
+returns : tie.Need-returns
+returns c = (c .before .before .before .before .call-good .ensures, λ _. stays-ready _ _ _ _ _ _ _ _ (c .before .before .before .before .before .before .before .before .before .before .before .pre (c .before .before .before .before .before .before .before .if1 .taken)) (λ i. omega (arith, c .before .before .before .before .before .before .before .before .before .shared-slice-known .given i)) (c .before .before .before .before .call-good .kept .1 .0) (c .before .before .before .before .call-good .ensures))
+
+call-requires : tie.Need-call-requires
+call-requires c κs = search needs
+
+accepts-requires : tie.Need-accepts-requires
+accepts-requires c κs = search needs
+
+same-length-3 : tie.Need-same-length-3
+same-length-3 c = search needs
+
+same-length-4 : tie.Need-same-length-4
+same-length-4 c = search needs
+
+returns-2 : tie.Need-returns-2
+returns-2 c = (c .before .before .before .before .before .before .call .ensures, accepted-ready _ _ _ (c .accepts .ensures .0) (c .accepts .ensures .1))
+
+pub turn-spec : {M : Type 1} → statement M
+turn-spec =
+    tie.close
+    (tie.spec
+    call-good-requires
+    same-length
+    same-length-2
+    returns
+    call-requires
+    accepts-requires
+    same-length-3
+    same-length-4
+    returns-2)
