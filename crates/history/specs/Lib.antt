@@ -2,3 +2,4 @@
 pub mod Bytes
 pub mod Room
 pub mod Answers
+pub mod Reachable

@@ -1,17 +1,12 @@
 -- "The system holds the fewest segments in which the open channels' records can lie with no place used twice." (Condition 3.)
 use mathlib.Core.Path.{_≡_}
 use mathlib.Core.Bool.{Bool, true}
-use mathlib.Core.List.{List}
 use Prim.Native.Nat.{ℕ, _-_, _≤_}
 use native.Mathlib.Omega.{arith}
 use lib.ListN.{take}
 use Rattle.rows.specs.Sizes.{chain-most}
 use Rattle.kernel.specs.Definition.Line.{totalOf}
 use Rattle.kernel.specs.Definition.Good.{Good}
-use Rattle.kernel.specs.Definition.Answers.{granted}
-use Rattle.kernel.specs.Definition.Calls.{start}
-use Rattle.kernel.specs.Definition.Step.{decided}
-use Rattle.kernel.specs.Laws.Keeps.{start-done, Made, AllFields, run, run-keeps}
 use Rattle.kernel.specs.declared.Tables.{Tables}
 use Rattle.history.specs.Room.Layout.{Layout}
 use Rattle.history.specs.Room.Places.{records, size, held, In, Outside}
@@ -40,8 +35,3 @@ fewest t g =
           let f = in-exists t (t .room) set (room-small t g) (records t) h e .0 l in
           omega (arith, g .line, size-some (t .segments) set h e, chain-most (t .room) (totalOf t) (size (t .segments) set - 1) (omega arith));
     }
-
--- after any sequence of calls since an accepted start
-pub always-fewest : (t : Tables) (ram output room : ℕ) (list : List ℕ) → granted (decided t ram output (start room list) .answer) ≡ true
-    → (ms : List Made) → AllFields ms → Fewest (run (decided t ram output (start room list) .tables) ms)
-always-fewest t ram output room list d ms f = fewest _ (run-keeps _ ms (start-done t ram output room list d) f)

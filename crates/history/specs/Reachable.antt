@@ -1,0 +1,62 @@
+-- Every state that a sequence of calls since an accepted start reaches: its tables are good and its RAM has their size, so that no call of the sequence is
+-- answered TABLES. What is proved of good tables is proved of it.
+use mathlib.Core.Path.{_≡_}
+use mathlib.Core.List.{List, [], _∷_}
+use Prim.Native.Nat.{ℕ}
+use lib.ListN.{length}
+use Rattle.kernel.specs.Definition.Tables.{ramSize}
+use Rattle.kernel.specs.Definition.Good.{Good}
+use Rattle.kernel.specs.Definition.Calls.{Call, «open», link}
+use Rattle.kernel.specs.Definition.Step.{completed, step}
+use Rattle.kernel.specs.Laws.Fields.{Fields}
+use Rattle.kernel.specs.Laws.Ready.{never-tables}
+use Rattle.kernel.specs.declared.Answer.the-variants.{BadTables}
+use Rattle.history.specs.Bytes.Runs.{State, History, event, Started, Runs, stay, then, Run}
+use Rattle.history.specs.Bytes.BytesRead.{run-holds}
+use Rattle.history.specs.Room.Layout.{Layout}
+use Rattle.history.specs.Room.Places.{offered, Outside}
+use Rattle.history.specs.Room.Fewest.{Fewest, fewest}
+use Rattle.history.specs.Room.Earlier.{Passes, Left}
+use Rattle.history.specs.Room.RoomExactly.{recordsAnd, LinkFits, open-exactly, link-exactly}
+
+-- what a state has
+pub record Reached (s : State) : Type 0 where
+  pub good : Good (s .tables)
+  pub size : length (s .ram) ≡ ramSize (s .tables)
+  pub heard : (c : Call) (output : List ℕ) → Fields c → ¬ (event s c output .answer ≡ BadTables)
+
+-- no call of a history was answered TABLES
+abbrev pub NoTables : History → Type 0
+NoTables [] = Unit {0}
+NoTables (e ∷ h) = ¬ (e .answer ≡ BadTables) × NoTables h
+
+reached : {P : State → Type 0} {s t : State} {h : History} → Started s → Runs P s h t → Reached t
+unfolding step completed
+reached {t = t} z r =
+    let b = run-holds z r .0 in
+    record { good = b .good; size = b .size; heard = λ c output f. never-tables (t .tables) (length (t .ram)) (length output) c b f }
+
+all-heard : {P : State → Type 0} {s t : State} {h : History} → Started s → Runs P s h t → NoTables h
+all-heard z (stay _) = tt
+all-heard z (then r c output f n _) = (reached z r .heard c output f, all-heard z r)
+
+-- Every reachable state is good, and TABLES is never the answer: of the next call, and of every call of the sequence.
+pub reachable : {h : History} {s : State} → Run h s → Reached s × NoTables h
+reachable r = (reached (r .started) (r .runs), all-heard (r .started) (r .runs))
+
+-- The system holds the fewest segments.
+pub reachable-fewest : {h : History} {s : State} → Run h s → Fewest (s .tables)
+reachable-fewest {s = s} r = fewest (s .tables) (reachable r .0 .good)
+
+-- An open that passes every earlier check is refused for room exactly when no layout fits, and a link likewise.
+module _ {h : History} {s : State} (r : Run h s) (output : List ℕ) where
+  pub reachable-open : (channel driver n : ℕ) (name : List ℕ) → Passes (s .tables) (length (s .ram)) (length output) («open» channel driver n name)
+      → Left (event s («open» channel driver n name) output .answer) (Layout (recordsAnd (s .tables) n) (Outside (s .tables) (s .tables .room) (offered (s .tables))))
+  unfolding step completed
+  reachable-open channel driver n name p =
+      open-exactly (s .tables) (length (s .ram)) (length output) channel driver n name (reachable r .0 .good .sized) p
+
+  pub reachable-link : (m : ℕ) (name : List ℕ) → Passes (s .tables) (length (s .ram)) (length output) (link m name)
+      → Left (event s (link m name) output .answer) (LinkFits (s .tables) m)
+  unfolding step completed
+  reachable-link m name p = link-exactly (s .tables) (length (s .ram)) (length output) m name (reachable r .0 .good .sized) p
