@@ -10,4 +10,3 @@ pub mod BytesRead
 pub mod Stores
 pub mod UserBytes
 pub mod Words
-mod Example

@@ -3,3 +3,4 @@ pub mod Bytes
 pub mod Room
 pub mod Answers
 pub mod Reachable
+mod Example

@@ -1,0 +1,269 @@
+-- A sequence worked out: a start, two opens, a write, a close, a link, a segment shared, a store. Its states meet all that the theorems ask.
+use mathlib.Core.Path.{_≡_, refl, sym, ap, _∙_}
+use mathlib.Core.Bool.{Bool, true, false, _&&_}
+use mathlib.Core.List.{List, [], _∷_}
+use Prim.Native.Nat.{ℕ}
+use native.Mathlib.Omega.{arith}
+use borrow.Author.Tests.{ltb-true, eqb-true}
+use lib.Dec.{ltb, eqb}
+use lib.ListN.{length, getD}
+use Rattle.names.specs.Tests.{nameTest}
+use Rattle.rows.specs.Lists.{upTo, and-left, and-right}
+use Rattle.rows.specs.Classes.{SHARED}
+use Rattle.rows.specs.Sizes.{chainLength, edgeAt}
+use Rattle.kernel.specs.Cases.{opens}
+use Rattle.kernel.specs.Definition.Tables.{ramSize, classAt, rowOf}
+use Rattle.kernel.specs.Definition.Line.{grown, shrunk}
+use Rattle.kernel.specs.Definition.Reset.{noTables}
+use Rattle.kernel.specs.Definition.Answers.{numberOf, granted}
+use Rattle.kernel.specs.Definition.Calls.{Call, start, close, read, write, link, set-user-boundary, allocate, store, isStart}
+use Rattle.kernel.specs.Definition.Step.{decided, completed, step}
+use Rattle.kernel.specs.Laws.Fields.{Fields}
+use Rattle.kernel.specs.Laws.Ready.{Ready, decided-ready, start-ready}
+use Rattle.kernel.specs.declared.Tables.{Tables}
+use Rattle.kernel.specs.declared.Outcome.{Outcome}
+use Rattle.kernel.specs.declared.Answer.the-variants.{NoRoom}
+use Rattle.history.specs.Bytes.Runs.{State, Event, History, after, event, Started, Runs, stay, then, Any, Run, patched, written, lastWritten, stored, lastStored}
+use Rattle.history.specs.Bytes.Places.{shared}
+use Rattle.history.specs.Bytes.Steps.{step-sound, start-sound}
+use Rattle.history.specs.Bytes.BytesRead.{bytes-read}
+use Rattle.history.specs.Bytes.UserBytes.{UsersIn, userByte, user-bytes}
+use Rattle.history.specs.Room.Layout.{Layout}
+use Rattle.history.specs.Room.Places.{size, held, offered, Outside}
+use Rattle.history.specs.Room.Earlier.{Passes}
+use Rattle.history.specs.Room.RoomExactly.{recordsAnd}
+use Rattle.history.specs.Answers.Proved.{refuses-lowest}
+use Rattle.history.specs.Reachable.{reachable, reachable-fewest, reachable-open}
+
+-- ---- a sequence of calls, each lent four segments of RAM and three bytes of output
+
+abbrev lent : List ℕ
+lent = 0 ∷ 0 ∷ 0 ∷ []
+
+abbrev answered : Tables → Call → Outcome
+answered t c = decided t 65536 3 c
+
+-- the tables that the calls leave, and the numbers that they answer
+abbrev leaves : Tables → List Call → Tables
+leaves t [] = t
+leaves t (c ∷ cs) = leaves (answered t c .tables) cs
+
+abbrev numbers : Tables → List Call → List ℕ
+numbers t [] = []
+numbers t (c ∷ cs) = numberOf (answered t c .answer) ∷ numbers (answered t c .tables) cs
+
+-- the state that they leave, and their history after h
+abbrev leads : State → List Call → State
+leads s [] = s
+leads s (c ∷ cs) = leads (after s c lent) cs
+
+abbrev tells : History → State → List Call → History
+tells h s [] = h
+tells h s (c ∷ cs) = tells (event s c lent ∷ h) (after s c lent) cs
+
+abbrev Fit : List Call → Type 0
+Fit [] = Unit {0}
+Fit (c ∷ cs) = Fields c × (isStart c ≡ false) × Fit cs
+
+-- the states on the way have P
+abbrev Along : (State → Type 0) → State → List Call → Type 0
+Along P s [] = Unit {0}
+Along P s (c ∷ cs) = P (after s c lent) × Along P (after s c lent) cs
+
+runs : {P : State → Type 0} {first : State} (h : History) (s : State) (cs : List Call) → Fit cs → Along P s cs → Runs P first h s
+    → Runs P first (tells h s cs) (leads s cs)
+runs h s [] f p r = r
+runs h s (c ∷ cs) (f, n, fs) (p, ps) r = runs _ _ cs fs ps (then r c lent f (rw n) p)
+
+anything : (s : State) (cs : List Call) → Along Any s cs
+anything s [] = tt
+anything s (c ∷ cs) = (tt, anything (after s c lent) cs)
+
+-- ---- a state whose tables are known
+
+record Known (s : State) (t : Tables) : Type 0 where
+  ready : Ready t 65536
+  tables : s .tables ≡ t
+  size : length (s .ram) ≡ 65536
+
+known-answer : {s : State} {t : Tables} → Known s t → (c : Call) → event s c lent .answer ≡ answered t c .answer
+unfolding step completed
+known-answer k c = rw (k .tables, k .size)
+
+known-next : {s : State} {t : Tables} → Known s t → (c : Call) → Fields c → isStart c ≡ false → Known (after s c lent) (answered t c .tables)
+unfolding step completed
+known-next {s} {t} k c f n =
+    let here : Ready (s .tables) (length (s .ram)) = rw (k .tables, k .size) (k .ready) in
+    let next : Ready (answered t c .tables) 65536 = decided-ready t 65536 3 c (k .ready) f in
+    let same : after s c lent .tables ≡ answered t c .tables = rw (k .tables, k .size) in
+    record { ready = next; tables = same; size = step-sound s c lent here f (rw n) .size ∙ ap ramSize same ∙ sym (next .size) }
+
+known-all : {s : State} {t : Tables} → Known s t → (cs : List Call) → Fit cs → Known (leads s cs) (leaves t cs)
+known-all k [] f = k
+known-all k (c ∷ cs) (f, n, fs) = known-all (known-next k c f n) cs fs
+
+-- the calls and answers of its history are known too
+abbrev plain : History → Tables → List Call → History
+plain h t [] = h
+plain h t (c ∷ cs) = plain (record { call = c; answer = answered t c .answer; output = [] } ∷ h) (answered t c .tables) cs
+
+data Alike : History → History → Type 0 where
+  none : Alike [] []
+  both : {g h : History} {d e : Event} → d .call ≡ e .call → d .answer ≡ e .answer → Alike g h → Alike (d ∷ g) (e ∷ h)
+
+alike : {g h : History} {s : State} {t : Tables} → Alike g h → Known s t → (cs : List Call) → Fit cs → Alike (tells g s cs) (plain h t cs)
+alike a k [] f = a
+alike a k (c ∷ cs) (f, n, fs) = alike (both refl (known-answer k c) a) (known-next k c f n) cs fs
+
+alike-written : {g h : History} → Alike g h → (channel k : ℕ) → lastWritten g channel k ≡ lastWritten h channel k
+unfolding lastWritten
+alike-written none channel k = refl
+alike-written (both p q a) channel k = rw (p, q, alike-written a channel k)
+
+alike-stored : {g h : History} → Alike g h → (segment offset first : ℕ) → lastStored g segment offset first ≡ lastStored h segment offset first
+unfolding lastStored
+alike-stored none segment offset first = refl
+alike-stored (both p q a) segment offset first = rw (p, q, alike-stored a segment offset first)
+
+-- a place of a shared segment is the user's all the way, as a test
+abbrev sharedTest : (segment offset : ℕ) → Tables → Bool
+sharedTest segment offset t = ltb (rowOf t segment) (t .segments) && (eqb (classAt t (rowOf t segment)) SHARED && ltb offset (t .user))
+
+abbrev sharedAll : (segment offset : ℕ) → Tables → List Call → Bool
+sharedAll segment offset t [] = true
+sharedAll segment offset t (c ∷ cs) = sharedTest segment offset (answered t c .tables) && sharedAll segment offset (answered t c .tables) cs
+
+module _ (segment offset : ℕ) where
+  users : {s : State} {t : Tables} → Known s t → sharedTest segment offset t ≡ true → UsersIn segment offset s
+  users {t = t} k e =
+      let row = rowOf t segment in
+      let q : eqb (classAt t row) SHARED && ltb offset (t .user) ≡ true = and-right (ltb row (t .segments)) _ e in
+      rw (k .tables)
+      (shared (ltb-true _ _ (and-left (ltb row (t .segments)) _ e)) (eqb-true _ _ (and-left _ _ q)) (ltb-true _ _ (and-right (eqb (classAt t row) SHARED) _ q)))
+
+  users-all : {s : State} {t : Tables} → Known s t → (cs : List Call) → Fit cs → sharedAll segment offset t cs ≡ true → Along (UsersIn segment offset) s cs
+  users-all k [] f e = tt
+  users-all {t = t} k (c ∷ cs) (f, n, fs) e =
+      let next = known-next k c f n in
+      let here = sharedTest segment offset (answered t c .tables) in
+      (users next (and-left here _ e), users-all next cs fs (and-right here _ e))
+
+-- ---- the sequence
+
+abbrev begin : Call
+begin = start 11074 (252 ∷ 253 ∷ 254 ∷ 255 ∷ [])
+
+-- The close moves channel 2's buffer and the link moves it again; the third allocate shares 255, which the line uses.
+abbrev calls : List Call
+calls =
+    opens 1 3 ∷ opens 2 4 ∷ write 2 1 (7 ∷ []) ∷ close 1 ∷ link 100 (65 ∷ []) ∷ allocate 0 ∷ allocate 0 ∷ allocate 0 ∷ set-user-boundary 1000 ∷ []
+
+-- The user's byte in 255 stays through an open that fills the room above it, and a close.
+abbrev more : List Call
+more = store 255 5 (9 ∷ []) ∷ opens 3 9938 ∷ close 2 ∷ []
+
+abbrev t₀ : Tables
+t₀ = answered noTables begin .tables
+
+abbrev t₁ : Tables
+t₁ = leaves t₀ calls
+
+fit : Fit calls
+fit =
+    ((omega arith, omega arith, omega arith), refl, ((omega arith, omega arith, omega arith), refl, ((omega arith, omega arith), refl, (omega arith, refl, (omega arith, refl, (omega arith, refl, (omega arith, refl, (omega arith, refl, (omega arith, refl, tt)))))))))
+
+fit-more : Fit more
+fit-more = ((omega arith, omega arith), refl, ((omega arith, omega arith, omega arith), refl, (omega arith, refl, tt)))
+
+-- 17 is SHARED
+pub answers : numbers t₀ calls ≡ 0 ∷ 0 ∷ 0 ∷ 0 ∷ 0 ∷ 0 ∷ 0 ∷ 17 ∷ 0 ∷ []
+unfolding decided noTables nameTest upTo chainLength edgeAt grown shrunk
+answers = refl
+
+pub answers-more : numbers t₁ more ≡ 0 ∷ 0 ∷ 0 ∷ []
+unfolding decided noTables nameTest upTo chainLength edgeAt grown shrunk
+answers-more = refl
+
+shared-here : sharedTest 255 5 t₁ ≡ true
+unfolding decided noTables nameTest upTo chainLength edgeAt grown shrunk
+shared-here = refl
+
+shared-all : sharedAll 255 5 t₁ more ≡ true
+unfolding decided noTables nameTest upTo chainLength edgeAt grown shrunk
+shared-all = refl
+
+module _ (ram : List ℕ) (four : length ram ≡ 65536) where
+  abbrev before : State
+  before = record { tables = noTables; ram = ram }
+
+  abbrev s₀ : State
+  s₀ = after before begin lent
+
+  abbrev s₁ : State
+  s₁ = leads s₀ calls
+
+  begun : granted (answered noTables begin .answer) ≡ true
+  unfolding decided noTables upTo
+  begun = refl
+
+  accepted : granted (event before begin lent .answer) ≡ true
+  unfolding step completed
+  accepted = rw four begun
+
+  starts : Started s₀
+  starts = record { before = before; room = 11074; list = 252 ∷ 253 ∷ 254 ∷ 255 ∷ []; output = lent; accepted = accepted; left = refl }
+
+  k₀ : Known s₀ t₀
+  unfolding step completed
+  k₀ =
+      let ready : Ready t₀ 65536 = start-ready noTables 65536 3 11074 (252 ∷ 253 ∷ 254 ∷ 255 ∷ []) begun in
+      let same : s₀ .tables ≡ t₀ = rw four in
+      record { ready = ready; tables = same; size = start-sound s₀ starts .size ∙ ap ramSize same ∙ sym (ready .size) }
+
+  k₁ : Known s₁ t₁
+  k₁ = known-all k₀ calls fit
+
+  sequence : Run (tells [] s₀ calls) s₁
+  sequence = record { first = s₀; started = starts; runs = runs [] s₀ calls fit (anything s₀ calls) (stay tt) }
+
+  -- 1: channel 2's bytes, read after its buffer moved twice, are 0 and the 7 that was written
+  gave : granted (event s₁ (read 2 0 3) lent .answer) ≡ true
+  unfolding decided noTables nameTest upTo chainLength edgeAt grown shrunk
+  gave = ap granted (known-answer k₁ (read 2 0 3))
+
+  last : (k : ℕ) → lastWritten (tells [] s₀ calls) 2 k ≡ lastWritten (plain [] t₀ calls) 2 k
+  last k = alike-written (alike none k₀ calls fit) 2 k
+
+  pub byte-zero : getD (event s₁ (read 2 0 3) lent .output) 0 0 ≡ 0
+  unfolding lastWritten written patched decided noTables nameTest upTo chainLength edgeAt grown shrunk
+  byte-zero = bytes-read sequence 2 0 3 lent gave 0 (omega arith) ∙ last 0
+
+  pub byte-one : getD (event s₁ (read 2 0 3) lent .output) 1 0 ≡ 7
+  unfolding lastWritten written patched decided noTables nameTest upTo chainLength edgeAt grown shrunk
+  byte-one = bytes-read sequence 2 0 3 lent gave 1 (omega arith) ∙ last 1
+
+  -- 2: byte 5 of the shared segment is the 9 that was stored
+  pub byte-stored : userByte (leads s₁ more) 255 5 ≡ 9
+  unfolding lastStored stored patched decided noTables nameTest upTo chainLength edgeAt grown shrunk
+  byte-stored =
+      user-bytes sequence 255 5 (runs [] s₁ more fit-more (users-all 255 5 k₁ more fit-more shared-all) (stay (users 255 5 k₁ shared-here)))
+      ∙ alike-stored (alike none k₁ more fit-more) 255 5 _
+
+  -- 3: the one channel's record lies in one segment
+  pub one-segment : size (s₁ .tables .segments) (held (s₁ .tables)) ≡ 1
+  unfolding decided noTables nameTest upTo chainLength edgeAt grown shrunk
+  one-segment = reachable-fewest sequence .many ∙ ap (λ (t : Tables). t .held) (k₁ .tables)
+
+  -- 4: one byte more than the open of `more` asks, and no layout fits
+  no-room : event s₁ (opens 3 9939) lent .answer ≡ NoRoom
+  unfolding decided noTables nameTest upTo chainLength edgeAt grown shrunk
+  no-room = known-answer k₁ (opens 3 9939)
+
+  passes : Passes (s₁ .tables) (length (s₁ .ram)) 3 (opens 3 9939)
+  unfolding step completed
+  passes =
+      refuses-lowest (s₁ .tables) (length (s₁ .ram)) 3 (opens 3 9939) (reachable sequence .0 .good .sized) (omega arith, omega arith, omega arith) 9
+      (omega arith) (omega arith) .0 (ap numberOf no-room) .1
+
+  pub no-layout : ¬ Layout (recordsAnd (s₁ .tables) 9939) (Outside (s₁ .tables) (s₁ .tables .room) (offered (s₁ .tables)))
+  no-layout = reachable-open sequence lent 3 0 9939 _ passes .refused .0 no-room
