@@ -4,6 +4,7 @@ use mathlib.Core.Bool.{Bool, true, false, _&&_}
 use mathlib.Core.List.{List, [], _∷_}
 use Prim.Native.Nat.{ℕ}
 use native.Mathlib.Omega.{arith}
+use borrow.Author.Needs.{needs}
 use borrow.Author.Tests.{ltb-true, eqb-true}
 use lib.Dec.{ltb, eqb}
 use lib.ListN.{length, getD}
@@ -169,11 +170,10 @@ abbrev t₁ : Tables
 t₁ = leaves t₀ calls
 
 fit : Fit calls
-fit =
-    ((omega arith, omega arith, omega arith), refl, ((omega arith, omega arith, omega arith), refl, ((omega arith, omega arith), refl, (omega arith, refl, (omega arith, refl, (omega arith, refl, (omega arith, refl, (omega arith, refl, (omega arith, refl, tt)))))))))
+fit = search needs
 
 fit-more : Fit more
-fit-more = ((omega arith, omega arith), refl, ((omega arith, omega arith, omega arith), refl, (omega arith, refl, tt)))
+fit-more = search needs
 
 -- 17 is SHARED
 pub answers : numbers t₀ calls ≡ 0 ∷ 0 ∷ 0 ∷ 0 ∷ 0 ∷ 0 ∷ 0 ∷ 17 ∷ 0 ∷ []
