@@ -2,3 +2,4 @@
 pub mod Replay
 pub mod Laws
 pub mod Runs
+mod Example
