@@ -78,7 +78,9 @@ reach-users t row offset m h =
     let known : row < t .segments = ltb-true _ _ (and-left (ltb row (t .segments)) _ m) in
     let which : eqb row 0 || eqb (classAt t row) USER || eqb (classAt t row) SHARED ≡ true = and-right (ltb row (t .segments)) _ m in
     elim (ℕ-discrete (classAt t row) SHARED) [
-      | yes q ↦ shared known q (rw (eq-eqb _ _ q) at h)
+      | yes q ↦
+          let below : offset < t .user = rw (eq-eqb _ _ q) at h in
+          shared known q (omega arith)
       | no q ↦
           let below : offset < SEGMENT = rw (ne-eqb _ _ q) at h in
           elim (ℕ-discrete row 0) [
