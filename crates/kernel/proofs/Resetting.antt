@@ -4,7 +4,7 @@ use mathlib.Core.Bool.{Bool, true, false, cond}
 use mathlib.Core.List.{List, map}
 use Prim.Native.Nat.{ℕ, _-_, _≤_, _<_}
 use native.Mathlib.Omega.{arith}
-use lib.ListN.{length, take, replicate}
+use lib.ListN.{length, getD, take, replicate}
 use Rattle.rows.specs.Classes.{released}
 use Rattle.rows.specs.Channels.{noChannel, sumOf}
 use Rattle.rows.specs.Devices.{builtIn}
@@ -41,9 +41,14 @@ module _ (t : Tables) (held : ℕ) (m : held ≡ t .held) where
         omega (arith, f .holds),
       )
 
-  pub none-left : (after : Tables) → after ≡ shrunk (held - 1) (withChannels t 0 (replicate 32 noChannel)) → after ≡ emptying t
+  pub none-left : (channels : List Channel) → channels ≡ replicate 32 noChannel → (after : Tables) → after ≡ shrunk (held - 1) (withChannels t 0 channels)
+      → after ≡ emptying t
   unfolding emptying
-  none-left after a = rw (a, m)
+  none-left channels e after a = rw (a, e, m)
+
+pub none-behind : (t : Tables) (opened : ℕ) → opened ≡ t .opened → Good t
+    → (opened ≤ 32) × ((i : ℕ) → opened ≤ i → i < 32 → getD (t .channels) i noChannel ≡ noChannel)
+none-behind t opened e g = (omega (arith, g .channels .most), λ i a b. g .channels .rest i (omega arith) b)
 
 pub devices-restored : (t : Tables) (devices : List Device) → devices ≡ builtIn → withDevices t (t .cold) 3 devices ≡ restoring t
 unfolding restoring

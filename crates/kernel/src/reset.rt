@@ -15,7 +15,7 @@ use super::Answer;
 use super::Outcome;
 use super::Tables;
 use line::clear;
-use rows::Channel;
+use rows::channels::emptied;
 use rows::channels::total;
 use rows::devices::built_in;
 use rows::numbers::wide;
@@ -29,12 +29,8 @@ impl Tables {
         ensures { λ r. ⌜ r ≡ emptying self ⌝ }
     {
         let gone = wide(self.held) - 1;
-        let channels = [Channel {
-            number: 0,
-            device: 0,
-            unit: 0,
-            n: 0,
-        }; 32];
+        let rows = self.channels;
+        let channels = emptied(rows, wide(self.opened));
         let mut next = self;
         next.opened = 0;
         next.channels = channels;

@@ -1,14 +1,20 @@
 -- Arrays filled by one store a turn: the loops' invariants and their laws. Assumes nothing.
 use mathlib.Core.Path.{_≡_, refl, ap, sym, _∙_}
+use mathlib.Core.Bool.{Bool, true, false, not, _&&_, and-false}
 use mathlib.Core.List.{List, [], _∷_, map}
 use Prim.Native.Nat.{ℕ, zero, suc, _+_, _-_, _≤_, _<_}
 use native.Mathlib.Nat.{not-suc-le-zero, le-of-suc-le-suc}
 use native.Mathlib.Decide.{decLt, ℕ-discrete}
 use native.Mathlib.Omega.{arith}
-use lib.ListN.{length, getD, take, set, replicate, length-set, length-map, length-append, length-replicate, length-take, List·getD-append, List·getD-eq-default}
+use borrow.Author.Tests.{eq-eqb, ne-eqb}
+use lib.Dec.{eqb}
+use lib.ListN.{length, getD, take, set, replicate, getD-replicate, length-set, length-map, length-append, length-replicate, length-take, List·getD-append, List·getD-eq-default}
 use lib.Seq.{getD-set-same, getD-set-other, getD-take, ext-getD, getD-append-add}
-use Rattle.rows.specs.Lists.{at, padded, tally}
+use Rattle.rows.specs.Lists.{at, padded, tally, below, upTo, all-more, and-yes}
 use Rattle.rows.specs.Classes.{FREE, SYSTEM, fresh}
+use Rattle.rows.specs.Channels.{noChannel}
+use Rattle.rows.specs.Tests.{differRow}
+use Rattle.rows.specs.declared.Channel.{Channel}
 use Rattle.rows.specs.Count.{tally-more, tally-same}
 use Rattle.rows.specs.ClassRows.{zeros-at, fresh-free, fresh-last, fresh-rest, fresh-length}
 
@@ -153,3 +159,71 @@ freed-end n rows p q m =
       | yes g ↦ m .free (suc j) (omega arith) (omega arith) ∙ sym (fresh-free n p q (suc j) (omega arith) (omega arith))
       | no g ↦ m .rest (suc j) (omega arith) ∙ sym (fresh-rest n p q (suc j) (omega arith))
     ]
+
+-- the rows below i and those from n on are z
+pub record Cleared {A : Type 0} (z : A) (n i : ℕ) (rows : List A) : Type 0 where
+  pub long : length rows ≡ 32
+  pub gone : (j : ℕ) → j < i → getD rows j z ≡ z
+  pub rest : (j : ℕ) → n ≤ j → j < 32 → getD rows j z ≡ z
+
+module _ {A : Type 0} (z : A) (n : ℕ) where
+  pub cleared-none : (rows : List A) → length rows ≡ 32 → ((j : ℕ) → n ≤ j → j < 32 → getD rows j z ≡ z) → Cleared z n 0 rows
+  cleared-none rows l r = record { long = l; gone = λ j h. absurd (not-suc-le-zero h); rest = r }
+
+  pub cleared-more : (i : ℕ) (rows : List A) → i < 32 → i < n → Cleared z n i rows → Cleared z n (i + 1) (set rows i z)
+  cleared-more i rows h k m = record {
+    long = length-set rows i z ∙ m .long;
+    gone = λ j g. elim (ℕ-discrete j i) [
+      | yes q ↦ rw q (getD-set-same rows i z z (omega (arith, m .long)))
+      | no q ↦ getD-set-other rows i j z z q ∙ m .gone j (omega arith)
+    ];
+    rest = λ j a b. getD-set-other rows i j z z (λ e. omega arith) ∙ m .rest j a b;
+  }
+
+  pub cleared-end : (rows : List A) → Cleared z n n rows → rows ≡ replicate 32 z
+  cleared-end rows m =
+      ext-getD z rows (replicate 32 z) (m .long ∙ sym (length-replicate 32 z))
+      (λ j h.
+      let l : j < 32 = omega (arith, m .long) in
+      elim (decLt j n) [
+        | yes g ↦ m .gone j g ∙ sym (getD-replicate 32 j z z l)
+        | no g ↦ m .rest j (omega arith) l ∙ sym (getD-replicate 32 j z z l)
+      ])
+
+-- the numbers that the first i channels have
+pub record Seen (cs : List Channel) (i : ℕ) (seen : List Bool) : Type 0 where
+  pub long : length seen ≡ 256
+  pub each : (x : ℕ) → x < 256 → getD seen x false ≡ not (below i (λ j. not (eqb (getD cs j noChannel .number) x)))
+
+not-not : (b : Bool) → not (not b) ≡ b
+not-not true = refl
+not-not false = refl
+
+module _ (cs : List Channel) where
+  pub seen-none : Seen cs 0 (replicate 256 false)
+  seen-none = record { long = refl; each = λ x h. getD-replicate 256 x false false h }
+
+  module _ (i k : ℕ) (seen : List Bool) (e : k ≡ getD cs i noChannel .number) (h : k < 256) (m : Seen cs i seen) where
+    -- the number of row i is new
+    pub unseen : not (getD seen k false) ≡ upTo i (differRow cs i)
+    unfolding upTo
+    unseen =
+        let others : ℕ → Bool = λ x. below i (λ j. not (eqb (getD cs j noChannel .number) x)) in
+        ap not (m .each k h) ∙ not-not (others k) ∙ ap others e
+
+    pub seen-more : Seen cs (i + 1) (set seen k true)
+    seen-more = record {
+      long = length-set seen k true ∙ m .long;
+      each = λ x l.
+          let p : ℕ → Bool = λ j. not (eqb (getD cs j noChannel .number) x) in
+          let next : below i p && p i ≡ below (i + 1) p = all-more p i (below i p) refl in
+          elim (ℕ-discrete x k) [
+            | yes q ↦
+                let hit : p i ≡ false = rw (eq-eqb (getD cs i noChannel .number) x (sym e ∙ sym q)) in
+                let all : below (i + 1) p ≡ false = sym next ∙ ap (λ (b : Bool). below i p && b) hit ∙ and-false (below i p) in
+                ap (λ (y : ℕ). getD (set seen k true) y false) q ∙ getD-set-same seen k true false (omega (arith, m .long)) ∙ ap not (sym all)
+            | no q ↦
+                let miss : p i ≡ true = rw (ne-eqb (getD cs i noChannel .number) x (λ f. q (sym f ∙ sym e))) in
+                getD-set-other seen k x true false q ∙ m .each x l ∙ ap not (and-yes (below i p) (p i) miss ∙ next)
+          ];
+    }

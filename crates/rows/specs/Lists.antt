@@ -1,6 +1,6 @@
 -- Searches, counts and tests over lists, which antt computes, and their laws. Assumes nothing.
-use mathlib.Core.Path.{_≡_, refl, ap, subst}
-use mathlib.Core.Bool.{Bool, true, false, cond, _&&_, false≢true}
+use mathlib.Core.Path.{_≡_, refl, sym, ap, subst, _∙_}
+use mathlib.Core.Bool.{Bool, true, false, cond, _&&_, _||_, false≢true}
 use mathlib.Core.List.{List, [], _∷_, _++_}
 use Prim.Native.Nat.{ℕ, zero, suc, _+_, _-_, _≤_, _<_, suc-le-suc}
 use native.Mathlib.Nat.{not-suc-le-zero, le-of-suc-le-suc}
@@ -91,6 +91,28 @@ below-same (suc n) p q f = rw (below-same n p q (λ i h. f i (omega arith)), f n
 -- one more row asked
 pub all-more : (p : ℕ → Bool) (i : ℕ) (ok : Bool) → ok ≡ below i p → ok && p i ≡ below (i + 1) p
 all-more p i ok e = rw (add-one, e)
+
+-- the same, where the code asks less of a row: it does not ask again what it knows of its place
+pub row-more : (p : ℕ → Bool) (i : ℕ) (ok x : Bool) → ok ≡ below i p → x ≡ p i → ok && x ≡ below (i + 1) p
+row-more p i ok x e f = rw f (all-more p i ok e)
+
+pub not-excused : (b x : Bool) → b ≡ false → x ≡ b || x
+not-excused b x e = rw e
+
+pub and-yes : (a b : Bool) → b ≡ true → a ≡ a && b
+and-yes true b e = sym e
+and-yes false b e = refl
+
+-- rows that pass wherever they are asked
+pub below-rest : (m k : ℕ) (p : ℕ → Bool) → m ≤ k → ((i : ℕ) → m ≤ i → i < k → p i ≡ true) → below m p ≡ below k p
+below-rest m zero p h f = let e : m ≡ 0 = omega arith in rw e
+below-rest m (suc k) p h f =
+    elim (decLt k m) [
+      | yes g ↦ let e : m ≡ suc k = omega arith in rw e
+      | no g ↦
+          below-rest m k p (omega arith) (λ i a b. f i a (omega arith))
+          ∙ and-yes (below k p) (p k) (f k (omega arith) (omega arith))
+    ]
 
 -- firstWhere: where the first stands, and where there is none
 pub where-here : {A : Type 0} (p : A → Bool) (xs : List A) (d : A) (i n : ℕ) → i < n → n ≤ length xs

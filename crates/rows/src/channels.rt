@@ -1,10 +1,10 @@
 // The rows of channels, in line order.
 ghost use mathlib.Core.Path.{_≡_};
-ghost use Prim.Native.Nat.{_≤_, _<_};
-ghost use lib.ListN.{take};
+ghost use Prim.Native.Nat.{ℕ, _≤_, _<_};
+ghost use lib.ListN.{take, getD, replicate};
 ghost use Rattle.rows.specs.Lists.{without, upTo};
 ghost use Rattle.rows.specs.Channels.{noChannel, sumOf, placeIn, foundAt};
-ghost use Rattle.rows.specs.Tests.{restChannel, differRow, channelRow, channelTest};
+ghost use Rattle.rows.specs.Tests.{restChannel, channelRow, channelTest};
 use super::Channel;
 use super::Place;
 use super::numbers::wide;
@@ -62,32 +62,36 @@ pub fn without_row(channels: [Channel; 32], i: usize) -> [Channel; 32]
     rows
 }
 
+// The rows with the first `opened` empty, those behind them being empty already.
+pub fn emptied(channels: [Channel; 32], opened: usize) -> [Channel; 32]
+    requires { ⌜ (opened ≤ 32) × ((i : ℕ) → opened ≤ i → i < 32 → getD channels i noChannel ≡ noChannel) ⌝ }
+    ensures { λ r. ⌜ r ≡ replicate 32 noChannel ⌝ }
+{
+    let mut rows = channels;
+    let mut i: usize = 0;
+    while i < opened {
+        rows[i] = Channel {
+            number: 0,
+            device: 0,
+            unit: 0,
+            n: 0,
+        };
+        i = i + 1;
+    }
+    rows
+}
+
 // Rows from `opened` on are empty.
 fn empty_from(channels: [Channel; 32], opened: usize) -> bool
+    requires { ⌜ opened ≤ 32 ⌝ }
     ensures { λ r. ⌜ r ≡ upTo 32 (restChannel channels opened) ⌝ }
 {
     let mut ok = true;
-    let mut i: usize = 0;
+    let mut i = opened;
     while i < 32 {
         let c = channels[i];
-        ok = ok & ((i < opened) | ((c.number == 0) & (c.device == 0) & (c.unit == 0) & (c.n == 0)));
+        ok = ok & ((c.number == 0) & (c.device == 0) & (c.unit == 0) & (c.n == 0));
         i = i + 1;
-    }
-    ok
-}
-
-// No row before `i` has its number.
-fn number_new(channels: [Channel; 32], i: usize) -> bool
-    requires { ⌜ i < 32 ⌝ }
-    ensures { λ r. ⌜ r ≡ upTo i (differRow channels i) ⌝ }
-{
-    let c = channels[i];
-    let mut ok = true;
-    let mut j: usize = 0;
-    while j < i {
-        let d = channels[j];
-        ok = ok & !(d.number == c.number);
-        j = j + 1;
     }
     ok
 }
@@ -97,13 +101,15 @@ fn channels_fine(channels: [Channel; 32], opened: usize, known: usize) -> bool
     requires { ⌜ opened ≤ 32 ⌝ }
     ensures { λ r. ⌜ r ≡ upTo opened (channelRow channels known) ⌝ }
 {
+    let mut seen = [false; 256];
     let mut ok = true;
     let mut i: usize = 0;
     while i < opened {
         let c = channels[i];
         let d = wide(c.device);
-        let new = number_new(channels, i);
-        ok = ok & ((c.number < 255) & (d < known) & new);
+        let k = wide(c.number);
+        ok = ok & ((c.number < 255) & (d < known) & !seen[k]);
+        seen[k] = true;
         i = i + 1;
     }
     ok

@@ -6,7 +6,7 @@ ghost use lib.ListN.{take};
 ghost use Rattle.rows.specs.Lists.{upTo};
 ghost use Rattle.rows.specs.Channels.{foundAt};
 ghost use Rattle.rows.specs.Devices.{builtIn, sameName, sameBytes, muted, answers, deviceIn};
-ghost use Rattle.rows.specs.Tests.{letterRow, nameTest, defaultTest, zeroRow, restDevice, aliasRow, deviceRow, builtTest, deviceTest};
+ghost use Rattle.rows.specs.Tests.{letterRow, nameTest, defaultTest, zeroRow, restDevice, deviceRow, builtTest, deviceTest};
 use super::Device;
 use super::Place;
 use super::numbers::wide;
@@ -116,13 +116,14 @@ pub fn disable(devices: [Device; 16], name: [u8; 28], length: u8) -> [Device; 16
     rows
 }
 
-fn letters(name: [u8; 28], n: usize) -> bool
+fn letters(name: [u8; 28], n: u8) -> bool
     ensures { λ r. ⌜ r ≡ upTo 28 (letterRow name n) ⌝ }
 {
     let mut ok = true;
-    let mut i: usize = 0;
+    let mut i: u8 = 0;
     while i < 28 {
-        let c = name[i];
+        let at = wide(i);
+        let c = name[at];
         ok = ok & (((n <= i) & (c == 0)) | ((i < n) & (65 <= c) & (c <= 90)));
         i = i + 1;
     }
@@ -133,7 +134,7 @@ fn letters(name: [u8; 28], n: usize) -> bool
 pub fn name_test(name: [u8; 28], length: u8) -> bool
     ensures { λ r. ⌜ r ≡ nameTest name length ⌝ }
 {
-    (length <= 28) & letters(name, wide(length))
+    (length <= 28) & letters(name, length)
 }
 
 pub fn default_test(name: [u8; 28], length: u8, unit: u8) -> bool
@@ -156,34 +157,16 @@ fn nameless(name: [u8; 28]) -> bool
 
 // Rows from `known` on are empty.
 fn unused_from(devices: [Device; 16], known: usize) -> bool
+    requires { ⌜ known ≤ 16 ⌝ }
     ensures { λ r. ⌜ r ≡ upTo 16 (restDevice devices known) ⌝ }
 {
     let mut ok = true;
-    let mut i: usize = 0;
+    let mut i = known;
     while i < 16 {
         let d = devices[i];
         let name = d.name;
-        ok = ok & ((i < known) | ((d.length == 0) & !d.enabled & nameless(name)));
+        ok = ok & ((d.length == 0) & !d.enabled & nameless(name));
         i = i + 1;
-    }
-    ok
-}
-
-// No later one of the first `known` has the name of row `i`.
-fn latest(devices: [Device; 16], known: usize, i: usize) -> bool
-    requires { ⌜ (known ≤ 16) × (i < 16) ⌝ }
-    ensures { λ r. ⌜ r ≡ upTo known (aliasRow devices i) ⌝ }
-{
-    let d = devices[i];
-    let name = d.name;
-    let length = d.length;
-    let mut ok = true;
-    let mut j: usize = 0;
-    while j < known {
-        let e = devices[j];
-        let other = e.name;
-        ok = ok & ((j <= i) | !same_name(other, e.length, name, length));
-        j = j + 1;
     }
     ok
 }
@@ -201,7 +184,15 @@ fn devices_fine(devices: [Device; 16], known: usize) -> bool
         let length = d.length;
         let on = d.enabled;
         let fine = name_test(name, length);
-        let last = latest(devices, known, i);
+        // whether no later one has its name: here, since a call would copy all rows
+        let mut last = true;
+        let mut j = i + 1;
+        while j < known {
+            let e = devices[j];
+            let other = e.name;
+            last = last & !same_name(other, e.length, name, length);
+            j = j + 1;
+        }
         ok = ok & ((1 <= length) & fine & ((on & last) | (!on & !last)));
         i = i + 1;
     }

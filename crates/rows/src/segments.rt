@@ -83,12 +83,13 @@ fn tallies(chain: [u8; 32], held: usize) -> [u8; 32]
 
 // Rows from `n` on are zero.
 fn zero_from(xs: [u8; 32], n: usize) -> bool
+    requires { ⌜ n ≤ 32 ⌝ }
     ensures { λ r. ⌜ r ≡ upTo 32 (restRow xs n) ⌝ }
 {
     let mut ok = true;
-    let mut i: usize = 0;
+    let mut i = n;
     while i < 32 {
-        ok = ok & ((i < n) | (xs[i] == 0));
+        ok = ok & (xs[i] == 0);
         i = i + 1;
     }
     ok
@@ -96,12 +97,13 @@ fn zero_from(xs: [u8; 32], n: usize) -> bool
 
 // The first `n` rise strictly.
 fn rises(xs: [u8; 32], n: usize) -> bool
+    requires { ⌜ (1 ≤ n) × (n ≤ 32) ⌝ }
     ensures { λ r. ⌜ r ≡ upTo 31 (riseRow xs n) ⌝ }
 {
     let mut ok = true;
     let mut i: usize = 0;
-    while i < 31 {
-        ok = ok & ((n <= i + 1) | (xs[i] < xs[i + 1]));
+    while i < n - 1 {
+        ok = ok & (xs[i] < xs[i + 1]);
         i = i + 1;
     }
     ok
@@ -109,13 +111,14 @@ fn rises(xs: [u8; 32], n: usize) -> bool
 
 // The first row has no class, each other of the first `n` has one.
 fn classed(classes: [u8; 32], n: usize) -> bool
+    requires { ⌜ n ≤ 32 ⌝ }
     ensures { λ r. ⌜ r ≡ upTo 32 (classRow classes n) ⌝ }
 {
     let mut ok = true;
     let mut i: usize = 0;
-    while i < 32 {
+    while i < n {
         let c = classes[i];
-        ok = ok & ((n <= i) | (((0 < i) | (c == 0)) & ((i <= 0) | (FREE <= c)) & (c <= SHARED)));
+        ok = ok & (((0 < i) | (c == 0)) & ((i <= 0) | (FREE <= c)) & (c <= SHARED));
         i = i + 1;
     }
     ok
@@ -123,12 +126,13 @@ fn classed(classes: [u8; 32], n: usize) -> bool
 
 // The chain's entries are rows of the list.
 fn chain_below(chain: [u8; 32], held: usize, n: usize) -> bool
+    requires { ⌜ held ≤ 32 ⌝ }
     ensures { λ r. ⌜ r ≡ upTo 32 (chainRow chain held n) ⌝ }
 {
     let mut ok = true;
     let mut i: usize = 0;
-    while i < 32 {
-        ok = ok & ((held <= i) | (wide(chain[i]) < n));
+    while i < held {
+        ok = ok & (wide(chain[i]) < n);
         i = i + 1;
     }
     ok
@@ -136,19 +140,17 @@ fn chain_below(chain: [u8; 32], held: usize, n: usize) -> bool
 
 // The chain is exactly the system and shared segments without a repeat, and a shared one is `last`.
 fn exact(classes: [u8; 32], chain: [u8; 32], held: usize, last: usize, n: usize) -> bool
-    requires { ⌜ held ≤ 32 ⌝ }
+    requires { ⌜ (held ≤ 32) × (n ≤ 32) ⌝ }
     ensures { λ r. ⌜ r ≡ upTo 32 (exactRow classes chain held last n) ⌝ }
 {
     let times = tallies(chain, held);
     let mut ok = true;
     let mut i: usize = 0;
-    while i < 32 {
+    while i < n {
         let c = classes[i];
         let k = times[i];
         let inside = (c == SYSTEM) | (c == SHARED);
-        ok = ok
-            & ((n <= i)
-                | (((inside & (k == 1)) | (!inside & (k == 0))) & (!(c == SHARED) | (last == i))));
+        ok = ok & (((inside & (k == 1)) | (!inside & (k == 0))) & (!(c == SHARED) | (last == i)));
         i = i + 1;
     }
     ok
@@ -167,13 +169,14 @@ pub fn list_test(list: [u8; 32], n: usize) -> bool
 }
 
 pub fn class_test(classes: [u8; 32], n: usize) -> bool
+    requires { ⌜ n ≤ 32 ⌝ }
     ensures { λ r. ⌜ r ≡ classTest classes n ⌝ }
 {
     classed(classes, n) & zero_from(classes, n)
 }
 
 pub fn chain_test(classes: [u8; 32], chain: [u8; 32], held: usize, n: usize) -> bool
-    requires { ⌜ (1 ≤ held) × (held ≤ 32) × (1 ≤ n) ⌝ }
+    requires { ⌜ (1 ≤ held) × (held ≤ 32) × (1 ≤ n) × (n ≤ 32) ⌝ }
     ensures { λ r. ⌜ r ≡ chainTest classes chain held n ⌝ }
 {
     let last = wide(chain[held - 1]);

@@ -46,13 +46,13 @@ list-test-requires : tie.Need-list-test-requires
 list-test-requires c κs = search needs
 
 class-test-requires : tie.Need-class-test-requires
-class-test-requires c κs = search needs
+class-test-requires c κs = good-sizes (c .before .before .before .before .before .before .before .before .before .before .before .before .before .before .before .before .before .args .self) _ _ _ _ (c .before .before .before .before .before .before .before .before .before .before .before .before .before .before .before .before .wide .ensures .0) (c .before .before .before .before .before .before .before .before .before .before .before .before .before .before .before .wide2 .ensures .0) (c .before .before .before .before .before .before .before .before .before .before .before .before .before .before .wide3 .ensures .0) (c .before .before .before .before .before .before .before .before .before .before .before .before .before .wide4 .ensures .0) _ (c .before .before .before .before .before .before .before .before .before .before .before .before .sizes-test .ensures) (not-false _ (c .before .before .before .before .before .before .before .before .before .before .before .if1 .left)) .most
 
 room-test-requires : tie.Need-room-test-requires
 room-test-requires c κs = search needs
 
 chain-test-requires : tie.Need-chain-test-requires
-chain-test-requires c κs = let z = good-sizes (c .before .before .before .before .before .before .before .before .before .before .before .before .before .before .before .before .before .before .before .args .self) _ _ _ _ (c .before .before .before .before .before .before .before .before .before .before .before .before .before .before .before .before .before .before .wide .ensures .0) (c .before .before .before .before .before .before .before .before .before .before .before .before .before .before .before .before .before .wide2 .ensures .0) (c .before .before .before .before .before .before .before .before .before .before .before .before .before .before .before .before .wide3 .ensures .0) (c .before .before .before .before .before .before .before .before .before .before .before .before .before .before .before .wide4 .ensures .0) _ (c .before .before .before .before .before .before .before .before .before .before .before .before .before .before .sizes-test .ensures) (not-false _ (c .before .before .before .before .before .before .before .before .before .before .before .before .before .if1 .left)) in (z .holds, z .links, z .one)
+chain-test-requires c κs = let z = good-sizes (c .before .before .before .before .before .before .before .before .before .before .before .before .before .before .before .before .before .before .before .args .self) _ _ _ _ (c .before .before .before .before .before .before .before .before .before .before .before .before .before .before .before .before .before .before .wide .ensures .0) (c .before .before .before .before .before .before .before .before .before .before .before .before .before .before .before .before .before .wide2 .ensures .0) (c .before .before .before .before .before .before .before .before .before .before .before .before .before .before .before .before .wide3 .ensures .0) (c .before .before .before .before .before .before .before .before .before .before .before .before .before .before .before .wide4 .ensures .0) _ (c .before .before .before .before .before .before .before .before .before .before .before .before .before .before .sizes-test .ensures) (not-false _ (c .before .before .before .before .before .before .before .before .before .before .before .before .before .if1 .left)) in (z .holds, z .links, z .one, z .most)
 
 channel-test-requires : tie.Need-channel-test-requires
 channel-test-requires c κs = search needs

@@ -1,12 +1,19 @@
--- `devices::devices_fine` meets its contract. The loop's invariant: `ok` is the test over the rows passed. Assumes nothing.
+-- `devices::devices_fine` meets its contract. The loops' invariants: `ok` is the test over the rows passed, `last` that over the later rows passed. Assumes nothing.
 use borrow.Author.Needs.{needs}
-use mathlib.Core.Path.{_≡_, refl}
-use Prim.Native.Nat.{_-_, _≤_}
+use mathlib.Core.Path.{_≡_, refl, sym}
+use Prim.Native.Nat.{_+_, _-_, _≤_, _<_}
 use native.Mathlib.Omega.{arith}
-use Rattle.rows.specs.Lists.{all-more, at, below, upTo}
-use Rattle.rows.specs.Tests.{deviceRow}
+use borrow.Author.Tests.{le-leb, lt-leb}
+use Rattle.rows.specs.Lists.{all→below, all-more, row-more, not-excused, at, below, upTo}
+use Rattle.rows.specs.Tests.{aliasRow, deviceRow}
 use Rattle.rows.proofs.devices.devices_fine.Statement.{statement}
 use Rattle.rows.proofs.devices.devices_fine.Tie as tie
+
+abbrev Inv-loop2 : tie.InvT-loop2
+Inv-loop2 known devices ok i name length on fine last₀ j₀ last j = (i < j) × (j ≤ known) × (last ≡ below j (aliasRow devices i))
+
+abbrev μ-loop2 : tie.MeasureT-loop2
+μ-loop2 known devices ok i name length on fine last₀ j₀ last j = known - j
 
 abbrev Inv-loop : tie.InvT-loop
 Inv-loop known devices ok₀ i₀ ok i = (i ≤ known) × (ok ≡ below i (deviceRow devices known))
@@ -14,31 +21,67 @@ Inv-loop known devices ok₀ i₀ ok i = (i ≤ known) × (ok ≡ below i (devic
 abbrev μ-loop : tie.MeasureT-loop
 μ-loop known devices ok₀ i₀ ok i = known - i
 
-loop-holds : tie.Need-loop-holds Inv-loop μ-loop
+loop-holds : tie.Need-loop-holds Inv-loop2 μ-loop2 Inv-loop μ-loop
 loop-holds c = (search needs, refl)
 
-mul-d : tie.Need-mul-d Inv-loop μ-loop
+mul-d : tie.Need-mul-d Inv-loop2 μ-loop2 Inv-loop μ-loop
 mul-d c = search needs
 
-array-copy-out-d : tie.Need-array-copy-out-d Inv-loop μ-loop
+array-copy-out-d : tie.Need-array-copy-out-d Inv-loop2 μ-loop2 Inv-loop μ-loop
 array-copy-out-d c = search needs
 
-name-test-requires : tie.Need-name-test-requires Inv-loop μ-loop
+name-test-requires : tie.Need-name-test-requires Inv-loop2 μ-loop2 Inv-loop μ-loop
 name-test-requires c κs = search needs
 
-latest-requires : tie.Need-latest-requires Inv-loop μ-loop
-latest-requires c κs = search needs
+add-j : tie.Need-add-j Inv-loop2 μ-loop2 Inv-loop μ-loop
+add-j c = search needs
 
-add-i : tie.Need-add-i Inv-loop μ-loop
+loop2-holds : tie.Need-loop2-holds Inv-loop2 μ-loop2 Inv-loop μ-loop
+loop2-holds c =
+    let i = c .before .before .before .before .loop .i in
+    (search needs, search needs, sym (all→below (i + 1) _ (λ j h. rw (le-leb j i (omega arith)))))
+
+mul-e : tie.Need-mul-e Inv-loop2 μ-loop2 Inv-loop μ-loop
+mul-e c = search needs
+
+array-copy-out-e : tie.Need-array-copy-out-e Inv-loop2 μ-loop2 Inv-loop μ-loop
+array-copy-out-e c = search needs
+
+same-name-requires : tie.Need-same-name-requires Inv-loop2 μ-loop2 Inv-loop μ-loop
+same-name-requires c κs = search needs
+
+add-j-2 : tie.Need-add-j-2 Inv-loop2 μ-loop2 Inv-loop μ-loop
+add-j-2 c = search needs
+
+loop2-less : tie.Need-loop2-less Inv-loop2 μ-loop2 Inv-loop μ-loop
+loop2-less c = search needs
+
+loop2-again : tie.Need-loop2-again Inv-loop2 μ-loop2 Inv-loop μ-loop
+loop2-again c =
+    let s = c .before .before .before .before .before .before .before .before .before .before .args in
+    let i = c .before .before .before .before .before .before .before .before .before .loop .i in
+    let l = c .before .before .before .before .loop2 in (
+      search needs,
+      search needs,
+      rw (c .same-name .ensures) (row-more (aliasRow (s .t1) i) _ _ _ (l .inv .2) (not-excused _ _ (lt-leb (l .j) i (l .inv .0)))),
+    )
+
+add-i : tie.Need-add-i Inv-loop2 μ-loop2 Inv-loop μ-loop
 add-i c = search needs
 
-loop-less : tie.Need-loop-less Inv-loop μ-loop
+loop-less : tie.Need-loop-less Inv-loop2 μ-loop2 Inv-loop μ-loop
 loop-less c = search needs
 
-loop-again : tie.Need-loop-again Inv-loop μ-loop
-loop-again c = let s = c .before .before .before .before .before .before .args in (search needs, rw (c .before .name-test .ensures, c .latest .ensures) (all-more (deviceRow (s .t1) (s .known)) _ _ (c .before .before .before .before .before .loop .inv .1)))
+loop-again : tie.Need-loop-again Inv-loop2 μ-loop2 Inv-loop μ-loop
+unfolding upTo
+loop-again c =
+    let s = c .before .before .before .before .before .before .before .args in
+    let l = c .before .before .before .before .before .before .loop in
+    let m = c .before .loop2 in
+    let e : m .j ≡ s .known = omega arith in
+    (search needs, rw (c .before .before .name-test .ensures, (rw e at (m .inv .2))) (all-more (deviceRow (s .t1) (s .known)) _ _ (l .inv .1)))
 
-returns : tie.Need-returns Inv-loop μ-loop
+returns : tie.Need-returns Inv-loop2 μ-loop2 Inv-loop μ-loop
 unfolding upTo
 returns c = let e : c .before .loop .i ≡ c .before .before .args .known = omega arith in rw e at (c .before .loop .inv .1)
 
@@ -46,13 +89,22 @@ pub devices-fine-spec : {M : Type 1} → statement M
 devices-fine-spec =
     tie.close
     (tie.spec
+    Inv-loop2
+    μ-loop2
     Inv-loop
     μ-loop
     loop-holds
     mul-d
     array-copy-out-d
     name-test-requires
-    latest-requires
+    add-j
+    loop2-holds
+    mul-e
+    array-copy-out-e
+    same-name-requires
+    add-j-2
+    loop2-less
+    loop2-again
     add-i
     loop-less
     loop-again

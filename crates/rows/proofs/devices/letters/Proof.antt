@@ -17,8 +17,11 @@ abbrev μ-loop : tie.MeasureT-loop
 loop-holds : tie.Need-loop-holds Inv-loop μ-loop
 loop-holds c = (search needs, refl)
 
+wide-requires : tie.Need-wide-requires Inv-loop μ-loop
+wide-requires c κs = search needs
+
 array-read-c : tie.Need-array-read-c Inv-loop μ-loop
-array-read-c c = search needs
+array-read-c c = omega (arith, c .wide .ensures .0)
 
 add-i : tie.Need-add-i Inv-loop μ-loop
 add-i c = search needs
@@ -27,7 +30,9 @@ loop-less : tie.Need-loop-less Inv-loop μ-loop
 loop-less c = search needs
 
 loop-again : tie.Need-loop-again Inv-loop μ-loop
-loop-again c = let s = c .before .before .args in (search needs, all-more (letterRow (s .t1) (s .n)) _ _ (c .before .loop .inv .1))
+loop-again c =
+    let s = c .before .before .before .args in
+    (search needs, rw (c .wide .ensures .0) (all-more (letterRow (s .t1) (s .n)) _ _ (c .before .before .loop .inv .1)))
 
 returns : tie.Need-returns Inv-loop μ-loop
 unfolding upTo
@@ -35,4 +40,14 @@ returns c = let e : c .before .loop .i ≡ 28 = omega arith in rw e at (c .befor
 
 pub letters-spec : {M : Type 1} → statement M
 letters-spec =
-    tie.close (tie.spec Inv-loop μ-loop loop-holds array-read-c add-i loop-less loop-again returns)
+    tie.close
+    (tie.spec
+    Inv-loop
+    μ-loop
+    loop-holds
+    wide-requires
+    array-read-c
+    add-i
+    loop-less
+    loop-again
+    returns)

@@ -1,21 +1,22 @@
 -- `devices::unused_from` meets its contract. The loop's invariant: `ok` is the test over the rows passed. Assumes nothing.
 use borrow.Author.Needs.{needs}
-use mathlib.Core.Path.{_≡_, refl}
+use mathlib.Core.Path.{_≡_, sym}
 use Prim.Native.Nat.{_-_, _≤_}
 use native.Mathlib.Omega.{arith}
-use Rattle.rows.specs.Lists.{all-more, at, below, upTo}
+use borrow.Author.Tests.{lt-ltb, le-ltb}
+use Rattle.rows.specs.Lists.{all→below, row-more, not-excused, at, below, upTo}
 use Rattle.rows.specs.Tests.{restDevice}
 use Rattle.rows.proofs.devices.unused_from.Statement.{statement}
 use Rattle.rows.proofs.devices.unused_from.Tie as tie
 
 abbrev Inv-loop : tie.InvT-loop
-Inv-loop known devices ok₀ i₀ ok i = (i ≤ 16) × (ok ≡ below i (restDevice devices known))
+Inv-loop known devices ok₀ i₀ ok i = (known ≤ i) × (i ≤ 16) × (ok ≡ below i (restDevice devices known))
 
 abbrev μ-loop : tie.MeasureT-loop
 μ-loop known devices ok₀ i₀ ok i = 16 - i
 
 loop-holds : tie.Need-loop-holds Inv-loop μ-loop
-loop-holds c = (search needs, refl)
+loop-holds c = let n = c .args .known in (search needs, search needs, sym (all→below n _ (λ i h. rw (lt-ltb i n h))))
 
 mul-d : tie.Need-mul-d Inv-loop μ-loop
 mul-d c = search needs
@@ -33,11 +34,11 @@ loop-less : tie.Need-loop-less Inv-loop μ-loop
 loop-less c = search needs
 
 loop-again : tie.Need-loop-again Inv-loop μ-loop
-loop-again c = let s = c .before .before .before .before .before .before .before .args in (search needs, rw (c .nameless .ensures) (all-more (restDevice (s .t1) (s .known)) _ _ (c .before .before .before .before .before .before .loop .inv .1)))
+loop-again c = let s = c .before .before .before .before .before .before .before .args in let l = c .before .before .before .before .before .before .loop in (search needs, search needs, rw (c .nameless .ensures) (row-more (restDevice (s .t1) (s .known)) _ _ _ (l .inv .2) (not-excused _ _ (le-ltb (l .i) (s .known) (l .inv .0)))))
 
 returns : tie.Need-returns Inv-loop μ-loop
 unfolding upTo
-returns c = let e : c .before .loop .i ≡ 16 = omega arith in rw e at (c .before .loop .inv .1)
+returns c = let e : c .before .loop .i ≡ 16 = omega arith in rw e at (c .before .loop .inv .2)
 
 pub unused-from-spec : {M : Type 1} → statement M
 unused-from-spec =

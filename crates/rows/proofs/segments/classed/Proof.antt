@@ -1,18 +1,19 @@
 -- `segments::classed` meets its contract. The loop's invariant: `ok` is the test over the rows passed. Assumes nothing.
 use borrow.Author.Needs.{needs}
-use mathlib.Core.Path.{_≡_, refl}
+use mathlib.Core.Path.{_≡_, refl, _∙_}
 use Prim.Native.Nat.{_-_, _≤_}
 use native.Mathlib.Omega.{arith}
-use Rattle.rows.specs.Lists.{all-more, at, below, upTo}
+use borrow.Author.Tests.{le-leb, lt-leb}
+use Rattle.rows.specs.Lists.{row-more, not-excused, below-rest, at, below, upTo}
 use Rattle.rows.specs.Tests.{classRow}
 use Rattle.rows.proofs.segments.classed.Statement.{statement}
 use Rattle.rows.proofs.segments.classed.Tie as tie
 
 abbrev Inv-loop : tie.InvT-loop
-Inv-loop n classes ok₀ i₀ ok i = (i ≤ 32) × (ok ≡ below i (classRow classes n))
+Inv-loop n classes ok₀ i₀ ok i = (i ≤ n) × (ok ≡ below i (classRow classes n))
 
 abbrev μ-loop : tie.MeasureT-loop
-μ-loop n classes ok₀ i₀ ok i = 32 - i
+μ-loop n classes ok₀ i₀ ok i = n - i
 
 loop-holds : tie.Need-loop-holds Inv-loop μ-loop
 loop-holds c = (search needs, refl)
@@ -27,11 +28,11 @@ loop-less : tie.Need-loop-less Inv-loop μ-loop
 loop-less c = search needs
 
 loop-again : tie.Need-loop-again Inv-loop μ-loop
-loop-again c = let s = c .before .before .args in (search needs, all-more (classRow (s .t1) (s .n)) _ _ (c .before .loop .inv .1))
+loop-again c = let s = c .before .before .args in (search needs, row-more (classRow (s .t1) (s .n)) _ _ _ (c .before .loop .inv .1) (not-excused _ _ (lt-leb (s .n) (c .before .loop .i) (omega arith))))
 
 returns : tie.Need-returns Inv-loop μ-loop
 unfolding upTo
-returns c = let e : c .before .loop .i ≡ 32 = omega arith in rw e at (c .before .loop .inv .1)
+returns c = let n = c .before .before .args .n in let e : c .before .loop .i ≡ n = omega arith in (rw e at (c .before .loop .inv .1)) ∙ below-rest n 32 _ (omega arith) (λ i a b. rw (le-leb n i a))
 
 pub classed-spec : {M : Type 1} → statement M
 classed-spec =

@@ -3,16 +3,17 @@ use borrow.Author.Needs.{needs}
 use mathlib.Core.Path.{_∙_, _≡_, refl}
 use Prim.Native.Nat.{_-_, _≤_}
 use native.Mathlib.Omega.{arith}
-use Rattle.rows.specs.Lists.{all-more, at, below, below-same, upTo}
+use borrow.Author.Tests.{le-leb, lt-leb}
+use Rattle.rows.specs.Lists.{row-more, not-excused, below-rest, at, below, below-same, upTo}
 use Rattle.rows.specs.Tests.{exactRow, standsRow}
 use Rattle.rows.proofs.segments.exact.Statement.{statement}
 use Rattle.rows.proofs.segments.exact.Tie as tie
 
 abbrev Inv-loop : tie.InvT-loop
-Inv-loop held last n classes times ok₀ i₀ ok i = (i ≤ 32) × (ok ≡ below i (λ j. standsRow (at classes j) (at times j) last n j))
+Inv-loop held last n classes times ok₀ i₀ ok i = (i ≤ n) × (ok ≡ below i (λ j. standsRow (at classes j) (at times j) last n j))
 
 abbrev μ-loop : tie.MeasureT-loop
-μ-loop held last n classes times ok₀ i₀ ok i = 32 - i
+μ-loop held last n classes times ok₀ i₀ ok i = n - i
 
 tallies-requires : tie.Need-tallies-requires Inv-loop μ-loop
 tallies-requires c κs = search needs
@@ -36,15 +37,17 @@ loop-again : tie.Need-loop-again Inv-loop μ-loop
 loop-again c =
     let s = c .before .before .before .args in
     let times = c .before .before .tallies .result in
-    (search needs, all-more (λ j. standsRow (at (s .t1) j) (at times j) (s .last) (s .n) j) _ _ (c .before .loop .inv .1))
+    (search needs, row-more (λ j. standsRow (at (s .t1) j) (at times j) (s .last) (s .n) j) _ _ _ (c .before .loop .inv .1) (not-excused _ _ (lt-leb (s .n) (c .before .loop .i) (omega arith))))
 
 returns : tie.Need-returns Inv-loop μ-loop
 unfolding upTo
 returns c =
     let s = c .before .before .before .args in
     let times = c .before .before .tallies in
-    let e : c .before .loop .i ≡ 32 = omega arith in
+    let n = s .n in
+    let e : c .before .loop .i ≡ n = omega arith in
     (rw e at (c .before .loop .inv .1))
+    ∙ below-rest n 32 _ (omega arith) (λ i a b. rw (le-leb n i a))
     ∙ below-same 32 (λ j. standsRow (at (s .t1) j) (at (times .result) j) (s .last) (s .n) j) (exactRow (s .t1) (s .chain) (s .held) (s .last) (s .n))
     (λ j h. rw (times .ensures j h))
 
