@@ -1,0 +1,85 @@
+//! The proved kernel's entry points, and the stack that they use.
+
+use exos_kernel::Reply;
+
+/// A function that replays a buffer of event records from no tables: RAM, output, records, and six bytes for the last
+/// answer (number, a, b); it gives how many bytes of records it took.
+type Entry =
+    unsafe extern "C" fn(*mut u8, usize, *mut u8, usize, *const u8, usize, *mut u8, usize) -> usize;
+
+extern "C" {
+    fn exos_replay(
+        ram: *mut u8,
+        ram_length: usize,
+        out: *mut u8,
+        out_length: usize,
+        log: *const u8,
+        log_length: usize,
+        reply: *mut u8,
+        reply_length: usize,
+    ) -> usize;
+    fn exos_replay_tested(
+        ram: *mut u8,
+        ram_length: usize,
+        out: *mut u8,
+        out_length: usize,
+        log: *const u8,
+        log_length: usize,
+        reply: *mut u8,
+        reply_length: usize,
+    ) -> usize;
+}
+
+/// Replays with tables that are good by theorem once they were tested.
+pub fn held(ram: &mut [u8], out: &mut [u8], log: &[u8]) -> Reply {
+    replay(exos_replay, ram, out, log)
+}
+
+/// Replays by public calls, each of which tests its tables.
+pub fn tested(ram: &mut [u8], out: &mut [u8], log: &[u8]) -> Reply {
+    replay(exos_replay_tested, ram, out, log)
+}
+
+fn replay(entry: Entry, ram: &mut [u8], out: &mut [u8], log: &[u8]) -> Reply {
+    let mut reply = [0u8; 6];
+    // SAFETY: each pointer comes with the length of the slice that it is from, and the slices do not overlap.
+    let taken = unsafe {
+        entry(
+            ram.as_mut_ptr(),
+            ram.len(),
+            out.as_mut_ptr(),
+            out.len(),
+            log.as_ptr(),
+            log.len(),
+            reply.as_mut_ptr(),
+            reply.len(),
+        )
+    };
+    assert_eq!(taken, log.len(), "a whole log");
+    Reply {
+        number: reply[0],
+        a: reply[2],
+        b: u16::from_le_bytes([reply[4], reply[5]]),
+    }
+}
+
+/// How far below a caller's frame the painted part of the stack reaches.
+const PAINTED: usize = 256 * 1024;
+/// What is left alone just below the frame.
+const SPARED: usize = 512;
+const PAINT: u8 = 0xA5;
+
+/// The bytes of stack that a call writes to, by paint below this frame that the call wears off.
+#[inline(never)]
+pub fn stack_of(mut run: impl FnMut()) -> usize {
+    let mark = 0u8;
+    let top = std::hint::black_box(&mark) as *const u8 as usize - SPARED;
+    let bottom = top - PAINTED;
+    // SAFETY: the stack of the main thread reaches 8 MiB down, and nothing below this frame is in use.
+    for at in bottom..top {
+        unsafe { (at as *mut u8).write_volatile(PAINT) };
+    }
+    run();
+    let worn = (bottom..top).find(|at| unsafe { (*at as *const u8).read_volatile() } != PAINT);
+    worn.map_or(0, |at| top + SPARED - at)
+}

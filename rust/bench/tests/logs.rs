@@ -1,0 +1,23 @@
+//! The measured logs ask what their names say.
+
+use exos_bench::{mixed, run, Log};
+
+#[test]
+fn the_mixed_log_is_mostly_done() {
+    let log = mixed(20_000);
+    let mut ram = vec![0; 8 * 16_384];
+    let ran = run(&mut ram, &mut [0; 4_096], &log.bytes);
+    let all: usize = ran.answers.iter().sum();
+    assert_eq!(all, 20_000);
+    assert!(ran.answers[0] > all * 7 / 10, "{:?}", ran.answers);
+}
+
+#[test]
+fn a_close_before_a_long_record_is_done() {
+    let mut log = Log::started(16_128, 8);
+    log.open(1, 0, b"VIDEO:");
+    log.open(2, 60_000 - 16, b"VIDEO:");
+    log.close(1);
+    let ran = run(&mut vec![0; 8 * 16_384], &mut [], &log.bytes);
+    assert_eq!(ran.answers[0], 4);
+}
