@@ -21,6 +21,7 @@ use Rattle.kernel.specs.Definition.Calls.{onReset, reset}
 use Rattle.kernel.specs.Definition.Step.{completed, result, ramReset}
 use Rattle.kernel.specs.Laws.Facts.{Fit, fit}
 use Rattle.kernel.specs.Laws.Chains.{good-chain}
+use Rattle.kernel.specs.Laws.KeptReset.{restored-keeps}
 use Rattle.kernel.specs.declared.Tables.{Tables}
 use Rattle.kernel.specs.declared.Answer.the-variants.{Done, BadFlags}
 
@@ -57,6 +58,14 @@ devices-restored t devices e = rw e
 pub segments-released : (t : Tables) (classes : List ℕ) → classes ≡ map released (t .classes) → withSegments t classes (t .held) (t .chain) 0 ≡ releasing t
 unfolding releasing
 segments-released t classes e = rw e
+
+pub classes-behind : (t : Tables) (segments : ℕ) → segments ≡ t .segments → Good t
+    → (segments ≤ 32) × ((i : ℕ) → segments ≤ i → i < 32 → getD (t .classes) i 0 ≡ 0)
+classes-behind t segments e g = (omega (arith, g .list .most), λ i a b. g .classes .rest i (omega arith) b)
+
+-- bit 6 finds good tables
+pub good-before : (t : Tables) (flags : ℕ) (u v : Tables) → u ≡ cond (closesAll flags) (emptying t) t → v ≡ cond (bit5 flags) (restoring u) u → Good t → Good v
+good-before t flags u v a b g = rw (b, a) (restored-keeps t flags g)
 
 pub tables-reset : (t : Tables) (flags : ℕ) (u v w : Tables) → u ≡ cond (closesAll flags) (emptying t) t → v ≡ cond (bit5 flags) (restoring u) u
     → w ≡ cond (bit6 flags) (releasing v) v → w ≡ resetting t flags

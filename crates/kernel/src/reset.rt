@@ -51,10 +51,11 @@ impl Tables {
 
     // The tables with no user segment and no shared one.
     fn released(self) -> Tables
+        requires { ⌜ Good self ⌝ }
         ensures { λ r. ⌜ r ≡ releasing self ⌝ }
     {
         let rows = self.classes;
-        let classes = release(rows);
+        let classes = release(rows, wide(self.segments));
         let mut next = self;
         next.classes = classes;
         next.user = 0;

@@ -22,6 +22,7 @@ use Rattle.rows.specs.ClassRows.{zeros-at, fresh-free, fresh-last, fresh
 pub record Mapped {A : Type 0} (f : A → A) (d : A) (xs : List A) (i : ℕ) (ys : List A) : Type 0 where
   pub long : length ys ≡ length xs
   pub done : (j : ℕ) → j < i → getD ys j d ≡ f (getD xs j d)
+  pub rest : (j : ℕ) → i ≤ j → getD ys j d ≡ getD xs j d
 
 module _ {A : Type 0} (f : A → A) (d : A) where
   map-at : (xs : List A) (j : ℕ) → j < length xs → getD (map f xs) j d ≡ f (getD xs j d)
@@ -30,7 +31,7 @@ module _ {A : Type 0} (f : A → A) (d : A) where
   map-at (x ∷ xs) (suc j) h = map-at xs j (le-of-suc-le-suc h)
 
   pub mapped-none : (xs : List A) → Mapped f d xs 0 xs
-  mapped-none xs = record { long = refl; done = λ j h. absurd (not-suc-le-zero h) }
+  mapped-none xs = record { long = refl; done = λ j h. absurd (not-suc-le-zero h); rest = λ j h. refl }
 
   pub mapped-more : (xs : List A) (i : ℕ) (ys : List A) (v : A) → i < length xs → v ≡ f (getD xs i d) → Mapped f d xs i ys → Mapped f d xs (i + 1) (set ys i v)
   mapped-more xs i ys v h e m = record {
@@ -39,7 +40,19 @@ module _ {A : Type 0} (f : A → A) (d : A) where
       | yes q ↦ rw (q, getD-set-same ys i v d (omega (arith, m .long))) e
       | no q ↦ getD-set-other ys i j v d q ∙ m .done j (omega arith)
     ];
+    rest = λ j g. getD-set-other ys i j v d (λ q. omega arith) ∙ m .rest j (omega arith);
   }
+
+  -- the rows behind need no turn
+  pub mapped-low : (xs : List A) (i : ℕ) (ys : List A) → Mapped f d xs i ys → ((j : ℕ) → i ≤ j → j < length xs → getD xs j d ≡ f (getD xs j d)) → ys ≡ map f xs
+  mapped-low xs i ys m same =
+      ext-getD d ys (map f xs) (m .long ∙ sym (length-map xs f))
+      (λ j h.
+      let l : j < length xs = omega (arith, m .long) in
+      elim (decLt j i) [
+        | yes g ↦ m .done j g ∙ sym (map-at xs j l)
+        | no g ↦ m .rest j (omega arith) ∙ same j (omega arith) l ∙ sym (map-at xs j l)
+      ])
 
   pub mapped-end : (xs : List A) (i : ℕ) (ys : List A) → i ≡ length xs → Mapped f d xs i ys → ys ≡ map f xs
   mapped-end xs i ys e m =

@@ -243,12 +243,14 @@ fn release_one(class: u8) -> u8
     class
 }
 
-pub fn release(classes: [u8; 32]) -> [u8; 32]
+// The classes of `n` segments, each released. Rows from `n` on have no class.
+pub fn release(classes: [u8; 32], n: usize) -> [u8; 32]
+    requires { ⌜ (n ≤ 32) × ((i : ℕ) → n ≤ i → i < 32 → getD classes i 0 ≡ 0) ⌝ }
     ensures { λ r. ⌜ r ≡ map released classes ⌝ }
 {
     let mut rows = classes;
     let mut i: usize = 0;
-    while i < 32 {
+    while i < n {
         let c = release_one(classes[i]);
         rows[i] = c;
         i = i + 1;

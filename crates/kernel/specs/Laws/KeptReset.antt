@@ -73,6 +73,11 @@ flags-keep t false true false g = restoring-keeps _ (emptying-keeps t g) (emptyi
 flags-keep t false false true g = releasing-keeps t g
 flags-keep t false false false g = g
 
+-- before bit 6
+pub restored-keeps : (t : Tables) (flags : ℕ) → Good t
+    → Good (let u = cond (bit4 flags || bit5 flags) (emptying t) t in cond (bit5 flags) (restoring u) u)
+restored-keeps t flags g = flags-keep t (bit4 flags) (bit5 flags) false g
+
 pub resetting-keeps : (t : Tables) (flags : ℕ) → Good t → Good (resetting t flags)
 unfolding resetting
 resetting-keeps t flags g = flags-keep t (bit4 flags) (bit5 flags) (bit6 flags) g

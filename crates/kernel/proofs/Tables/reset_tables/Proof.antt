@@ -3,7 +3,7 @@ use mathlib.Core.Path.{_≡_, refl, _∙_}
 use mathlib.Core.Bool.{cond}
 use mathlib.Core.Logic.{⊎-elim}
 use Rattle.kernel.specs.Definition.Reset.{closesAll, bit5, emptying, restoring}
-use Rattle.kernel.proofs.Resetting.{chosen-yes, chosen-no, tables-reset}
+use Rattle.kernel.proofs.Resetting.{chosen-yes, chosen-no, good-before, tables-reset}
 use borrow.Author.Needs.{needs}
 use Rattle.kernel.proofs.Tables.reset_tables.Statement.{statement}
 use Rattle.kernel.proofs.Tables.reset_tables.Tie as tie
@@ -35,7 +35,9 @@ releases-requires : tie.Need-releases-requires
 releases-requires c κs = search needs
 
 released-requires : tie.Need-released-requires
-released-requires c κs = search needs
+released-requires c κs =
+    let s = c .before .before .before .before .before .before in
+    good-before (s .args .self) (s .args .flags) _ _ (first (c .before .before .before .before)) (second (c .before .before)) (s .pre)
 
 returns : tie.Need-returns
 returns c =

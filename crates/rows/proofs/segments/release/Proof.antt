@@ -5,15 +5,15 @@ use Prim.Native.Nat.{_-_, _≤_}
 use native.Mathlib.Omega.{arith}
 use lib.ListN.{length}
 use Rattle.rows.specs.Classes.{released}
-use Rattle.rows.proofs.Stores.{Mapped, mapped-end, mapped-more, mapped-none}
+use Rattle.rows.proofs.Stores.{Mapped, mapped-low, mapped-more, mapped-none}
 use Rattle.rows.proofs.segments.release.Statement.{statement}
 use Rattle.rows.proofs.segments.release.Tie as tie
 
 abbrev Inv-loop : tie.InvT-loop
-Inv-loop classes rows₀ i₀ rows i = (i ≤ 32) × Mapped released 0 classes i rows
+Inv-loop n classes rows₀ i₀ rows i = (i ≤ n) × Mapped released 0 classes i rows
 
 abbrev μ-loop : tie.MeasureT-loop
-μ-loop classes rows₀ i₀ rows i = 32 - i
+μ-loop n classes rows₀ i₀ rows i = n - i
 
 loop-holds : tie.Need-loop-holds Inv-loop μ-loop
 loop-holds c = (search needs, mapped-none released 0 (c .args .t1))
@@ -45,7 +45,7 @@ returns c =
     let s = c .before .before in
     let at = c .before .loop in
     let l : length (s .args .t1) ≡ 32 = s .good .0 .1 .0 .1 in
-    mapped-end released 0 (s .args .t1) (at .i) (at .rows) (omega arith) (at .inv .1)
+    mapped-low released 0 (s .args .t1) (at .i) (at .rows) (at .inv .1) (λ j a b. rw (s .pre .1 j (omega arith) (omega arith)))
 
 pub release-spec : {M : Type 1} → statement M
 release-spec =
