@@ -3,3 +3,5 @@ pub mod Log
 pub mod Laws
 pub mod Starts
 pub mod Example
+pub mod Held
+pub mod Pieces

@@ -1,1 +1,41 @@
 // The listing: a log of event records to text.
+use kernel::Tables;
+
+pub mod lines; // one record's line, and `bad`
+pub mod records; // one record: its call and its line
+pub mod buffers; // the lines of a buffer, and of a whole log
+pub mod pieces; // a log read in pieces: what is kept, and the end
+
+// What one record leaves: the tables, and how much of the text is used.
+pub struct After {
+    pub tables: Tables,
+    pub used: usize,
+}
+
+// What stands at the front of the input: a record of this kind whose body has so many bytes, less than a record, or a bad length.
+pub enum Front {
+    Record(u16, usize),
+    Cut,
+    Bad,
+}
+
+// Why the lines of a buffer stop: more input is wanted, the text is full, or the log is bad.
+pub enum Stop {
+    More,
+    Full,
+    Bad,
+}
+
+// What the lines of a buffer leave: the tables, how much of the input is taken, how much of the text is used, and why they stop.
+pub struct Drained {
+    pub tables: Tables,
+    pub taken: usize,
+    pub used: usize,
+    pub stop: Stop,
+}
+
+// The text of a whole log has so many bytes, or the lent text is too short for it.
+pub enum Listed {
+    Text(usize),
+    Full,
+}

@@ -1,0 +1,85 @@
+// The lines of a buffer, and of a whole log.
+ghost use mathlib.Core.Path.{_≡_};
+ghost use Prim.Native.Nat.{ℕ, _+_, _≤_, _<_};
+ghost use lib.ListN.{length, take, drop};
+ghost use Rattle.listing.specs.Held.{Held};
+ghost use Rattle.listing.specs.Pieces.{Stands, Drains};
+use super::Drained;
+use super::Front;
+use super::Stop;
+use super::lines::put_bad;
+use super::records::record;
+use events::fields::u16_at;
+use kernel::Tables;
+
+fn wide(x: u16) -> usize
+    ensures { λ r. ⌜ (r ≡ x) × (r < 65536) ⌝ }
+{
+    x as usize
+}
+
+// What stands at the front of the input.
+fn front(input: &[u8]) -> Front
+    ensures { λ r. ⌜ Stands (now (input .entry)) r ⌝ }
+{
+    if input.len() < 2 {
+        return Front::Cut;
+    }
+    let n = wide(u16_at(input, 0));
+    if n < 2 {
+        return Front::Bad;
+    }
+    if 4096 < n {
+        return Front::Bad;
+    }
+    if input.len() < n + 2 {
+        return Front::Cut;
+    }
+    Front::Record(u16_at(input, 2), n - 2)
+}
+
+// The lines of as many whole records as the input has and the text has room for.
+pub fn drain(t: Tables, ram: &mut [u8; 65536], out: &mut [u8; 4096], input: &[u8], text: &mut [u8]) -> Drained
+    requires { ⌜ Held t ⌝ }
+    ensures { λ r. ⌜ Drains t (now (ram .entry)) (now (out .entry)) (now (input .entry)) (r .tables) (now (ram .exit)) (now (out .exit)) (drop (r .taken) (now (input .entry))) (take (r .used) (now (text .exit))) (r .stop) × Held (r .tables) × (r .taken ≤ length (now (input .entry))) × (r .used ≤ length (now (text .exit))) ⌝ }
+{
+    let mut tables = t;
+    let mut at: usize = 0;
+    let mut used: usize = 0;
+    while 8217 <= text.len() - used {
+        let f = front(&input[at..]);
+        match f {
+            Front::Cut => {
+                return Drained {
+                    tables,
+                    taken: at,
+                    used,
+                    stop: Stop::More,
+                };
+            }
+            Front::Bad => {
+                let end = put_bad(text, used);
+                return Drained {
+                    tables,
+                    taken: at,
+                    used: end,
+                    stop: Stop::Bad,
+                };
+            }
+            Front::Record(kind, size) => {
+                let from = at + 4;
+                let next = from + size;
+                let r = record(tables, ram, out, kind, &input[from..next], text, used);
+                tables = r.tables;
+                used = r.used;
+                at = next;
+            }
+        }
+    }
+    Drained {
+        tables,
+        taken: at,
+        used,
+        stop: Stop::Full,
+    }
+}
