@@ -3,3 +3,4 @@ pub mod LineLaws
 pub mod Calls
 pub mod Fronts
 pub mod Carries
+pub mod Wholes

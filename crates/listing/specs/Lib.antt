@@ -5,3 +5,4 @@ pub mod Starts
 pub mod Example
 pub mod Held
 pub mod Pieces
+pub mod Reading

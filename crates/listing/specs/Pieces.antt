@@ -9,9 +9,11 @@ use Rattle.kernel.specs.declared.Tables.{Tables}
 use Rattle.text.specs.Text.{Put}
 use Rattle.listing.specs.declared.Front.{Front}
 use Rattle.listing.specs.declared.Front.the-variants.{Record, Cut, Bad}
+use Rattle.listing.specs.declared.Listed.{Listed}
+use Rattle.listing.specs.declared.Listed.the-variants.{Text, Over}
 use Rattle.listing.specs.declared.Stop.{Stop}
 use Rattle.listing.specs.declared.Stop.the-variants.{More, Full, Bad as Ends}
-use Rattle.listing.specs.Log.{logStep, lineAfter, finished, broken, found, next, textFrom, badText}
+use Rattle.listing.specs.Log.{logStep, lineAfter, finished, broken, found, next, textFrom, listing, badText}
 
 -- what one record leaves: the definition's tables, RAM and output, and its line in the text
 pub record Stepped (t : Tables) (ram out : List ℕ) (kind : ℕ) (body text : List ℕ) (used : ℕ) (t′ : Tables) (ram′ out′ text′ : List ℕ) (used′ : ℕ) : Type 0 where
@@ -45,8 +47,14 @@ pub record Carry (t : Tables) (ram out xs : List ℕ) (t′ : Tables) (ram′ ou
 abbrev pub ending : List ℕ → List ℕ
 ending xs = cond (eqb (length xs) 0) [] badText
 
--- `text` and what is left of xs, by why the lines stop: less than a record is left; the text was full; or the text ends in `bad`, whatever follows
-abbrev pub Drains : Tables → (ram out xs : List ℕ) → Tables → (ram′ out′ left text : List ℕ) → Stop → Type 0
-Drains t ram out xs t′ ram′ out′ left text More = Carry t ram out xs t′ ram′ out′ left text × Short left
-Drains t ram out xs t′ ram′ out′ left text Full = Carry t ram out xs t′ ram′ out′ left text × Unit {0}
-Drains t ram out xs t′ ram′ out′ left text Ends = ((ys : List ℕ) → textFrom t ram out (xs ++ ys) ≡ text) × Unit {0}
+-- the first `used` bytes of `text` and what is left of xs, by why the lines stop: less than a record is left, and there is room for a line;
+-- the text has no room for a line; or the text ends in `bad`, whatever follows
+abbrev pub Drains : Tables → (ram out xs : List ℕ) → Tables → (ram′ out′ left text : List ℕ) → (used : ℕ) → Stop → Type 0
+Drains t ram out xs t′ ram′ out′ left text used More = Carry t ram out xs t′ ram′ out′ left (take used text) × Short left × (used + 8217 ≤ length text)
+Drains t ram out xs t′ ram′ out′ left text used Full = Carry t ram out xs t′ ram′ out′ left (take used text) × (length text < used + 8217)
+Drains t ram out xs t′ ram′ out′ left text used Ends = ((ys : List ℕ) → textFrom t ram out (xs ++ ys) ≡ take used text) × Unit {0}
+
+-- the first bytes of `text` are the text of the whole log, or it has no room for it and for one line more
+abbrev pub Lists : (log text : List ℕ) → Listed → Type 0
+Lists log text (Text n) = (take n text ≡ listing log) × (n ≤ length text)
+Lists log text Over = (length text < length (listing log) + 8217) × Unit {0}

@@ -1,4 +1,4 @@
-// The lines of a buffer, and of a whole log.
+// The lines of a buffer.
 ghost use mathlib.Core.Path.{_≡_};
 ghost use Prim.Native.Nat.{ℕ, _+_, _≤_, _<_};
 ghost use lib.ListN.{length, take, drop};
@@ -41,7 +41,7 @@ fn front(input: &[u8]) -> Front
 // The lines of as many whole records as the input has and the text has room for.
 pub fn drain(t: Tables, ram: &mut [u8; 65536], out: &mut [u8; 4096], input: &[u8], text: &mut [u8]) -> Drained
     requires { ⌜ Held t ⌝ }
-    ensures { λ r. ⌜ Drains t (now (ram .entry)) (now (out .entry)) (now (input .entry)) (r .tables) (now (ram .exit)) (now (out .exit)) (drop (r .taken) (now (input .entry))) (take (r .used) (now (text .exit))) (r .stop) × Held (r .tables) × (r .taken ≤ length (now (input .entry))) × (r .used ≤ length (now (text .exit))) ⌝ }
+    ensures { λ r. ⌜ Drains t (now (ram .entry)) (now (out .entry)) (now (input .entry)) (r .tables) (now (ram .exit)) (now (out .exit)) (drop (r .taken) (now (input .entry))) (now (text .exit)) (r .used) (r .stop) × Held (r .tables) × (r .taken ≤ length (now (input .entry))) × (r .used ≤ length (now (text .exit))) ⌝ }
 {
     let mut tables = t;
     let mut at: usize = 0;

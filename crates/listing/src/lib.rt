@@ -3,8 +3,8 @@ use kernel::Tables;
 
 pub mod lines; // one record's line, and `bad`
 pub mod records; // one record: its call and its line
-pub mod buffers; // the lines of a buffer, and of a whole log
-pub mod pieces; // a log read in pieces: what is kept, and the end
+pub mod buffers; // the lines of a buffer
+pub mod pieces; // a log read in pieces, and a whole log
 
 // What one record leaves: the tables, and how much of the text is used.
 pub struct After {
@@ -34,8 +34,8 @@ pub struct Drained {
     pub stop: Stop,
 }
 
-// The text of a whole log has so many bytes, or the lent text is too short for it.
+// The text of a whole log: so many bytes, or more than there is room for.
 pub enum Listed {
     Text(usize),
-    Full,
+    Over,
 }

@@ -1,11 +1,15 @@
-// A log read in pieces: what is kept for the next piece, and what the end of the input leaves to write.
+// A log read in pieces: what is kept for the next piece, what the end of the input leaves to write, and a whole log in one piece.
 ghost use mathlib.Core.Path.{_≡_};
 ghost use mathlib.Core.List.{List};
 ghost use Prim.Native.Nat.{ℕ, _+_, _≤_};
 ghost use lib.ListN.{length, take, drop};
 ghost use Rattle.text.specs.Text.{Put};
-ghost use Rattle.listing.specs.Pieces.{ending};
+ghost use Rattle.listing.specs.Pieces.{ending, Lists};
+use super::Listed;
+use super::Stop;
+use super::buffers::drain;
 use super::lines::put_bad;
+use kernel::Tables;
 
 // Moves the n bytes from index `from` to the front.
 pub fn keep(buf: &mut [u8], from: usize, n: usize)
@@ -28,4 +32,21 @@ pub fn finish(left: usize, text: &mut [u8], at: usize) -> usize
         return at;
     }
     put_bad(text, at)
+}
+
+// The text of a whole log.
+pub fn list(log: &[u8], text: &mut [u8]) -> Listed
+    ensures { λ r. ⌜ Lists (now (log .entry)) (now (text .exit)) r ⌝ }
+{
+    let mut ram = [0u8; 65536];
+    let mut out = [0u8; 4096];
+    let d = drain(Tables::none(), &mut ram, &mut out, log, text);
+    let used = d.used;
+    let taken = d.taken;
+    let stop = d.stop;
+    match stop {
+        Stop::Bad => Listed::Text(used),
+        Stop::Full => Listed::Over,
+        Stop::More => Listed::Text(finish(log.len() - taken, text, used)),
+    }
 }

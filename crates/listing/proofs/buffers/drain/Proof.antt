@@ -58,7 +58,7 @@ same-length c = c .before .before .before .before .before .loop .inv .4
 
 -- src/buffers.rt:53:17
 returns : tie.Need-returns Inv-loop μ-loop
-returns c = let l = c .before .before .before .before .before .loop in ((l .inv .0, short-at (now (c .before .before .before .before .before .before .before .before .args .input)) (l .at) _ (c .before .before .front .ensures) (c .enum-told .given .1)), l .inv .1, l .inv .2, l .inv .3)
+returns c = let l = c .before .before .before .before .before .loop in ((l .inv .0, short-at (now (c .before .before .before .before .before .before .before .before .args .input)) (l .at) _ (c .before .before .front .ensures) (c .enum-told .given .1), omega arith), l .inv .1, l .inv .2, l .inv .3)
 
 -- src/buffers.rt:61:35
 enum-told-2 : tie.Need-enum-told-2 Inv-loop μ-loop
@@ -131,7 +131,7 @@ same-length-3 c = c .before .loop .inv .4
 
 -- src/buffers.rt:42:1
 returns-3 : tie.Need-returns-3 Inv-loop μ-loop
-returns-3 c = let l = c .before .loop in ((l .inv .0, tt), l .inv .1, l .inv .2, l .inv .3)
+returns-3 c = let l = c .before .loop in ((l .inv .0, omega arith), l .inv .1, l .inv .2, l .inv .3)
 
 pub drain-spec : {M : Type 1} → statement M
 drain-spec =
