@@ -56,7 +56,13 @@ fn fetch(tables: Tables, buf: &mut [u8], start: usize, filled: usize, text: &mut
 }
 
 // Writes the lines of what is in the buffer, and reads on where a record is not whole. A closed output ends it.
-fn turn(s: State, ram: &mut [u8; 65536], out: &mut [u8; 4096], buf: &mut [u8], text: &mut [u8]) -> State
+fn turn(
+    s: State,
+    ram: &mut [u8; 65536],
+    out: &mut [u8; 4096],
+    buf: &mut [u8],
+    text: &mut [u8],
+) -> State
     requires { ⌜ Held (s .tables) × (s .from ≤ s .filled) × (s .filled ≤ length (now buf)) × (4098 ≤ length (now buf)) × (4 ≤ length (now text)) ⌝ }
     ensures { λ r. ⌜ Held (r .tables) × (r .from ≤ r .filled) × (r .filled ≤ length (now (buf .exit))) ⌝ }
 {
@@ -94,7 +100,13 @@ fn turn(s: State, ram: &mut [u8; 65536], out: &mut [u8; 4096], buf: &mut [u8], t
 }
 
 // A turn on the program's own buffers.
-fn whole_turn(s: State, ram: &mut [u8; 65536], out: &mut [u8; 4096], buf: &mut [u8; 69634], text: &mut [u8; 73728]) -> State
+fn whole_turn(
+    s: State,
+    ram: &mut [u8; 65536],
+    out: &mut [u8; 4096],
+    buf: &mut [u8; 69634],
+    text: &mut [u8; 73728],
+) -> State
     requires { ⌜ Held (s .tables) × (s .from ≤ s .filled) × (s .filled ≤ 69634) ⌝ }
     ensures { λ r. ⌜ Held (r .tables) × (r .from ≤ r .filled) × (r .filled ≤ 69634) ⌝ }
 {

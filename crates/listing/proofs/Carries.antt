@@ -1,7 +1,7 @@
 -- What carries over from record to record. Assumes nothing.
 use mathlib.Core.Path.{_≡_, refl, sym, ap, _∙_}
 use mathlib.Core.List.{List, append-assoc, _++_}
-use Prim.Native.Nat.{ℕ, suc, _+_, _-_, _<_, _≤_}
+use Prim.Native.Nat.{ℕ, suc, _+_, _-_, _<_}
 use native.Mathlib.Omega.{arith}
 use native.Mathlib.Numerals.{add-one}
 use lib.ListN.{length, getD, take, drop, set, length-drop}
@@ -24,10 +24,12 @@ module _ (t : Tables) (ram out xs : List ℕ) (t₁ : Tables) (ram₁ out₁ lef
       → Stepped t₁ ram₁ out₁ kind (take size (drop 4 left)) text used t₂ ram₂ out₂ text₂ used₂
       → Carry t ram out xs t₂ ram₂ out₂ (drop (4 + size) left) (take used₂ text₂)
   carry-more kind size w t₂ ram₂ out₂ text₂ used₂ s =
-      record { holds = λ ys.
-        c .holds ys
-        ∙ rw (text-found t₁ ram₁ out₁ (left ++ ys) kind (take size (drop 4 left)) (drop (4 + size) left ++ ys) (w .is ys))
-          (rw (s .tables-are, s .ram-is, s .output-is, s .put .text) (sym (append-assoc (take used text) _ _))) }
+      record {
+        holds = λ ys.
+            c .holds ys
+            ∙ rw (text-found t₁ ram₁ out₁ (left ++ ys) kind (take size (drop 4 left)) (drop (4 + size) left ++ ys) (w .is ys))
+            (rw (s .tables-are, s .ram-is, s .output-is, s .put .text) (sym (append-assoc (take used text) _ _)));
+      }
 
   -- and then `bad`
   pub carry-bad : ((ys : List ℕ) → next (left ++ ys) ≡ broken) → (text₂ : List ℕ) (used₂ : ℕ) → Put text text₂ used used₂ badText
@@ -52,9 +54,9 @@ keep-turn buf buf₀ from i h l p q =
     let e : i + from ≡ from + i = omega arith in
     let s : i < suc i = omega arith in
     let v : getD buf (from + i) 0 ≡ getD (drop from buf₀) i 0 =
-      rw (← e, ← getD-drop i buf from 0, q, getD-drop i buf₀ from 0, e, getD-drop from buf₀ i 0) in
+    rw (← e, ← getD-drop i buf from 0, q, getD-drop i buf₀ from 0, e, getD-drop from buf₀ i 0) in
     let w : drop (suc i) buf ≡ drop (suc i) buf₀ =
-      rw (← add-one i) (sym (drop-drop 1 i buf) ∙ ap (λ (z : List ℕ). drop 1 z) q ∙ drop-drop 1 i buf₀) in
+    rw (← add-one i) (sym (drop-drop 1 i buf) ∙ ap (λ (z : List ℕ). drop 1 z) q ∙ drop-drop 1 i buf₀) in
     let k : i < length buf = omega arith in
     let m : i < length (drop from buf₀) = rw length-drop (omega arith) in
     (rw (add-one, take-suc-set buf i (getD buf (from + i) 0) k, take-suc (drop from buf₀) i 0 m, p, v), rw (add-one, drop-set-lt (suc i) buf i (getD buf (from + i) 0) s, w))

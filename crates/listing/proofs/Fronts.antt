@@ -1,18 +1,16 @@
 -- What stands at the front of the input, by its length. Assumes nothing.
 use mathlib.Core.Path.{_≡_, _∙_, sym}
-use mathlib.Core.Bool.{cond}
 use mathlib.Core.List.{List, _++_}
 use Prim.Native.Nat.{ℕ, _+_, _-_, _<_, _≤_}
 use native.Mathlib.Omega.{arith}
 use lib.ListN.{length, take, drop, length-append, length-drop, List·getD-append}
 use lib.Seq.{take-append-le, drop-append-le}
-use lib.Dec.{eqb}
 use borrow.Author.Tests.{ne-eqb, lt-ltb, le-ltb}
 use Rattle.events.specs.Records.{u16At}
 use Rattle.events.proofs.Laws.{rest-of}
 use Rattle.listing.specs.declared.Front.{Front}
 use Rattle.listing.specs.declared.Front.the-variants.{Record, Cut, Bad}
-use Rattle.listing.specs.Log.{finished, broken, found, next}
+use Rattle.listing.specs.Log.{broken, found, next}
 use Rattle.listing.specs.Pieces.{Short, Whole, Stands}
 
 -- less than a length
@@ -64,11 +62,11 @@ module _ (xs : List ℕ) (n : ℕ) (e : n ≡ u16At xs 0) (l : 2 ≤ length xs) 
       record {
         fits = omega arith;
         is = λ ys.
-          let m : n + 2 ≡ 4 + (n - 2) = omega arith in
-          let d : 4 ≤ length xs = omega arith in
-          let b : n - 2 ≤ length (drop 4 xs) = rw length-drop (omega arith) in
-          is-found h g c ys
-          ∙ rw (field ys 2 (omega arith), ← f, drop-append-le 4 xs ys d, take-append-le (n - 2) (drop 4 xs) ys b, drop-append-le (n + 2) xs ys c, m);
+            let m : n + 2 ≡ 4 + (n - 2) = omega arith in
+            let d : 4 ≤ length xs = omega arith in
+            let b : n - 2 ≤ length (drop 4 xs) = rw length-drop (omega arith) in
+            is-found h g c ys
+            ∙ rw (field ys 2 (omega arith), ← f, drop-append-le 4 xs ys d, take-append-le (n - 2) (drop 4 xs) ys b, drop-append-le (n + 2) xs ys c, m);
       }
 
 -- the rest of the input from `at`, as it is lent, and what was found there

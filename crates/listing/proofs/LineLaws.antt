@@ -1,12 +1,13 @@
 -- A line, from its parts. Assumes nothing.
 use mathlib.Core.Path.{_≡_, refl, sym, _∙_}
-use mathlib.Core.Bool.{true, false}
+use mathlib.Core.Bool.{Bool, true, false, _&&_}
 use mathlib.Core.List.{List, [], _∷_, append-nil}
-use Prim.Native.Nat.{ℕ, _≤_, _<_}
+use Prim.Native.Nat.{ℕ, _≤_}
 use native.Mathlib.Omega.{arith}
 use lib.ListN.{length, take}
 use lib.Seq.{take-all}
-use borrow.Author.Tests.{eq-eqb, ne-eqb, lt-ltb, le-ltb}
+use lib.Dec.{ltb}
+use borrow.Author.Tests.{eq-eqb, ne-eqb}
 use Rattle.text.specs.Text.{Put, fieldsOf, hexOf}
 use Rattle.text.proofs.Laws.{put-then}
 use Rattle.listing.specs.Log.{showsOf, lineOf}
@@ -19,31 +20,31 @@ pub shows-refused : (kind answer b : ℕ) → (answer ≡ 0 → ⊥) → false �
 unfolding showsOf
 shows-refused kind answer b h = rw (ne-eqb answer 0 h)
 
--- done with b = 0
-pub shows-none : (kind answer b : ℕ) → answer ≡ 0 → b ≡ 0 → false ≡ showsOf kind answer b
-unfolding showsOf
-shows-none kind answer b e f = rw (eq-eqb answer 0 e, f)
+and-true : (b : Bool) → b ≡ b && true
+and-true true = refl
+and-true false = refl
 
--- done with b > 0: by the kind
-module _ (kind answer b : ℕ) (e : answer ≡ 0) (h : b ≡ 0 → ⊥) where
-  some : 0 < b
-  some = omega (arith, h)
+and-false : (b : Bool) → false ≡ b && false
+and-false true = refl
+and-false false = refl
 
-  pub shows-6 : kind ≡ 6 → true ≡ showsOf kind answer b
+-- done: by the kind
+module _ (kind answer b : ℕ) (e : answer ≡ 0) where
+  pub shows-6 : kind ≡ 6 → ltb 0 b ≡ showsOf kind answer b
   unfolding showsOf
-  shows-6 k = rw (eq-eqb answer 0 e, lt-ltb 0 b some, k)
+  shows-6 k = rw (eq-eqb answer 0 e, k) (and-true (ltb 0 b))
 
-  pub shows-20 : kind ≡ 20 → true ≡ showsOf kind answer b
+  pub shows-20 : kind ≡ 20 → ltb 0 b ≡ showsOf kind answer b
   unfolding showsOf
-  shows-20 k = rw (eq-eqb answer 0 e, lt-ltb 0 b some, k)
+  shows-20 k = rw (eq-eqb answer 0 e, k) (and-true (ltb 0 b))
 
-  pub shows-258 : kind ≡ 258 → true ≡ showsOf kind answer b
+  pub shows-258 : kind ≡ 258 → ltb 0 b ≡ showsOf kind answer b
   unfolding showsOf
-  shows-258 k = rw (eq-eqb answer 0 e, lt-ltb 0 b some, k)
+  shows-258 k = rw (eq-eqb answer 0 e, k) (and-true (ltb 0 b))
 
   pub shows-other : (kind ≡ 6 → ⊥) → (kind ≡ 20 → ⊥) → (kind ≡ 258 → ⊥) → false ≡ showsOf kind answer b
   unfolding showsOf
-  shows-other f g k = rw (eq-eqb answer 0 e, lt-ltb 0 b some, ne-eqb kind 6 f, ne-eqb kind 20 g, ne-eqb kind 258 k)
+  shows-other f g k = rw (eq-eqb answer 0 e, ne-eqb kind 6 f, ne-eqb kind 20 g, ne-eqb kind 258 k) (and-false (ltb 0 b))
 
 pub line-plain : {d e f : List ℕ} {at m r : ℕ} (kind answer a b : ℕ) (out : List ℕ) → showsOf kind answer b ≡ false
     → Put d e at m (fieldsOf kind answer a b) → Put e f m r (10 ∷ []) → Put d f at r (lineOf kind answer a b out)

@@ -3,10 +3,10 @@ use mathlib.Core.Path.{_≡_, refl, sym, ap, _∙_}
 use mathlib.Core.Bool.{Bool, true, false, false≢true}
 use mathlib.Core.List.{List}
 use mathlib.Core.Logic.{_⊎_, inl, inr}
-use Prim.Native.Nat.{ℕ, _*_, _≤_, _<_, min}
+use Prim.Native.Nat.{ℕ, _≤_}
 use native.Mathlib.Decide.{ℕ-discrete}
 use native.Mathlib.Omega.{arith}
-use borrow.Author.Tests.{le-ltb, ltb-true, ltb-false, ne-eqb}
+use borrow.Author.Tests.{ltb-true, ne-eqb}
 use lib.Dec.{ltb}
 use lib.ListN.{length, take, drop, length-take}
 use Rattle.kernel.specs.Definition.Answers.{granted}
@@ -15,7 +15,7 @@ use Rattle.kernel.specs.Definition.Good.{Good}
 use Rattle.kernel.specs.Definition.Reset.{noTables}
 use Rattle.kernel.specs.Definition.Step.{decided, completed, step}
 use Rattle.kernel.specs.Definition.Tables.{ramSize}
-use Rattle.kernel.specs.Laws.Ready.{Ready, decided-ready, start-ready}
+use Rattle.kernel.specs.Laws.Ready.{decided-ready, start-ready}
 use Rattle.kernel.specs.declared.Tables.{Tables}
 use Rattle.events.specs.Records.{u16At, startIn, decode}
 use Rattle.events.specs.Bodies.{Bytes, decode-fields}
@@ -77,8 +77,8 @@ module _ (t : Tables) (ram out : List ℕ) (body : List ℕ) (s : length ram ≡
 pub held-step : (t : Tables) (ram out : List ℕ) (kind : ℕ) (body : List ℕ) → length ram ≡ 65536 → Bytes body → Held t → Held (logStep t ram out kind body .tables)
 held-step t ram out kind body s b h = elim (split (granted (logStep t ram out kind body .answer))) [
   | inl d ↦ elim (ℕ-discrete kind 256) [
-      | yes e ↦ rw e (start-held t ram out body s (rw e at d))
-      | no e ↦ other-held t ram out body s kind e b h d
-    ]
+    | yes e ↦ rw e (start-held t ram out body s (rw e at d))
+    | no e ↦ other-held t ram out body s kind e b h d
+  ]
   | inr d ↦ rw (refused-stays t ram out kind body b d) h
 ]

@@ -39,7 +39,13 @@ fn front(input: &[u8]) -> Front
 }
 
 // The lines of as many whole records as the input has and the text has room for.
-pub fn drain(t: Tables, ram: &mut [u8; 65536], out: &mut [u8; 4096], input: &[u8], text: &mut [u8]) -> Drained
+pub fn drain(
+    t: Tables,
+    ram: &mut [u8; 65536],
+    out: &mut [u8; 4096],
+    input: &[u8],
+    text: &mut [u8],
+) -> Drained
     requires { ⌜ Held t ⌝ }
     ensures { λ r. ⌜ Drains t (now (ram .entry)) (now (out .entry)) (now (input .entry)) (r .tables) (now (ram .exit)) (now (out .exit)) (drop (r .taken) (now (input .entry))) (now (text .exit)) (r .used) (r .stop) × Held (r .tables) × (r .taken ≤ length (now (input .entry))) × (r .used ≤ length (now (text .exit))) ⌝ }
 {

@@ -16,13 +16,10 @@ fn shows(kind: u16, answer: u16, b: u16) -> bool
     if answer != 0 {
         return false;
     }
-    if b == 0 {
-        return false;
-    }
     match kind {
-        6 => true,
-        20 => true,
-        258 => true,
+        6 => 0 < b,
+        20 => 0 < b,
+        258 => 0 < b,
         _ => false,
     }
 }
@@ -36,7 +33,15 @@ fn least(b: u16, n: usize) -> usize
 }
 
 // A record's line, at a place of the text.
-pub fn put_line(kind: u16, answer: u16, a: u16, b: u16, out: &[u8], text: &mut [u8], at: usize) -> usize
+pub fn put_line(
+    kind: u16,
+    answer: u16,
+    a: u16,
+    b: u16,
+    out: &[u8],
+    text: &mut [u8],
+    at: usize,
+) -> usize
     requires { ⌜ at + 25 + 2 * length (now out) ≤ length (now text) ⌝ }
     ensures { λ r. ⌜ Put (now (text .entry)) (now (text .exit)) at r (lineOf kind answer a b (now (out .entry))) × (r ≤ length (now (text .exit))) ⌝ }
 {

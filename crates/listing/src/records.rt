@@ -61,7 +61,15 @@ fn call(t: Tables, ram: &mut [u8], kind: u16, body: &[u8], out: &mut [u8]) -> Ou
 }
 
 // A record's call, and its line at a place of the text.
-pub fn record(t: Tables, ram: &mut [u8], out: &mut [u8; 4096], kind: u16, body: &[u8], text: &mut [u8], used: usize) -> After
+pub fn record(
+    t: Tables,
+    ram: &mut [u8],
+    out: &mut [u8; 4096],
+    kind: u16,
+    body: &[u8],
+    text: &mut [u8],
+    used: usize,
+) -> After
     requires { ⌜ Held t × (length (now ram) ≡ 65536) × (used + 8217 ≤ length (now text)) ⌝ }
     ensures { λ r. ⌜ Stepped t (now (ram .entry)) (now (out .entry)) kind (now (body .entry)) (now (text .entry)) used (r .tables) (now (ram .exit)) (now (out .exit)) (now (text .exit)) (r .used) × Held (r .tables) ⌝ }
 {
@@ -69,6 +77,14 @@ pub fn record(t: Tables, ram: &mut [u8], out: &mut [u8; 4096], kind: u16, body: 
     let o = call(t, &mut ram[..n], kind, body, out);
     let answer = o.answer;
     let tables = o.tables;
-    let used = put_line(kind, wider(answer.number()), wider(answer.a()), answer.b(), out, text, used);
+    let used = put_line(
+        kind,
+        wider(answer.number()),
+        wider(answer.a()),
+        answer.b(),
+        out,
+        text,
+        used,
+    );
     After { tables, used }
 }

@@ -4,62 +4,43 @@ use lib.Seq.{length-take-le}
 use borrow.Author.Needs.{needs}
 use Rattle.exos_list.proofs.fetch.Statement.{statement}
 use Rattle.exos_list.proofs.fetch.Tie as tie
-use Rattle.exos_list.proofs.fetch.Reads as reads
-use Rattle.exos_list.proofs.fetch.Lts as lts
-use Rattle.exos_list.proofs.read_after.Reads as read-after-reads
-use Rattle.io.proofs.write_all.Reads as write-all-reads
-use Rattle.listing.proofs.pieces.finish.Reads as finish-reads
-use Rattle.listing.proofs.pieces.keep.Reads as keep-reads
 
--- src/main.rt:37:16
 sub-left : tie.Need-sub-left
 sub-left c = search needs
 
--- src/main.rt:38:5
 keep-requires : tie.Need-keep-requires
 keep-requires c κs = search needs
 
--- src/main.rt:39:9
 read-after-requires : tie.Need-read-after-requires
 read-after-requires c κs = search needs
 
--- src/main.rt:41:13
 finish-requires : tie.Need-finish-requires
 finish-requires c κs = search needs
 
--- src/main.rt:42:38
 slice-reshare-prefix-write-all : tie.Need-slice-reshare-prefix-write-all
 slice-reshare-prefix-write-all c = search needs
 
--- src/main.rt:42:38
 slice-aggregate-write-all : tie.Need-slice-aggregate-write-all
 slice-aggregate-write-all c = let f = c .before .before .before .finish in sym (length-take-le (f .result) _ (f .ensures .1))
 
--- src/main.rt:42:9
 write-all-requires : tie.Need-write-all-requires
 write-all-requires c κs = search needs
 
--- src/main.rt:43:9
 same-length : tie.Need-same-length
 same-length c = search needs
 
--- src/main.rt:43:9
 same-length-2 : tie.Need-same-length-2
 same-length-2 c = search needs
 
--- src/main.rt:43:9
 returns : tie.Need-returns
 returns c = search needs
 
--- src/main.rt:53:17
 add-t20 : tie.Need-add-t20
 add-t20 c = search needs
 
--- src/main.rt:33:1
 same-length-3 : tie.Need-same-length-3
 same-length-3 c = search needs
 
--- src/main.rt:33:1
 returns-2 : tie.Need-returns-2
 returns-2 c = search needs
 

@@ -8,63 +8,45 @@ use Rattle.exos_list.proofs.Left.{start-within, left-short}
 use borrow.Author.Needs.{needs}
 use Rattle.exos_list.proofs.turn.Statement.{statement}
 use Rattle.exos_list.proofs.turn.Tie as tie
-use Rattle.exos_list.proofs.turn.Reads as reads
-use Rattle.exos_list.proofs.turn.Lts as lts
-use Rattle.exos_list.proofs.fetch.Reads as fetch-reads
-use Rattle.io.proofs.write_all.Reads as write-all-reads
-use Rattle.listing.proofs.buffers.drain.Reads as drain-reads
 
--- src/main.rt:59:39
 sub-drain : tie.Need-sub-drain
 sub-drain c = search needs
 
--- src/main.rt:59:39
 part-drain-start : tie.Need-part-drain-start
 part-drain-start c = search needs
 
--- src/main.rt:59:39
 part-drain-end : tie.Need-part-drain-end
 part-drain-end c = search needs
 
--- src/main.rt:59:9
 drain-requires : tie.Need-drain-requires
 drain-requires c κs = search needs
 
--- src/main.rt:64:17
 add-start : tie.Need-add-start
 add-start c = search needs
 
--- src/main.rt:65:38
 slice-reshare-prefix-write-all : tie.Need-slice-reshare-prefix-write-all
 slice-reshare-prefix-write-all c = search needs
 
--- src/main.rt:65:38
 slice-aggregate-write-all : tie.Need-slice-aggregate-write-all
 slice-aggregate-write-all c = let d = c .before .before .before .before .drain in sym (length-take-le (d .result .used) (d .last .1 .1 .1 .1 .0) (d .ensures .3))
 
--- src/main.rt:65:9
 write-all-requires : tie.Need-write-all-requires
 write-all-requires c κs = search needs
 
--- src/main.rt:66:9
 same-length : tie.Need-same-length
 same-length c = search needs
 
--- src/main.rt:66:9
 same-length-2 : tie.Need-same-length-2
 same-length-2 c = search needs
 
--- src/main.rt:66:9
 returns : tie.Need-returns
 returns c = search needs
 
--- src/main.rt:74:37
 enum-told : tie.Need-enum-told
 enum-told c = search needs
 
--- src/main.rt:74:23
 fetch-requires : tie.Need-fetch-requires
-fetch-requires c κs = 
+fetch-requires c κs =
     let s = c .before .before .before .before .before .before .before .before .before .before .before .before .before .before .before .before .before .before in
     let d = c .before .before .before .before .before .before .before .before .before .before .drain in
     let short = room-left _ _ _ _ _ _ _ _ _ _ _ (c .before .before .enum-told .given .1) (d .ensures .0) .0 in
@@ -72,47 +54,36 @@ fetch-requires c κs =
     let h = left-short (now (s .args .buf)) (s .args .s .from) (s .args .s .filled) (d .result .taken) (s .pre .1) (s .pre .2) short in
     (d .ensures .1, k, omega (arith, s .pre), omega (arith, h, s .pre), omega (arith, s .pre, d .kept .1 .1 .1 .1 .0))
 
--- src/main.rt:75:23
 enum-told-2 : tie.Need-enum-told-2
 enum-told-2 c = search needs
 
--- src/main.rt:81:22
 enum-told-3 : tie.Need-enum-told-3
 enum-told-3 c = search needs
 
--- src/main.rt:53:1
 same-length-3 : tie.Need-same-length-3
 same-length-3 c = search needs
 
--- src/main.rt:53:1
 same-length-4 : tie.Need-same-length-4
 same-length-4 c = search needs
 
--- src/main.rt:53:1
 returns-2 : tie.Need-returns-2
 returns-2 c = search needs
 
--- src/main.rt:53:1
 same-length-5 : tie.Need-same-length-5
 same-length-5 c = search needs
 
--- src/main.rt:53:1
 same-length-6 : tie.Need-same-length-6
 same-length-6 c = search needs
 
--- src/main.rt:53:1
 returns-3 : tie.Need-returns-3
 returns-3 c = search needs
 
--- src/main.rt:53:1
 same-length-7 : tie.Need-same-length-7
 same-length-7 c = search needs
 
--- src/main.rt:53:1
 same-length-8 : tie.Need-same-length-8
 same-length-8 c = search needs
 
--- src/main.rt:53:1
 returns-4 : tie.Need-returns-4
 returns-4 c = search needs
 

@@ -11,72 +11,53 @@ use Rattle.listing.proofs.Fronts.{short-at, bad-at, whole-at, within}
 use Rattle.listing.proofs.Carries.{carry-none, carry-bad, carry-at}
 use Rattle.listing.proofs.buffers.drain.Statement.{statement}
 use Rattle.listing.proofs.buffers.drain.Tie as tie
-use Rattle.listing.proofs.buffers.drain.Reads as reads
-use Rattle.listing.proofs.buffers.drain.Lts as lts
-use Rattle.listing.proofs.buffers.front.Reads as front-reads
-use Rattle.listing.proofs.lines.put_bad.Reads as put-bad-reads
-use Rattle.listing.proofs.records.record.Reads as record-reads
 
 abbrev Inv-loop : tie.InvT-loop
-Inv-loop ram₀ out₀ input text₀ tables₀ at₀ used₀ ram out text tables at used = 
+Inv-loop ram₀ out₀ input text₀ tables₀ at₀ used₀ ram out text tables at used =
     Carry tables₀ ram₀ out₀ input tables ram out (drop at input) (take used text) × Held tables × (at ≤ length input) × (used ≤ length text) × (length text ≡ length text₀)
 
 abbrev μ-loop : tie.MeasureT-loop
 μ-loop ram₀ out₀ input text₀ tables₀ at₀ used₀ ram out text tables at used = length input - at
 
--- src/buffers.rt:49:5
 loop-holds : tie.Need-loop-holds Inv-loop μ-loop
 loop-holds c = let s = c .before .before in let a = s .args in (carry-none (a .t) (now (a .ram)) (now (a .out)) (now (a .input)) (now (a .text)), s .pre, omega arith, omega arith, refl)
 
--- src/buffers.rt:49:19
 sub-loop : tie.Need-sub-loop Inv-loop μ-loop
 sub-loop c = omega arith
 
--- src/buffers.rt:50:23
 sub-front : tie.Need-sub-front Inv-loop μ-loop
 sub-front c = omega arith
 
--- src/buffers.rt:50:23
 part-front-start : tie.Need-part-front-start Inv-loop μ-loop
 part-front-start c = omega arith
 
--- src/buffers.rt:50:23
 part-front-end : tie.Need-part-front-end Inv-loop μ-loop
 part-front-end c = omega arith
 
--- src/buffers.rt:50:13
 front-requires : tie.Need-front-requires Inv-loop μ-loop
 front-requires c κs = tt
 
--- src/buffers.rt:57:27
 enum-told : tie.Need-enum-told Inv-loop μ-loop
 enum-told c = search needs
 
--- src/buffers.rt:53:17
 same-length : tie.Need-same-length Inv-loop μ-loop
 same-length c = c .before .before .before .before .before .loop .inv .4
 
--- src/buffers.rt:53:17
 returns : tie.Need-returns Inv-loop μ-loop
 returns c = let l = c .before .before .before .before .before .loop in ((l .inv .0, short-at (now (c .before .before .before .before .before .before .before .before .args .input)) (l .at) _ (c .before .before .front .ensures) (c .enum-told .given .1), omega arith), l .inv .1, l .inv .2, l .inv .3)
 
--- src/buffers.rt:61:35
 enum-told-2 : tie.Need-enum-told-2 Inv-loop μ-loop
 enum-told-2 c = search needs
 
--- src/buffers.rt:61:21
 put-bad-requires : tie.Need-put-bad-requires Inv-loop μ-loop
 put-bad-requires c κs = omega arith
 
--- src/buffers.rt:62:17
 same-length-2 : tie.Need-same-length-2 Inv-loop μ-loop
 same-length-2 c = c .before .before .put-bad .kept .0 ∙ c .before .before .before .before .before .before .before .before .before .loop .inv .4
 
--- src/buffers.rt:62:17
 returns-2 : tie.Need-returns-2 Inv-loop μ-loop
 returns-2 c = let l = c .before .before .before .before .before .before .before .before .before .loop in let a = c .before .before .before .before .before .before .before .before .before .before .before .before .args in let p = c .before .before .put-bad in ((carry-bad (a .t) (now (a .ram)) (now (a .out)) (now (a .input)) (l .tables) _ _ (drop (l .at) (now (a .input))) (l .text) (l .used) (l .inv .0) (bad-at (now (a .input)) (l .at) _ (c .before .before .before .before .before .before .front .ensures) (c .before .before .before .before .enum-told2 .given .1)) _ _ (p .ensures .0), tt), l .inv .1, l .inv .2, p .ensures .1)
 
--- src/buffers.rt:69:27
 enum-known-f : tie.Need-enum-known-f Inv-loop μ-loop
 enum-known-f c = search needs
 
@@ -89,47 +70,37 @@ fits : (c : tie.After-known-told Inv-loop μ-loop)
     → c .before .before .before .before .before .before .loop .at + 4 + c .before .f .given .0 .1 .0 ≤ length (now (c .before .before .before .before .before .before .before .before .before .args .input))
 fits c = within (now (c .before .before .before .before .before .before .before .before .before .args .input)) (c .before .before .before .before .before .before .loop .at) (c .before .f .given .0 .0) (c .before .f .given .0 .1 .0) (whole c)
 
--- src/buffers.rt:70:28
 add-from : tie.Need-add-from Inv-loop μ-loop
 add-from c = omega (arith, fits c)
 
--- src/buffers.rt:71:28
 add-next : tie.Need-add-next Inv-loop μ-loop
 add-next c = omega (arith, fits c)
 
--- src/buffers.rt:72:56
 sub-record : tie.Need-sub-record Inv-loop μ-loop
 sub-record c = omega (arith, fits (c .before .before))
 
--- src/buffers.rt:72:56
 part-record-start : tie.Need-part-record-start Inv-loop μ-loop
 part-record-start c = omega (arith, fits (c .before .before))
 
--- src/buffers.rt:72:56
 part-record-end : tie.Need-part-record-end Inv-loop μ-loop
 part-record-end c = omega (arith, fits (c .before .before))
 
--- src/buffers.rt:72:21
 record-requires : tie.Need-record-requires Inv-loop μ-loop
 record-requires c κs = (c .before .before .before .before .before .before .before .before .before .before .loop .inv .1, search needs, omega arith)
 
--- src/buffers.rt:49:5
 loop-less : tie.Need-loop-less Inv-loop μ-loop
 loop-less c = omega (arith, fits (c .before .before .before .before .before .before .before .before))
 
--- src/buffers.rt:49:5
 loop-again : tie.Need-loop-again Inv-loop μ-loop
-loop-again c = 
+loop-again c =
     let l = c .before .before .before .before .before .before .before .before .before .before .before .before .before .before .loop in
     let a = c .before .before .before .before .before .before .before .before .before .before .before .before .before .before .before .before .before .args in
     let r = c .before .before .before .«record» in
     (carry-at (a .t) (now (a .ram)) (now (a .out)) (now (a .input)) (l .tables) _ _ (l .at) (l .text) (l .used) _ _ (l .inv .0) (whole (c .before .before .before .before .before .before .before .before)) _ _ _ _ _ (r .ensures .0), r .ensures .1, omega (arith, fits (c .before .before .before .before .before .before .before .before)), r .ensures .0 .room, r .kept .1 .1 .1 .1 .1 .0 ∙ l .inv .4)
 
--- src/buffers.rt:42:1
 same-length-3 : tie.Need-same-length-3 Inv-loop μ-loop
 same-length-3 c = c .before .loop .inv .4
 
--- src/buffers.rt:42:1
 returns-3 : tie.Need-returns-3 Inv-loop μ-loop
 returns-3 c = let l = c .before .loop in ((l .inv .0, omega arith), l .inv .1, l .inv .2, l .inv .3)
 

@@ -1,49 +1,35 @@
 -- `listing::front` meets its contract. Assumes nothing.
 use denote.Ref.{now}
 use mathlib.Core.Path.{_∙_}
-use native.Mathlib.Omega.{arith}
 use Rattle.listing.proofs.Fronts.{short-two, short-record, bad-low, bad-high, whole-record}
 use borrow.Author.Needs.{needs}
 use Rattle.listing.proofs.buffers.front.Statement.{statement}
 use Rattle.listing.proofs.buffers.front.Tie as tie
-use Rattle.listing.proofs.buffers.front.Reads as reads
-use Rattle.listing.proofs.buffers.front.Lts as lts
-use Rattle.events.proofs.fields.u16_at.Reads as u16-at-reads
-use Rattle.listing.proofs.buffers.wide.Reads as wide-reads
 
--- src/buffers.rt:26:9
 returns : tie.Need-returns
 returns c = short-two (now (c .before .before .args .input)) (c .if1 .taken)
 
--- src/buffers.rt:28:18
 u16-at-requires : tie.Need-u16-at-requires
 u16-at-requires c κs = search needs
 
--- src/buffers.rt:28:9
 wide-requires : tie.Need-wide-requires
 wide-requires c κs = search needs
 
--- src/buffers.rt:30:9
 returns-2 : tie.Need-returns-2
 returns-2 c = bad-low (now (c .before .before .before .before .before .args .input)) _ (c .before .wide .ensures .0 ∙ c .before .before .u16-at .ensures) (c .before .before .before .if1 .left) (c .if2 .taken)
 
--- src/buffers.rt:33:9
 returns-3 : tie.Need-returns-3
 returns-3 c = bad-high (now (c .before .before .before .before .before .before .args .input)) _ (c .before .before .wide .ensures .0 ∙ c .before .before .before .u16-at .ensures) (c .before .before .before .before .if1 .left) (c .if3 .taken)
 
--- src/buffers.rt:35:22
 add-if4 : tie.Need-add-if4
 add-if4 c = search needs
 
--- src/buffers.rt:36:9
 returns-4 : tie.Need-returns-4
 returns-4 c = short-record (now (c .before .before .before .before .before .before .before .args .input)) _ (c .before .before .before .wide .ensures .0 ∙ c .before .before .before .before .u16-at .ensures) (c .before .before .before .before .before .if1 .left) (c .before .before .if2 .left) (c .before .if3 .left) (c .if4 .taken)
 
--- src/buffers.rt:38:19
 u16-at-requires-2 : tie.Need-u16-at-requires-2
 u16-at-requires-2 c κs = search needs
 
--- src/buffers.rt:22:1
 returns-5 : tie.Need-returns-5
 returns-5 c = whole-record (now (c .before .before .before .before .before .before .before .before .args .input)) _ (c .before .before .before .before .wide .ensures .0 ∙ c .before .before .before .before .before .u16-at .ensures) (c .before .before .before .before .before .before .if1 .left) (c .before .before .before .if2 .left) (c .before .before .if3 .left) (c .before .if4 .left) _ (c .u16-at2 .ensures)
 

@@ -4,14 +4,10 @@ use Rattle.listing.proofs.LineLaws.{beyond}
 use borrow.Author.Needs.{needs}
 use Rattle.listing.proofs.lines.least.Statement.{statement}
 use Rattle.listing.proofs.lines.least.Tie as tie
-use Rattle.listing.proofs.lines.least.Reads as reads
-use Rattle.listing.proofs.lines.least.Lts as lts
 
--- src/lines.rt:31:1
 returns : tie.Need-returns
 returns c = search needs
 
--- src/lines.rt:31:1
 returns-2 : tie.Need-returns-2
 returns-2 c = (omega arith, beyond (c .before .args .n) (c .before .args .b) (c .if1 .left))
 

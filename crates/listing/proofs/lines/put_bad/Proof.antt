@@ -4,31 +4,22 @@ use Rattle.text.proofs.Laws.{put-then}
 use borrow.Author.Needs.{needs}
 use Rattle.listing.proofs.lines.put_bad.Statement.{statement}
 use Rattle.listing.proofs.lines.put_bad.Tie as tie
-use Rattle.listing.proofs.lines.put_bad.Reads as reads
-use Rattle.listing.proofs.lines.put_bad.Lts as lts
-use Rattle.text.proofs.put.Reads as put-reads
 
--- src/lines.rt:58:9
 put-requires : tie.Need-put-requires
 put-requires c κs = search needs
 
--- src/lines.rt:59:9
 put-requires-2 : tie.Need-put-requires-2
 put-requires-2 c κs = search needs
 
--- src/lines.rt:60:9
 put-requires-3 : tie.Need-put-requires-3
 put-requires-3 c κs = search needs
 
--- src/lines.rt:61:5
 put-requires-4 : tie.Need-put-requires-4
 put-requires-4 c κs = search needs
 
--- src/lines.rt:54:1
 same-length : tie.Need-same-length
 same-length c = search needs
 
--- src/lines.rt:54:1
 returns : tie.Need-returns
 returns c = let p = c .before .before .before .before .before .before .before .before .before .before .before .before .before .before .put in let q = c .before .before .before .before .before .before .before .before .before .before .put2 in let s = c .before .before .before .before .before .before .put3 in let t = c .before .before .put4 in (put-then (put-then (put-then (p .ensures) (q .ensures)) (s .ensures)) (t .ensures), omega (arith, c .before .before .before .before .before .before .before .before .before .before .before .before .before .before .before .before .before .pre, p .ensures .stop, q .ensures .stop, s .ensures .stop, t .ensures .stop, p .kept .0, q .kept .0, s .kept .0, t .kept .0))
 

@@ -11,53 +11,43 @@ use Rattle.listing.proofs.LineLaws.{line-plain, line-hex}
 use Rattle.listing.proofs.lines.put_line.Statement.{statement}
 use Rattle.listing.proofs.lines.put_line.Tie as tie
 
--- src/lib.rt:40:9
 fields-requires : tie.Need-fields-requires
 fields-requires c κs = search needs
 
--- src/lib.rt:41:9
 shows-requires : tie.Need-shows-requires
 shows-requires c κs = search needs
 
--- src/lib.rt:42:9
 put-requires : tie.Need-put-requires
 put-requires c κs = search needs
 
--- src/lib.rt:42:9
 same-length : tie.Need-same-length
 same-length c = search needs
 
--- src/lib.rt:42:9
 returns : tie.Need-returns
-returns c = 
+returns c =
     let a = c .before .before .before .before .before .before .before .before .before .before .before .before .args in
     let w = c .before .before .before .before .before .shows in
     let p = c .before .before .before .before .before .before .before .before .fields in
     let q = c .before .before .put in
     (line-plain (a .kind) (a .answer) (a .a) (a .b) (now (a .out)) (sym (w .ensures) ∙ not-true (w .result) (c .before .before .before .before .if1 .taken)) (p .ensures .0) (q .ensures), omega (arith, c .before .before .before .before .before .before .before .before .before .before .before .before .pre, p .ensures .1, p .kept, q .ensures .stop, q .kept))
 
--- src/lib.rt:44:9
 put-requires-2 : tie.Need-put-requires-2
 put-requires-2 c κs = search needs
 
--- src/lib.rt:45:9
 least-requires : tie.Need-least-requires
 least-requires c κs = search needs
 
--- src/lib.rt:46:23
 slice-aggregate-hex : tie.Need-slice-aggregate-hex
 slice-aggregate-hex c = sym (length-take-le (c .before .least .result) (now (c .before .before .before .before .before .before .before .before .before .before .before .before .before .before .args .out)) (c .before .least .ensures .0))
 
--- src/lib.rt:46:9
 hex-requires : tie.Need-hex-requires
-hex-requires c κs = 
+hex-requires c κs =
     let p = c .before .before .before .before .before .before .before .before .before .before .before .fields in
     let q = c .before .before .before .before .before .put2 in
     omega (arith, length-take-le (c .before .before .least .result) (now (c .before .before .before .before .before .before .before .before .before .before .before .before .before .before .before .args .out)) (c .before .before .least .ensures .0), c .before .before .before .before .before .before .before .before .before .before .before .before .before .before .before .pre, p .ensures .1, p .kept .1 .1 .1 .1 .0, q .ensures .stop, q .kept .0, c .before .before .least .ensures .0)
 
--- src/lib.rt:47:5
 put-requires-3 : tie.Need-put-requires-3
-put-requires-3 c κs = 
+put-requires-3 c κs =
     let p = c .before .before .before .before .before .before .before .before .before .before .before .before .before .before .before .fields in
     let q = c .before .before .before .before .before .before .before .before .before .put2 in
     let l = c .before .before .before .before .before .before .least in
@@ -65,13 +55,11 @@ put-requires-3 c κs =
     let h = c .before .before .before .hex in
     omega (arith, length-take-le (l .result) o (l .ensures .0), c .before .before .before .before .before .before .before .before .before .before .before .before .before .before .before .before .before .before .before .pre, p .ensures .1, p .kept .1 .1 .1 .1 .0, q .ensures .stop, q .kept .0, l .ensures .0, h .ensures .stop, h .kept .1 .0, hex-length (take (l .result) o))
 
--- src/lib.rt:36:1
 same-length-2 : tie.Need-same-length-2
 same-length-2 c = search needs
 
--- src/lib.rt:36:1
 returns-2 : tie.Need-returns-2
-returns-2 c = 
+returns-2 c =
     let a = c .before .before .before .before .before .before .before .before .before .before .before .before .before .before .before .before .before .before .before .before .before .before .args in
     let w = c .before .before .before .before .before .before .before .before .before .before .before .before .before .before .before .shows in
     let p = c .before .before .before .before .before .before .before .before .before .before .before .before .before .before .before .before .before .before .fields in
@@ -79,9 +67,10 @@ returns-2 c =
     let l = c .before .before .before .before .before .before .before .before .before .least in
     let h = c .before .before .before .before .before .before .hex in
     let r = c .before .before .put3 in
-    let o = now (a .out) in
-    (line-hex (a .kind) (a .answer) (a .a) (a .b) (l .result) o (sym (w .ensures) ∙ not-false (w .result) (c .before .before .before .before .before .before .before .before .before .before .before .before .before .before .if1 .left)) (l .ensures .1 o refl) (p .ensures .0) (q .ensures) (h .ensures) (r .ensures),
-     omega (arith, length-take-le (l .result) o (l .ensures .0), c .before .before .before .before .before .before .before .before .before .before .before .before .before .before .before .before .before .before .before .before .before .before .pre, p .ensures .1, p .kept .1 .1 .1 .1 .0, q .ensures .stop, q .kept .0, l .ensures .0, h .ensures .stop, h .kept .1 .0, hex-length (take (l .result) o), r .ensures .stop, r .kept .0))
+    let o = now (a .out) in (
+      line-hex (a .kind) (a .answer) (a .a) (a .b) (l .result) o (sym (w .ensures) ∙ not-false (w .result) (c .before .before .before .before .before .before .before .before .before .before .before .before .before .before .if1 .left)) (l .ensures .1 o refl) (p .ensures .0) (q .ensures) (h .ensures) (r .ensures),
+      omega (arith, length-take-le (l .result) o (l .ensures .0), c .before .before .before .before .before .before .before .before .before .before .before .before .before .before .before .before .before .before .before .before .before .before .pre, p .ensures .1, p .kept .1 .1 .1 .1 .0, q .ensures .stop, q .kept .0, l .ensures .0, h .ensures .stop, h .kept .1 .0, hex-length (take (l .result) o), r .ensures .stop, r .kept .0),
+    )
 
 pub put-line-spec : {M : Type 1} → statement M
 put-line-spec =

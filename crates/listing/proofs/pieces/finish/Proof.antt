@@ -6,23 +6,16 @@ use Rattle.listing.proofs.Carries.{end-none, end-bad}
 use borrow.Author.Needs.{needs}
 use Rattle.listing.proofs.pieces.finish.Statement.{statement}
 use Rattle.listing.proofs.pieces.finish.Tie as tie
-use Rattle.listing.proofs.pieces.finish.Reads as reads
-use Rattle.listing.proofs.pieces.finish.Lts as lts
-use Rattle.listing.proofs.lines.put_bad.Reads as put-bad-reads
 
--- src/pieces.rt:28:9
 returns : tie.Need-returns
 returns c = (λ xs h. end-none xs (now (c .before .before .args .text)) _ (h ∙ c .if1 .taken), omega arith)
 
--- src/pieces.rt:30:5
 put-bad-requires : tie.Need-put-bad-requires
 put-bad-requires c κs = search needs
 
--- src/pieces.rt:23:1
 same-length : tie.Need-same-length
 same-length c = search needs
 
--- src/pieces.rt:23:1
 returns-2 : tie.Need-returns-2
 returns-2 c = let p = c .before .before .put-bad in (λ xs h. end-bad xs _ _ _ _ (λ z. c .before .before .before .before .if1 .left (sym h ∙ z)) (p .ensures .0), p .ensures .1)
 

@@ -14,44 +14,35 @@ Inv-loop buf₀ from n i₀ buf i = (take i buf ≡ take i (drop from buf₀)) �
 abbrev μ-loop : tie.MeasureT-loop
 μ-loop buf₀ from n i₀ buf i = n - i
 
--- src/lib.rt:153:5
 loop-holds : tie.Need-loop-holds Inv-loop μ-loop
 loop-holds c = (refl, refl, omega arith, refl)
 
--- src/lib.rt:154:22
 add-buf : tie.Need-add-buf Inv-loop μ-loop
 add-buf c = omega arith
 
--- src/lib.rt:154:18
 slice-read-buf : tie.Need-slice-read-buf Inv-loop μ-loop
 slice-read-buf c = omega arith
 
--- src/lib.rt:154:9
 slice-write-buf : tie.Need-slice-write-buf Inv-loop μ-loop
 slice-write-buf c = omega arith
 
--- src/lib.rt:155:9
 add-i : tie.Need-add-i Inv-loop μ-loop
 add-i c = omega arith
 
--- src/lib.rt:153:5
 loop-less : tie.Need-loop-less Inv-loop μ-loop
 loop-less c = omega arith
 
--- src/lib.rt:153:5
 loop-again : tie.Need-loop-again Inv-loop μ-loop
-loop-again c = 
+loop-again c =
     let l = c .before .before .loop in
     let a = c .before .before .before .args in
     let h : a .from + l .i < length (now (a .buf)) = omega arith in
     let t = keep-turn (l .buf) (now (a .buf)) (a .from) (l .i) h (l .inv .3) (l .inv .0) (l .inv .1) in
     (t .0, t .1, omega arith, simp length-set (l .inv .3))
 
--- src/lib.rt:148:1
 same-length : tie.Need-same-length Inv-loop μ-loop
 same-length c = c .before .loop .inv .3
 
--- src/lib.rt:148:1
 returns : tie.Need-returns Inv-loop μ-loop
 returns c = let e : c .before .loop .i ≡ c .before .before .args .n = omega arith in rw e at (c .before .loop .inv .0)
 

@@ -7,61 +7,43 @@ use Rattle.listing.proofs.Wholes.{room-left, listed-bad, listed-over, l
 use borrow.Author.Needs.{needs}
 use Rattle.listing.proofs.pieces.list.Statement.{statement}
 use Rattle.listing.proofs.pieces.list.Tie as tie
-use Rattle.listing.proofs.pieces.list.Reads as reads
-use Rattle.listing.proofs.pieces.list.Lts as lts
-use Rattle.kernel.proofs.Tables.none.Reads as none-reads
-use Rattle.listing.proofs.buffers.drain.Reads as drain-reads
-use Rattle.listing.proofs.pieces.finish.Reads as finish-reads
 
--- src/pieces.rt:43:19
 none-requires : tie.Need-none-requires
 none-requires c κs = search needs
 
--- src/pieces.rt:43:9
 drain-requires : tie.Need-drain-requires
 drain-requires c κs = none (c .before .before .before .«none» .ensures)
 
--- src/pieces.rt:48:22
 enum-told : tie.Need-enum-told
 enum-told c = search needs
 
--- src/pieces.rt:49:23
 enum-told-2 : tie.Need-enum-told-2
 enum-told-2 c = search needs
 
--- src/pieces.rt:50:43
 enum-told-3 : tie.Need-enum-told-3
 enum-told-3 c = search needs
 
--- src/pieces.rt:50:43
 sub-finish : tie.Need-sub-finish
 sub-finish c = search needs
 
--- src/pieces.rt:50:36
 finish-requires : tie.Need-finish-requires
 finish-requires c κs = let d = c .before .before .before .before .before .drain in omega (arith, room-left _ _ _ _ _ _ _ _ _ _ _ (c .before .enum-told3 .given .1) (d .ensures .0) .1)
 
--- src/pieces.rt:38:1
 same-length : tie.Need-same-length
 same-length c = search needs
 
--- src/pieces.rt:38:1
 returns : tie.Need-returns
 returns c = let d = c .before .before .before .before .drain in let log = now (c .before .before .before .before .before .before .before .before .before .before .before .args .log) in let n = c .before .before .before .before .before .before .before .before .«none» .ensures in (listed-bad _ n log (d .result .tables) (d .last .1 .0) (d .last .1 .1 .0) (drop (d .result .taken) log) (d .last .1 .1 .1 .1 .0) (d .result .used) (d .result .stop) (d .ensures .0) (c .enum-told .given .1), d .ensures .3)
 
--- src/pieces.rt:38:1
 same-length-2 : tie.Need-same-length-2
 same-length-2 c = search needs
 
--- src/pieces.rt:38:1
 returns-2 : tie.Need-returns-2
 returns-2 c = let d = c .before .before .before .before .drain in let log = now (c .before .before .before .before .before .before .before .before .before .before .before .args .log) in let n = c .before .before .before .before .before .before .before .before .«none» .ensures in (listed-over _ n log (d .result .tables) (d .last .1 .0) (d .last .1 .1 .0) (drop (d .result .taken) log) (d .last .1 .1 .1 .1 .0) (d .result .used) (d .result .stop) (d .ensures .0) (c .enum-told2 .given .1) (d .ensures .3), tt)
 
--- src/pieces.rt:38:1
 same-length-3 : tie.Need-same-length-3
 same-length-3 c = search needs
 
--- src/pieces.rt:38:1
 returns-3 : tie.Need-returns-3
 returns-3 c = let d = c .before .before .before .before .before .before .before .before .drain in let log = now (c .before .before .before .before .before .before .before .before .before .before .before .before .before .before .before .args .log) in let n = c .before .before .before .before .before .before .before .before .before .before .before .before .«none» .ensures in let f = c .before .before .finish in (listed-text _ n log (d .result .tables) (d .last .1 .0) (d .last .1 .1 .0) (drop (d .result .taken) log) (d .last .1 .1 .1 .1 .0) (d .result .used) (d .result .stop) (d .ensures .0) (c .before .before .before .before .enum-told3 .given .1) _ _ (f .ensures .0 (drop (d .result .taken) log) (length-drop (d .result .taken) log)), f .ensures .1)
 

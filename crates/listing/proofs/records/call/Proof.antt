@@ -7,46 +7,32 @@ use Rattle.listing.proofs.Calls.{unstarted}
 use borrow.Author.Needs.{needs}
 use Rattle.listing.proofs.records.call.Statement.{statement}
 use Rattle.listing.proofs.records.call.Tie as tie
-use Rattle.listing.proofs.records.call.Reads as reads
-use Rattle.listing.proofs.records.call.Lts as lts
-use Rattle.events.proofs.call_good.Reads as call-good-reads
-use Rattle.events.proofs.system.start_event.Reads as start-event-reads
-use Rattle.kernel.proofs.Tables.refuse.Reads as refuse-reads
 
--- src/records.rt:55:9
 start-event-requires : tie.Need-start-event-requires
 start-event-requires c κs = search needs
 
--- src/records.rt:55:9
 same-length : tie.Need-same-length
 same-length c = search needs
 
--- src/records.rt:55:9
 returns : tie.Need-returns
 unfolding decode
 returns c = by-kind _ _ _ _ _ 256 _ _ (c .before .before .before .before .if1 .taken) refl (c .before .before .start-event .ensures _)
 
--- src/records.rt:58:9
 refuse-requires : tie.Need-refuse-requires
 refuse-requires c κs = search needs
 
--- src/records.rt:58:9
 returns-2 : tie.Need-returns-2
 returns-2 c = unstarted _ _ _ _ _ _ (held-none _ (c .before .before .before .before .before .before .before .pre .0) (c .before .if2 .taken)) (c .before .before .before .if1 .left) (c .refuse .ensures)
 
--- src/records.rt:60:5
 call-good-requires : tie.Need-call-good-requires
 call-good-requires c κs = let s = c .before .before .before .before .before .before .before .before in let g = held-started _ (s .pre .0) (c .before .before .if2 .left) in (g .0, s .pre .1 ∙ lent-theirs (s .args .t) _ _ (c .before .before .before .before .if1 .left) (g .1))
 
--- src/records.rt:50:1
 same-length-2 : tie.Need-same-length-2
 same-length-2 c = search needs
 
--- src/records.rt:50:1
 same-length-3 : tie.Need-same-length-3
 same-length-3 c = search needs
 
--- src/records.rt:50:1
 returns-3 : tie.Need-returns-3
 returns-3 c = search needs
 

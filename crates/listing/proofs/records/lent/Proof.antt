@@ -6,40 +6,28 @@ use Rattle.listing.proofs.Calls.{lent-other, lent-start, lent-short}
 use borrow.Author.Needs.{needs}
 use Rattle.listing.proofs.records.lent.Statement.{statement}
 use Rattle.listing.proofs.records.lent.Tie as tie
-use Rattle.listing.proofs.records.lent.Reads as reads
-use Rattle.listing.proofs.records.lent.Lts as lts
-use Rattle.listing.proofs.records.at_most_four.Reads as at-most-four-reads
-use Rattle.listing.proofs.records.wide.Reads as wide-reads
 
--- src/records.rt:41:37
 wide-requires : tie.Need-wide-requires
 wide-requires c κs = search needs
 
--- src/records.rt:41:24
 at-most-four-requires : tie.Need-at-most-four-requires
 at-most-four-requires c κs = search needs
 
--- src/records.rt:41:16
 mul-result : tie.Need-mul-result
 mul-result c = search needs
 
--- src/records.rt:41:9
 returns : tie.Need-returns
 returns c = let a = c .before .before .before .args in (lent-other (a .segments) (a .kind) (a .size) _ (c .before .before .if1 .taken) (c .at-most-four .ensures .0 ∙ ap (λ (n : ℕ). min 4 n) (c .before .wide .ensures .0)), omega (arith, c .at-most-four .ensures .1))
 
--- src/records.rt:44:9
 returns-2 : tie.Need-returns-2
 returns-2 c = let a = c .before .before .args in (lent-short (a .segments) (a .kind) (a .size) (c .before .if1 .left) (c .if2 .taken), omega arith)
 
--- src/records.rt:46:13
 at-most-four-requires-2 : tie.Need-at-most-four-requires-2
 at-most-four-requires-2 c κs = search needs
 
--- src/records.rt:46:5
 mul-result-2 : tie.Need-mul-result-2
 mul-result-2 c = search needs
 
--- src/records.rt:37:1
 returns-3 : tie.Need-returns-3
 returns-3 c = let a = c .before .before .before .args in (lent-start (a .segments) (a .kind) (a .size) _ (c .before .before .if1 .left) (c .at-most-four2 .ensures .0), omega (arith, c .at-most-four2 .ensures .1))
 

@@ -7,67 +7,45 @@ use Rattle.listing.proofs.Calls.{stepped, held-after}
 use borrow.Author.Needs.{needs}
 use Rattle.listing.proofs.records.record.Statement.{statement}
 use Rattle.listing.proofs.records.record.Tie as tie
-use Rattle.listing.proofs.records.record.Reads as reads
-use Rattle.listing.proofs.records.record.Lts as lts
-use Rattle.kernel.proofs.Answer.a.Reads as a-reads
-use Rattle.kernel.proofs.Answer.b.Reads as b-reads
-use Rattle.kernel.proofs.Answer.number.Reads as number-reads
-use Rattle.listing.proofs.lines.put_line.Reads as put-line-reads
-use Rattle.listing.proofs.records.call.Reads as call-reads
-use Rattle.listing.proofs.records.lent.Reads as lent-reads
-use Rattle.listing.proofs.records.wider.Reads as wider-reads
 
--- src/records.rt:68:9
 lent-requires : tie.Need-lent-requires
 lent-requires c κs = search needs
 
--- src/records.rt:69:21
 slice-relend-prefix-call : tie.Need-slice-relend-prefix-call
 slice-relend-prefix-call c = search needs
 
--- src/records.rt:69:21
 slice-aggregate-call : tie.Need-slice-aggregate-call
 slice-aggregate-call c = let n = c .before .lent in let s = c .before .before .before .before .before in sym (length-take-le (n .result) (now (s .args .ram)) (omega (arith, n .ensures .1, s .pre .1)))
 
--- src/records.rt:69:9
 call-requires : tie.Need-call-requires
 call-requires c κs = let n = c .before .before .lent in let s = c .before .before .before .before .before .before in (s .pre .0, length-take-le (n .result) (now (s .args .ram)) (omega (arith, n .ensures .1, s .pre .1)) ∙ n .ensures .0)
 
--- src/records.rt:72:37
 number-requires : tie.Need-number-requires
 number-requires c κs = search needs
 
--- src/records.rt:72:31
 wider-requires : tie.Need-wider-requires
 wider-requires c κs = search needs
 
--- src/records.rt:72:61
 a-requires : tie.Need-a-requires
 a-requires c κs = search needs
 
--- src/records.rt:72:55
 wider-requires-2 : tie.Need-wider-requires-2
 wider-requires-2 c κs = search needs
 
--- src/records.rt:72:74
 b-requires : tie.Need-b-requires
 b-requires c κs = search needs
 
--- src/records.rt:72:9
 put-line-requires : tie.Need-put-line-requires
 put-line-requires c κs = search needs
 
--- src/records.rt:64:1
 same-length : tie.Need-same-length
 same-length c = search needs
 
--- src/records.rt:64:1
 same-length-2 : tie.Need-same-length-2
 same-length-2 c = search needs
 
--- src/records.rt:64:1
 returns : tie.Need-returns
-returns c = 
+returns c =
     let s = c .before .before .before .before .before .before .before .before .before .before .before .before .before .before .before .before .before .before .before .before .before in
     let a = s .args in
     let n = c .before .before .before .before .before .before .before .before .before .before .before .before .before .before .before .before .before .lent in
@@ -76,11 +54,12 @@ returns c =
     let y = c .before .before .before .before .before .before .before .wider2 .ensures ∙ c .before .before .before .before .before .before .before .before .a .ensures in
     let l = c .before .before .put-line in
     let ram = k .last .1 .0 in
-    let out = k .last .1 .1 .1 .1 .0 in
-    (stepped (a .t) (now (a .ram)) (now (a .out)) (a .kind) (now (a .body)) (n .result) (n .ensures .0) (k .result) ram out (k .ensures)
-     (now (a .text)) (a .used) _ _ _ x y (c .before .before .before .before .before .before .b .ensures) (l .last .1 .1 .1 .1 .1 .0) (l .result) (l .ensures .0) (l .ensures .1),
-     held-after (a .t) (now (a .ram)) (now (a .out)) (a .kind) (now (a .body)) (n .result) (n .ensures .0) (k .result) ram out (k .ensures)
-     (s .pre .1) (λ i. omega (arith, c .before .before .before .before .before .before .before .before .before .before .before .before .before .before .before .before .before .before .before .shared-slice-known .given i)) (s .pre .0))
+    let out = k .last .1 .1 .1 .1 .0 in (
+      stepped (a .t) (now (a .ram)) (now (a .out)) (a .kind) (now (a .body)) (n .result) (n .ensures .0) (k .result) ram out (k .ensures)
+          (now (a .text)) (a .used) _ _ _ x y (c .before .before .before .before .before .before .b .ensures) (l .last .1 .1 .1 .1 .1 .0) (l .result) (l .ensures .0) (l .ensures .1),
+      held-after (a .t) (now (a .ram)) (now (a .out)) (a .kind) (now (a .body)) (n .result) (n .ensures .0) (k .result) ram out (k .ensures)
+          (s .pre .1) (λ i. omega (arith, c .before .before .before .before .before .before .before .before .before .before .before .before .before .before .before .before .before .before .before .shared-slice-known .given i)) (s .pre .0),
+    )
 
 pub record-spec : {M : Type 1} → statement M
 record-spec =
