@@ -1,0 +1,52 @@
+-- Laws of a call over bytes: the lengths that it takes, and what it leaves. Assumes nothing.
+use mathlib.Core.Path.{_≡_, sym, ap, _∙_}
+use mathlib.Core.Bool.{true, false}
+use mathlib.Core.List.{List}
+use Prim.Native.Nat.{ℕ, _-_, _<_, _≤_}
+use native.Mathlib.Omega.{arith}
+use borrow.Author.Tests.{eq-eqb, ne-eqb, lt-ltb, le-ltb}
+use lib.ListN.{length, take, drop, length-drop}
+use lib.Seq.{take-all}
+use Rattle.kernel.specs.Definition.Step.{Result, result}
+use Rattle.kernel.specs.declared.Tables.{Tables}
+use Rattle.kernel.specs.declared.Outcome.{Outcome}
+use Rattle.events.specs.Records.{u16At, stepOf}
+use Rattle.image.specs.Image.{SIZE, imageOf, tablesOf, answerBytes}
+use Rattle.image.specs.Call.{fits, stepOn, Done}
+
+module _ (image event reply : List ℕ) where
+  pub no-image : (length image ≡ SIZE → ⊥) → false ≡ fits image event reply
+  unfolding fits
+  no-image h = rw (ne-eqb (length image) SIZE h)
+
+  pub no-kind : length image ≡ SIZE → length event < 2 → false ≡ fits image event reply
+  unfolding fits
+  no-kind h g = rw (eq-eqb (length image) SIZE h, lt-ltb (length event) 2 g)
+
+  pub too-long : length image ≡ SIZE → 2 ≤ length event → 4096 < length event → false ≡ fits image event reply
+  unfolding fits
+  too-long h g k = rw (eq-eqb (length image) SIZE h, le-ltb (length event) 2 g, lt-ltb 4096 (length event) k)
+
+  pub no-reply : length image ≡ SIZE → 2 ≤ length event → length event ≤ 4096 → (length reply ≡ 6 → ⊥) → false ≡ fits image event reply
+  unfolding fits
+  no-reply h g k l = rw (eq-eqb (length image) SIZE h, le-ltb (length event) 2 g, le-ltb 4096 (length event) k, ne-eqb (length reply) 6 l)
+
+  pub all-fit : length image ≡ SIZE → 2 ≤ length event → length event ≤ 4096 → length reply ≡ 6 → true ≡ fits image event reply
+  unfolding fits
+  all-fit h g k l = rw (eq-eqb (length image) SIZE h, le-ltb (length event) 2 g, le-ltb 4096 (length event) k, eq-eqb (length reply) 6 l)
+
+-- a record's body is all of it after the kind
+pub body-is : (event : List ℕ) → take (length event - 2) (drop 2 event) ≡ drop 2 event
+body-is event = take-all (length event - 2) (drop 2 event) (rw length-drop (omega arith))
+
+pub done : (image ram event out image′ ram′ out′ reply′ : List ℕ) (t : Tables) (kind : ℕ) (o : Outcome) → t ≡ tablesOf image → kind ≡ u16At event 0
+    → result o ram′ out′ ≡ stepOf t ram kind (take (length event - 2) (drop 2 event)) out → image′ ≡ imageOf (o .tables) → reply′ ≡ answerBytes (o .answer)
+    → Done image ram event out image′ ram′ out′ reply′
+done image ram event out image′ ram′ out′ reply′ t kind o p q s i r =
+    let h : result o ram′ out′ ≡ stepOn image ram event out = s ∙ rw (body-is event, p, q) in
+    record {
+      image-is = i ∙ ap (λ (x : Result). imageOf (x .tables)) h;
+      ram-is = ap (λ (x : Result). x .ram) h;
+      out-is = ap (λ (x : Result). x .output) h;
+      reply-is = r ∙ ap (λ (x : Result). answerBytes (x .answer)) h;
+    }

@@ -1,0 +1,6 @@
+-- Laws that the functions' proofs cite.
+pub mod Known
+pub mod Laws
+pub mod Rows
+pub mod Made
+pub mod Calls

@@ -1,0 +1,45 @@
+-- `tables::encode` puts the four parts of an image. Assumes nothing.
+use mathlib.Core.Path.{_∙_}
+use native.Mathlib.Omega.{arith}
+use Rattle.text.proofs.Laws.{put-then}
+use Rattle.image.specs.Image.{imageOf}
+use Rattle.image.proofs.Laws.{whole}
+use borrow.Author.Needs.{needs}
+use Rattle.image.proofs.tables.encode.Statement.{statement}
+use Rattle.image.proofs.tables.encode.Tie as tie
+
+put-segments-requires : tie.Need-put-segments-requires
+put-segments-requires c κs = search needs
+
+put-boundaries-requires : tie.Need-put-boundaries-requires
+put-boundaries-requires c κs = search needs
+
+put-rows-requires : tie.Need-put-rows-requires
+put-rows-requires c κs = search needs
+
+put-default-requires : tie.Need-put-default-requires
+put-default-requires c κs = search needs
+
+same-length : tie.Need-same-length
+same-length c = search needs
+
+returns : tie.Need-returns
+unfolding imageOf
+returns c =
+    let p = c .before .before .before .before .before .before .before .before .before .before .before .before .before .before .put-segments in
+    let q = c .before .before .before .before .before .before .before .before .before .before .put-boundaries in
+    let r = c .before .before .before .before .before .before .put-rows in
+    let s = c .before .before .put-default in
+    let long = s .kept .1 .0 ∙ r .kept .1 .0 ∙ q .kept .1 .0 ∙ p .kept .1 .0 ∙ c .before .before .before .before .before .before .before .before .before .before .before .before .before .before .before .before .before .pre in
+    whole (put-then (put-then (put-then (p .ensures .0) (q .ensures .0)) (r .ensures .0)) (s .ensures .0)) (omega (arith, long, p .ensures .1, q .ensures .1, r .ensures .1, s .ensures .1))
+
+pub encode-spec : {M : Type 1} → statement M
+encode-spec =
+    tie.close
+    (tie.spec
+    put-segments-requires
+    put-boundaries-requires
+    put-rows-requires
+    put-default-requires
+    same-length
+    returns)

@@ -1,0 +1,42 @@
+-- `tables::put_rows` puts 642 bytes. Assumes nothing.
+use native.Mathlib.Omega.{arith}
+use Rattle.text.proofs.Laws.{put-then}
+use Rattle.image.specs.Image.{rowBytes}
+use borrow.Author.Needs.{needs}
+use Rattle.image.proofs.tables.put_rows.Statement.{statement}
+use Rattle.image.proofs.tables.put_rows.Tie as tie
+
+put-requires : tie.Need-put-requires
+put-requires c κs = search needs
+
+put-channels-requires : tie.Need-put-channels-requires
+put-channels-requires c κs = search needs
+
+put-requires-2 : tie.Need-put-requires-2
+put-requires-2 c κs = search needs
+
+put-devices-requires : tie.Need-put-devices-requires
+put-devices-requires c κs = search needs
+
+same-length : tie.Need-same-length
+same-length c = search needs
+
+returns : tie.Need-returns
+unfolding rowBytes
+returns c =
+    let p = c .before .before .before .before .before .before .before .before .before .before .before .before .before .before .put .ensures in
+    let q = c .before .before .before .before .before .before .before .before .before .before .put-channels .ensures in
+    let r = c .before .before .before .before .before .before .put2 .ensures in
+    let s = c .before .before .put-devices .ensures in
+    (put-then (put-then (put-then p (q .0)) r) (s .0), omega (arith, p .stop, q .1, r .stop, s .1))
+
+pub put-rows-spec : {M : Type 1} → statement M
+put-rows-spec =
+    tie.close
+    (tie.spec
+    put-requires
+    put-channels-requires
+    put-requires-2
+    put-devices-requires
+    same-length
+    returns)

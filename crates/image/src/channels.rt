@@ -1,0 +1,65 @@
+// The rows of channels, from bytes and to bytes.
+ghost use mathlib.Core.Path.{_≡_};
+ghost use Prim.Native.Nat.{_+_, _≤_};
+ghost use lib.ListN.{length, drop};
+ghost use Rattle.text.specs.Text.{Put};
+ghost use Rattle.image.specs.Image.{channelBytes, channelOf, bytesOf, rowsOf};
+use super::fields::put_u16;
+use events::fields::u16_at;
+use rows::Channel;
+use text::put;
+
+// A row of five bytes.
+fn channel_at(image: &[u8], at: usize) -> Channel
+    requires { ⌜ at + 5 ≤ length (now image) ⌝ }
+    ensures { λ r. ⌜ r ≡ channelOf (drop at (now (image .entry))) ⌝ }
+{
+    Channel {
+        number: image[at],
+        device: image[at + 1],
+        unit: image[at + 2],
+        n: u16_at(image, at + 3),
+    }
+}
+
+pub fn channels_at(image: &[u8], at: usize) -> [Channel; 32]
+    requires { ⌜ at + 160 ≤ length (now image) ⌝ }
+    ensures { λ r. ⌜ r ≡ rowsOf channelOf 5 32 (drop at (now (image .entry))) ⌝ }
+{
+    let mut rows = [Channel {
+        number: 0,
+        device: 0,
+        unit: 0,
+        n: 0,
+    }; 32];
+    let mut i = 0;
+    while i < 32 {
+        rows[i] = channel_at(image, at + 5 * i);
+        i += 1;
+    }
+    rows
+}
+
+fn put_channel(c: Channel, to: &mut [u8], at: usize) -> usize
+    requires { ⌜ at + 5 ≤ length (now to) ⌝ }
+    ensures { λ r. ⌜ Put (now (to .entry)) (now (to .exit)) at r (channelBytes c) ⌝ }
+{
+    let m = put(to, at, c.number);
+    let m = put(to, m, c.device);
+    let m = put(to, m, c.unit);
+    put_u16(c.n, to, m)
+}
+
+pub fn put_channels(channels: [Channel; 32], to: &mut [u8], at: usize) -> usize
+    requires { ⌜ at + 160 ≤ length (now to) ⌝ }
+    ensures { λ r. ⌜ Put (now (to .entry)) (now (to .exit)) at r (bytesOf channelBytes channels) × (r ≡ at + 160) ⌝ }
+{
+    let mut m = at;
+    let mut i = 0;
+    while i < 32 {
+        let c = channels[i];
+        m = put_channel(c, to, m);
+        i += 1;
+    }
+    m
+}

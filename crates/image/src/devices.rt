@@ -1,0 +1,70 @@
+// The rows of devices, from bytes and to bytes.
+ghost use mathlib.Core.Path.{_≡_};
+ghost use Prim.Native.Nat.{_+_, _≤_};
+ghost use lib.ListN.{length, drop};
+ghost use Rattle.text.specs.Text.{Put};
+ghost use Rattle.image.specs.Image.{bitOf, deviceBytes, deviceOf, bytesOf, rowsOf};
+use super::fields::name_at;
+use super::fields::put_run;
+use rows::Device;
+use text::put;
+
+// A row of 30 bytes.
+fn device_at(image: &[u8], at: usize) -> Device
+    requires { ⌜ at + 30 ≤ length (now image) ⌝ }
+    ensures { λ r. ⌜ r ≡ deviceOf (drop at (now (image .entry))) ⌝ }
+{
+    let name = name_at(image, at);
+    Device {
+        name,
+        length: image[at + 28],
+        enabled: image[at + 29] != 0,
+    }
+}
+
+pub fn devices_at(image: &[u8], at: usize) -> [Device; 16]
+    requires { ⌜ at + 480 ≤ length (now image) ⌝ }
+    ensures { λ r. ⌜ r ≡ rowsOf deviceOf 30 16 (drop at (now (image .entry))) ⌝ }
+{
+    let mut rows = [Device {
+        name: [0u8; 28],
+        length: 0,
+        enabled: false,
+    }; 16];
+    let mut i = 0;
+    while i < 16 {
+        rows[i] = device_at(image, at + 30 * i);
+        i += 1;
+    }
+    rows
+}
+
+fn bit(b: bool) -> u8
+    ensures { λ r. ⌜ r ≡ bitOf b ⌝ }
+{
+    if b { 1 } else { 0 }
+}
+
+fn put_device(d: Device, to: &mut [u8], at: usize) -> usize
+    requires { ⌜ at + 30 ≤ length (now to) ⌝ }
+    ensures { λ r. ⌜ Put (now (to .entry)) (now (to .exit)) at r (deviceBytes d) × (r ≡ at + 30) ⌝ }
+{
+    let name = d.name;
+    let m = put_run(&name, to, at);
+    let m = put(to, m, d.length);
+    put(to, m, bit(d.enabled))
+}
+
+pub fn put_devices(devices: [Device; 16], to: &mut [u8], at: usize) -> usize
+    requires { ⌜ at + 480 ≤ length (now to) ⌝ }
+    ensures { λ r. ⌜ Put (now (to .entry)) (now (to .exit)) at r (bytesOf deviceBytes devices) × (r ≡ at + 480) ⌝ }
+{
+    let mut m = at;
+    let mut i = 0;
+    while i < 16 {
+        let d = devices[i];
+        m = put_device(d, to, m);
+        i += 1;
+    }
+    m
+}
