@@ -1,0 +1,37 @@
+-- Laws of what a request brings, and of the reply to it. Assumes nothing.
+use mathlib.Core.Path.{_≡_, refl, sym, ap, _∙_}
+use mathlib.Core.List.{List, _++_}
+use Prim.Native.Nat.{ℕ, zero, suc, _+_, _-_, _≤_}
+use lib.ListN.{length, take, drop, replicate}
+use lib.Seq.{take-at, length-take-le}
+use Rattle.kernel.specs.Definition.Step.{Result, result}
+use Rattle.kernel.specs.declared.Tables.{Tables}
+use Rattle.kernel.specs.declared.Outcome.{Outcome}
+use Rattle.text.specs.Text.{Put}
+use Rattle.events.specs.Records.{u16At, stepOf}
+use Rattle.image.proofs.Calls.{body-is}
+use Rattle.stream.specs.Seed.{next, seeded}
+use Rattle.stream.specs.Replies.{stepOn, replyBytes, Replied}
+
+seeded-length : (n x : ℕ) → length (seeded n x) ≡ n
+seeded-length zero x = refl
+seeded-length (suc n) x = ap suc (seeded-length n (next x))
+
+-- the first bytes of a RAM that were lent and filled
+pub filled : (ram part rest : List ℕ) (size seed n x : ℕ) → size ≤ length ram → part ≡ seeded (length (take size ram)) seed → size ≡ n → seed ≡ x → take size (part ++ rest) ≡ seeded n x
+filled ram part rest size seed n x h p e f =
+    let l : length (take size ram) ≡ size = length-take-le size ram h in
+    let q : part ≡ seeded size seed = p ∙ rw l in
+    take-at part rest size (ap length q ∙ seeded-length size seed) ∙ q ∙ rw (e, f)
+
+pub replied : (t : Tables) (ram event out text : List ℕ) (at : ℕ) (blank : List ℕ) (kind : ℕ) (o : Outcome) (ram′ out′ text′ : List ℕ) (r : ℕ)
+    → blank ≡ replicate (length out) 165 → kind ≡ u16At event 0 → result o ram′ out′ ≡ stepOf t ram kind (take (length event - 2) (drop 2 event)) blank
+    → Put text text′ at r (replyBytes (result o ram′ out′)) → r ≡ at + 30 → Replied t ram event out text at (o .tables) ram′ out′ text′
+replied t ram event out text at blank kind o ram′ out′ text′ r b k s p e =
+    let h : result o ram′ out′ ≡ stepOn t ram event (length out) = s ∙ rw (body-is event, k, b) in
+    record {
+      tables-is = ap (λ (x : Result). x .tables) h;
+      ram-is = ap (λ (x : Result). x .ram) h;
+      out-is = ap (λ (x : Result). x .output) h;
+      reply-is = rw (← h, ← e) p;
+    }

@@ -1,0 +1,60 @@
+-- Laws of what bytes begin with, a law a branch. Assumes nothing.
+use mathlib.Core.Path.{_≡_, _∙_}
+use mathlib.Core.List.{List}
+use Prim.Native.Nat.{ℕ, _+_, _<_, _≤_}
+use native.Mathlib.Omega.{arith}
+use borrow.Author.Tests.{eq-eqb, ne-eqb, lt-ltb, le-ltb}
+use lib.ListN.{length}
+use Rattle.events.specs.Records.{u8At, u16At}
+use Rattle.stream.specs.Numbers.{u32At}
+use Rattle.stream.specs.Requests.{lentAt, requestIn}
+use Rattle.stream.specs.declared.Request.{Request}
+use Rattle.stream.specs.declared.Found.{Found}
+use Rattle.stream.specs.declared.Found.the-variants.{Whole, Part, Bad}
+
+module _ (bytes : List ℕ) (at : ℕ) where
+  pub head-cut : length bytes < at + 4 → Part ≡ lentAt bytes at
+  unfolding lentAt
+  head-cut h = rw (lt-ltb (length bytes) (at + 4) h)
+
+  module _ (h : at + 4 ≤ length bytes) (n : ℕ) (e : n ≡ u16At bytes (at + 2)) where
+    pub kind-cut : at + 4 + n < at + 4 + 2 → Bad ≡ lentAt bytes at
+    unfolding lentAt
+    kind-cut k = rw (← e, le-ltb (length bytes) (at + 4) h, lt-ltb (at + 4 + n) (at + 4 + 2) k)
+
+    pub record-cut : at + 4 + 2 ≤ at + 4 + n → length bytes < at + 4 + n → Part ≡ lentAt bytes at
+    unfolding lentAt
+    record-cut k l = rw (← e, le-ltb (length bytes) (at + 4) h, le-ltb (at + 4 + n) (at + 4 + 2) k, lt-ltb (length bytes) (at + 4 + n) l)
+
+    pub all-there : at + 4 + 2 ≤ at + 4 + n → at + 4 + n ≤ length bytes → (out : ℕ) → out ≡ u16At bytes at → Whole (record { out = out; start = at + 4; end = at + 4 + n }) ≡ lentAt bytes at
+    unfolding lentAt
+    all-there k l out o = rw (← e, ← o, le-ltb (length bytes) (at + 4) h, le-ltb (at + 4 + n) (at + 4 + 2) k, le-ltb (length bytes) (at + 4 + n) l)
+
+module _ (bytes : List ℕ) where
+  pub none : length bytes < 1 → Part ≡ requestIn bytes
+  unfolding requestIn
+  none h = rw (lt-ltb (length bytes) 1 h)
+
+  module _ (h : 1 ≤ length bytes) where
+    pub goes-on : u8At bytes 0 ≡ 0 → lentAt bytes 1 ≡ requestIn bytes
+    unfolding requestIn
+    goes-on a = rw (le-ltb (length bytes) 1 h, eq-eqb (u8At bytes 0) 0 a)
+
+    module _ (a : u8At bytes 0 ≡ 0 → ⊥) where
+      pub unknown : (u8At bytes 0 ≡ 1 → ⊥) → Bad ≡ requestIn bytes
+      unfolding requestIn
+      unknown b = rw (le-ltb (length bytes) 1 h, ne-eqb (u8At bytes 0) 0 a, ne-eqb (u8At bytes 0) 1 b)
+
+      module _ (b : u8At bytes 0 ≡ 1) where
+        pub image-cut : length bytes < 785 → Part ≡ requestIn bytes
+        unfolding requestIn
+        image-cut l = rw (le-ltb (length bytes) 1 h, ne-eqb (u8At bytes 0) 0 a, eq-eqb (u8At bytes 0) 1 b, lt-ltb (length bytes) 785 l)
+
+        module _ (l : 785 ≤ length bytes) (n : ℕ) (e : n ≡ u32At bytes 777) where
+          pub too-large : 524288 < n → Bad ≡ requestIn bytes
+          unfolding requestIn
+          too-large k = rw (← e, le-ltb (length bytes) 1 h, ne-eqb (u8At bytes 0) 0 a, eq-eqb (u8At bytes 0) 1 b, le-ltb (length bytes) 785 l, lt-ltb 524288 n k)
+
+          pub brings : n ≤ 524288 → lentAt bytes 785 ≡ requestIn bytes
+          unfolding requestIn
+          brings k = rw (← e, le-ltb (length bytes) 1 h, ne-eqb (u8At bytes 0) 0 a, eq-eqb (u8At bytes 0) 1 b, le-ltb (length bytes) 785 l, le-ltb 524288 n k)

@@ -1,0 +1,4 @@
+-- Laws that the functions' proofs cite.
+pub mod Laws
+pub mod Branches
+pub mod Answering

@@ -1,0 +1,65 @@
+-- `bytes::keep` moves a byte a turn. The invariant: the first i are moved, and those behind stand as they did. Assumes nothing.
+use denote.Ref.{now}
+use mathlib.Core.Path.{_≡_, refl}
+use Prim.Native.Nat.{_+_, _-_, _<_, _≤_}
+use native.Mathlib.Omega.{arith}
+use lib.ListN.{length, take, drop, length-set}
+use Rattle.stream.proofs.Laws.{moved-front, moved-back}
+use Rattle.stream.proofs.bytes.keep.Statement.{statement}
+use Rattle.stream.proofs.bytes.keep.Tie as tie
+
+abbrev Inv-loop : tie.InvT-loop
+Inv-loop buf₀ start n i₀ buf i = (take i buf ≡ take i (drop start buf₀)) × (drop i buf ≡ drop i buf₀) × (i ≤ n) × (length buf ≡ length buf₀)
+
+abbrev μ-loop : tie.MeasureT-loop
+μ-loop buf₀ start n i₀ buf i = n - i
+
+loop-holds : tie.Need-loop-holds Inv-loop μ-loop
+loop-holds c = (refl, refl, omega arith, refl)
+
+add-buf : tie.Need-add-buf Inv-loop μ-loop
+add-buf c = omega arith
+
+slice-read-buf : tie.Need-slice-read-buf Inv-loop μ-loop
+slice-read-buf c = omega arith
+
+slice-write-buf : tie.Need-slice-write-buf Inv-loop μ-loop
+slice-write-buf c = omega arith
+
+add-i : tie.Need-add-i Inv-loop μ-loop
+add-i c = omega arith
+
+loop-less : tie.Need-loop-less Inv-loop μ-loop
+loop-less c = omega arith
+
+loop-again : tie.Need-loop-again Inv-loop μ-loop
+loop-again c =
+    let l = c .before .before .loop in
+    let a = c .before .before .before .args in
+    let h : a .start + l .i < length (now (a .buf)) = omega arith in
+    (moved-front (now (a .buf)) (l .buf) (a .start) (l .i) h (l .inv .3) (l .inv .1) (l .inv .0), moved-back (now (a .buf)) (l .buf) (a .start) (l .i) h (l .inv .3) (l .inv .1) _, omega arith, simp length-set (l .inv .3))
+
+same-length : tie.Need-same-length Inv-loop μ-loop
+same-length c = c .before .loop .inv .3
+
+returns : tie.Need-returns Inv-loop μ-loop
+returns c =
+    let l = c .before .loop in
+    let e : l .i ≡ c .before .before .args .n = omega arith in
+    rw e at (l .inv .0)
+
+pub keep-spec : {M : Type 1} → statement M
+keep-spec =
+    tie.close
+    (tie.spec
+    Inv-loop
+    μ-loop
+    loop-holds
+    add-buf
+    slice-read-buf
+    slice-write-buf
+    add-i
+    loop-less
+    loop-again
+    same-length
+    returns)

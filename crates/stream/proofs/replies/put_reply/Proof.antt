@@ -1,0 +1,59 @@
+-- `replies::put_reply` puts 30 bytes. Assumes nothing.
+use mathlib.Core.Path.{ap}
+use native.Mathlib.Omega.{arith}
+use Rattle.text.proofs.Laws.{put-then}
+use Rattle.image.proofs.Laws.{put-same}
+use Rattle.stream.specs.Numbers.{u64Bytes}
+use borrow.Author.Needs.{needs}
+use Rattle.stream.proofs.replies.put_reply.Statement.{statement}
+use Rattle.stream.proofs.replies.put_reply.Tie as tie
+
+put-answer-requires : tie.Need-put-answer-requires
+put-answer-requires c κs = search needs
+
+image-digest-requires : tie.Need-image-digest-requires
+image-digest-requires c κs = search needs
+
+put-u64-requires : tie.Need-put-u64-requires
+put-u64-requires c κs = search needs
+
+digest-requires : tie.Need-digest-requires
+digest-requires c κs = search needs
+
+put-u64-requires-2 : tie.Need-put-u64-requires-2
+put-u64-requires-2 c κs = search needs
+
+digest-requires-2 : tie.Need-digest-requires-2
+digest-requires-2 c κs = search needs
+
+put-u64-requires-3 : tie.Need-put-u64-requires-3
+put-u64-requires-3 c κs = search needs
+
+same-length : tie.Need-same-length
+same-length c = search needs
+
+returns : tie.Need-returns
+returns c =
+    let p = c .before .before .before .before .before .before .before .before .before .before .before .before .before .before .before .before .before .put-answer .ensures in
+    let q = c .before .before .before .before .before .before .before .before .before .before .before .before .put-u64 .ensures in
+    let r = c .before .before .before .before .before .before .before .put-u642 .ensures in
+    let s = c .before .before .put-u643 .ensures in (
+      put-then
+          (put-then (put-then (p .0) (put-same (ap u64Bytes (c .before .before .before .before .before .before .before .before .before .before .before .before .before .before .image-digest .ensures)) (q .0))) (put-same (ap u64Bytes (c .before .before .before .before .before .before .before .before .before .digest .ensures)) (r .0)))
+          (put-same (ap u64Bytes (c .before .before .before .before .digest2 .ensures)) (s .0)),
+      omega (arith, p .1, q .1, r .1, s .1),
+    )
+
+pub put-reply-spec : {M : Type 1} → statement M
+put-reply-spec =
+    tie.close
+    (tie.spec
+    put-answer-requires
+    image-digest-requires
+    put-u64-requires
+    digest-requires
+    put-u64-requires-2
+    digest-requires-2
+    put-u64-requires-3
+    same-length
+    returns)

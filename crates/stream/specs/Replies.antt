@@ -1,0 +1,33 @@
+-- What a request brings, its call, and the reply to it. Assumes nothing.
+use mathlib.Core.Path.{_≡_}
+use mathlib.Core.List.{List, _++_}
+use Prim.Native.Nat.{ℕ, _+_}
+use lib.ListN.{length, drop, replicate}
+use Rattle.kernel.specs.Definition.Step.{Result}
+use Rattle.kernel.specs.declared.Tables.{Tables}
+use Rattle.text.specs.Text.{Put}
+use Rattle.events.specs.Records.{u16At, stepOf}
+use Rattle.image.specs.Image.{runAt, imageOf, tablesOf, answerBytes}
+use Rattle.stream.specs.Digest.{digestOf}
+use Rattle.stream.specs.Seed.{seeded}
+use Rattle.stream.specs.Numbers.{u32At, u64Bytes}
+
+-- the image, and the RAM by its length and the seed
+pub record Brought (bytes : List ℕ) (t : Tables) (ram : List ℕ) : Type 0 where
+  pub tables-is : t ≡ tablesOf (runAt bytes 1 776)
+  pub ram-is : ram ≡ seeded (u32At bytes 777) (u32At bytes 781)
+
+-- the call of an event record on n bytes of output, all 165
+abbrev pub stepOn : Tables → (ram event : List ℕ) (n : ℕ) → Result
+stepOn t ram event n = stepOf t ram (u16At event 0) (drop 2 event) (replicate n 165)
+
+-- answer number, a and b, and the digests of the image, of the RAM and of the output after the call
+abbrev pub replyBytes : Result → List ℕ
+replyBytes s = answerBytes (s .answer) ++ u64Bytes (digestOf (imageOf (s .tables))) ++ u64Bytes (digestOf (s .ram)) ++ u64Bytes (digestOf (s .output))
+
+-- what a request's call leaves, with the accents, and its reply in a text
+pub record Replied (t : Tables) (ram event out text : List ℕ) (at : ℕ) (t′ : Tables) (ram′ out′ text′ : List ℕ) : Type 0 where
+  pub tables-is : t′ ≡ stepOn t ram event (length out) .tables
+  pub ram-is : ram′ ≡ stepOn t ram event (length out) .ram
+  pub out-is : out′ ≡ stepOn t ram event (length out) .output
+  pub reply-is : Put text text′ at (at + 30) (replyBytes (stepOn t ram event (length out)))

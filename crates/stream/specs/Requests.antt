@@ -1,0 +1,58 @@
+-- Where a request ends. Its first byte is 0, or 1 before an image of 776 bytes, the RAM's length and a seed of 4 bytes each. Assumes nothing.
+use mathlib.Core.Path.{_≡_}
+use mathlib.Core.Bool.{cond, not}
+use mathlib.Core.List.{List}
+use Prim.Native.Nat.{ℕ, _+_, _<_, _≤_}
+use lib.Dec.{eqb, ltb}
+use lib.ListN.{length}
+use Rattle.events.specs.Records.{u8At, u16At}
+use Rattle.stream.specs.Numbers.{u32At}
+use Rattle.stream.specs.declared.Request.{Request}
+use Rattle.stream.specs.declared.Found.{Found}
+use Rattle.stream.specs.declared.Found.the-variants.{Whole, Part, Bad}
+
+-- the output's length and the event record's length, of 2 bytes each, and the event record, of 2 bytes or more
+unfoldable pub lentAt : (bytes : List ℕ) (at : ℕ) → Found
+lentAt bytes at =
+    let start = at + 4 in
+    let end = start + u16At bytes (at + 2) in
+    cond (ltb (length bytes) start) Part
+    (cond (ltb end (start + 2)) Bad
+    (cond (ltb (length bytes) end) Part
+    (Whole (record { out = u16At bytes at; start = start; end = end }))))
+
+-- "above 524,288 ends the program"
+unfoldable pub requestIn : List ℕ → Found
+unfolding lentAt
+requestIn bytes =
+    cond (ltb (length bytes) 1) Part
+    (cond (eqb (u8At bytes 0) 0) (lentAt bytes 1)
+    (cond (not (eqb (u8At bytes 0) 1)) Bad
+    (cond (ltb (length bytes) 785) Part
+    (cond (ltb 524288 (u32At bytes 777)) Bad
+    (lentAt bytes 785)))))
+
+-- the event record has a kind and lies in the bytes, and the output's length fits two bytes
+pub record Spans (bytes : List ℕ) (q : Request) : Type 0 where
+  pub kind : q .start + 2 ≤ q .end
+  pub within : q .end ≤ length bytes
+  pub lent : q .out < 65536
+
+-- a first byte other than 0 brings an image, a RAM's length and a seed
+abbrev pub Brings : List ℕ → Type 0
+Brings bytes = (u8At bytes 0 ≡ 0 → ⊥) → (785 ≤ length bytes) × (u32At bytes 777 ≤ 524288)
+
+abbrev pub Lent : List ℕ → Found → Type 0
+Lent bytes (Whole q) = Spans bytes q
+Lent bytes Part = Unit {0}
+Lent bytes Bad = Unit {0}
+
+abbrev pub Fits : List ℕ → Found → Type 0
+Fits bytes (Whole q) = Spans bytes q × (1 ≤ length bytes) × Brings bytes
+Fits bytes Part = Unit {0}
+Fits bytes Bad = Unit {0}
+
+pub lent-fits : (bytes : List ℕ) (r : Found) → Lent bytes r → 1 ≤ length bytes → Brings bytes → Fits bytes r
+lent-fits bytes (Whole q) s h b = (s, h, b)
+lent-fits bytes Part s h b = tt
+lent-fits bytes Bad s h b = tt

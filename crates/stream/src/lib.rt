@@ -1,0 +1,28 @@
+// A stream of requests and replies, to compare two implementations: a request has a call and may bring tables and RAM.
+use kernel::Tables;
+
+pub mod bytes; // numbers of four and of eight bytes, and bytes that stay in a buffer
+pub mod digest; // the digest of bytes
+pub mod fill; // bytes by a seed, and bytes that are all the same
+pub mod requests; // where a request ends
+pub mod replies; // a request's call, and the reply to it
+
+// The tables, and the length of their RAM.
+pub struct Held {
+    pub tables: Tables,
+    pub size: usize,
+}
+
+// A whole request: the output's length, and where the event record starts and ends.
+pub struct Request {
+    pub out: usize,
+    pub start: usize,
+    pub end: usize,
+}
+
+// What bytes begin with.
+pub enum Found {
+    Whole(Request),
+    Part,
+    Bad,
+}

@@ -1,0 +1,51 @@
+// Where a request ends.
+ghost use mathlib.Core.Path.{_≡_};
+ghost use Prim.Native.Nat.{_+_, _<_};
+ghost use Rattle.stream.specs.Requests.{lentAt, requestIn, Lent, Fits};
+use super::Found;
+use super::Request;
+use super::bytes::u32_at;
+use super::bytes::wide;
+use events::fields::u16_at;
+
+// The output's length, the event record's length and the event record.
+fn lent_at(bytes: &[u8], at: usize) -> Found
+    requires { ⌜ at < 1000 ⌝ }
+    ensures { λ r. ⌜ (r ≡ lentAt (now (bytes .entry)) at) × Lent (now (bytes .entry)) r ⌝ }
+{
+    let start = at + 4;
+    if bytes.len() < start {
+        return Found::Part;
+    }
+    let out = wide(u16_at(bytes, at));
+    let end = start + wide(u16_at(bytes, at + 2));
+    if end < start + 2 {
+        return Found::Bad;
+    }
+    if bytes.len() < end {
+        return Found::Part;
+    }
+    Found::Whole(Request { out, start, end })
+}
+
+pub fn request(bytes: &[u8]) -> Found
+    ensures { λ r. ⌜ (r ≡ requestIn (now (bytes .entry))) × Fits (now (bytes .entry)) r ⌝ }
+{
+    if bytes.len() < 1 {
+        return Found::Part;
+    }
+    let first = bytes[0];
+    if first == 0 {
+        return lent_at(bytes, 1);
+    }
+    if first != 1 {
+        return Found::Bad;
+    }
+    if bytes.len() < 785 {
+        return Found::Part;
+    }
+    if 524288 < u32_at(bytes, 777) {
+        return Found::Bad;
+    }
+    lent_at(bytes, 785)
+}
