@@ -1,0 +1,24 @@
+-- `renewed` is safe, and keeps the RAM within its buffer. Assumes nothing.
+use native.Mathlib.Omega.{arith}
+use borrow.Author.Needs.{needs}
+use Rattle.exos_answer.proofs.renewed.Statement.{statement}
+use Rattle.exos_answer.proofs.renewed.Tie as tie
+
+shared-slice-read-if1 : tie.Need-shared-slice-read-if1
+shared-slice-read-if1 c = search needs
+
+returns : tie.Need-returns
+returns c = search needs
+
+bring-requires : tie.Need-bring-requires
+bring-requires c κs = let b = c .before .before .before .before .before .pre .3 (c .before .if1 .left) in (b .0, omega (arith, b .1, c .before .before .before .before .before .pre .1))
+
+same-length : tie.Need-same-length
+same-length c = search needs
+
+returns-2 : tie.Need-returns-2
+returns-2 c = let b = c .before .before .before .before .before .before .before .before .pre .3 (c .before .before .before .before .if1 .left) in omega (arith, b .1, c .before .before .bring .ensures .1)
+
+pub renewed-spec : {M : Type 1} → statement M
+renewed-spec =
+    tie.close (tie.spec shared-slice-read-if1 returns bring-requires same-length returns-2)
