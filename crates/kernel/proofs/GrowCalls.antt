@@ -1,10 +1,10 @@
 -- How the chain grows, and the room rule, as the code takes them. Assumes nothing.
 use mathlib.Core.Path.{_≡_, refl}
-use mathlib.Core.Bool.{_&&_, _||_}
+use mathlib.Core.Bool.{_&&_}
 use Prim.Native.Nat.{ℕ, suc, _+_, _-_, _*_, _%_, _≤_, _<_}
 use native.Mathlib.Omega.{arith}
 use borrow.Author.Tests.{lt-ltb, le-ltb}
-use lib.Dec.{leb, ltb, eqb}
+use lib.Dec.{leb, eqb}
 use lib.ListN.{take, set}
 use Rattle.rows.specs.Lists.{firstOf, lastOf, tally}
 use Rattle.rows.specs.Classes.{FREE, SYSTEM, SHARED}
@@ -38,7 +38,7 @@ end-of t count end e f = rw (f, e)
 -- the room rule, with a segment shared and with none
 module _ (t : Tables) (room n segments held row : ℕ) (count : segments ≡ t .segments) (links : held ≡ t .held) (f : row ≡ firstOf SHARED (take segments (t .classes))) where
   pub room-shared : (long edge : ℕ) → row < segments → long ≡ chainLength room n → edge ≡ edgeAt room n
-      → (ltb long held || (eqb long held && leb (t .user) edge)) ≡ roomFor t room n
+      → (eqb long held && leb (t .user) edge) ≡ roomFor t room n
   unfolding roomFor
   room-shared long edge h l e = let s : firstOf SHARED (take (t .segments) (t .classes)) < t .segments = rw (f, count) at h in rw (lt-ltb _ _ s, l, e, links)
 

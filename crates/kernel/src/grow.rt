@@ -54,7 +54,7 @@ impl Tables {
         let segments = wide(self.segments);
         let held = wide(self.held);
         let long = chain_length(room, n);
-        let fits = (long < held) | ((long == held) & (self.user <= edge_at(room, n)));
+        let fits = (long == held) & (self.user <= edge_at(room, n));
         let most = wide16(room) + 16384 * (held - 1 + count_of(classes, segments, FREE));
         if first_of(classes, segments, SHARED) < segments {
             fits

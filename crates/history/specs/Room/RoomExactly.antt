@@ -6,12 +6,13 @@ use Prim.Native.Nat.{ℕ, zero, suc, _+_, _-_, _≤_}
 use native.Mathlib.Omega.{arith}
 use lib.ListN.{length, take}
 use Rattle.rows.specs.Lists.{at}
-use Rattle.rows.specs.Sizes.{chainLength, length-mono}
+use Rattle.rows.specs.Sizes.{chainLength}
 use Rattle.rows.specs.declared.Channel.{Channel}
 use Rattle.kernel.specs.Definition.Line.{totalOf}
 use Rattle.kernel.specs.Definition.Good.{Sized, Good}
 use Rattle.kernel.specs.Definition.Calls.{«open», link}
 use Rattle.kernel.specs.Definition.Step.{decided}
+use Rattle.kernel.specs.Laws.Facts.{no-shorter}
 use Rattle.kernel.specs.declared.Tables.{Tables}
 use Rattle.kernel.specs.declared.Answer.{Answer}
 use Rattle.history.specs.Room.Sums.{total, total-append}
@@ -44,7 +45,7 @@ open-exactly t ram output channel driver n name s p =
     let long : total (recordsAnd t n) ≡ totalOf t + (16 + n) =
     omega (arith, total-append (records t) ((16 + n) ∷ []), total-records (take (t .opened) (t .channels))) in
     let rule = room-layout t g (t .room) (room-small t g) (recordsAnd t n)
-    (omega (arith, g .line, length-mono (t .room) (t .room) (totalOf t) (total (recordsAnd t n)) (omega arith) (omega arith))) in
+    (no-shorter t g (t .room) (total (recordsAnd t n)) (omega arith) (omega arith)) in
     left-as (open-left t ram output channel driver n name s p) ((λ h. rule .0 (rw long h) .0), λ l. rw (← long) (rule .1 (l, top-clear t g)))
 
 -- a link fits when R - m is at least 256, the m bytes are no part of the user's, and the open records have a layout with R - m
@@ -64,7 +65,7 @@ module _ (t : Tables) (ram output m : ℕ) (name : List ℕ) (s : Sized t) (p : 
   small = omega (arith, room-small t good)
 
   chain : t .held ≤ chainLength (t .room - m) (total (records t))
-  chain = omega (arith, good .line, length-mono (t .room) (t .room - m) (totalOf t) (total (records t)) (omega arith) (omega (arith, long)))
+  chain = no-shorter t good (t .room - m) (total (records t)) (omega arith) (omega (arith, long))
 
   pub link-exactly : Left (decided t ram output (link m name) .answer) (LinkFits t m)
   link-exactly =

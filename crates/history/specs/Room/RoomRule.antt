@@ -5,7 +5,7 @@ use mathlib.Core.Logic.{_↔_}
 use mathlib.Core.List.{List}
 use Prim.Native.Nat.{ℕ, _+_, _-_, _*_, _≤_, _<_}
 use native.Mathlib.Omega.{arith}
-use borrow.Author.Tests.{le-ltb, eq-eqb, le-leb, leb-true, eqb-true}
+use borrow.Author.Tests.{eq-eqb, le-leb, leb-true, eqb-true}
 use lib.Dec.{eqb, leb}
 use lib.ListN.{length}
 use Rattle.rows.specs.Lists.{at, and-left, and-right}
@@ -31,13 +31,13 @@ unfolding roomFor
 rule-shared t r n some s h =
     let l = line-sum r n in (
       λ e.
-          let f : eqb (chainLength r n) (t .held) && leb (t .user) (edgeAt r n) ≡ true = rw (s, le-ltb _ _ h) at e in
+          let f : eqb (chainLength r n) (t .held) && leb (t .user) (edgeAt r n) ≡ true = rw s at e in
           let q : chainLength r n ≡ t .held = eqb-true _ _ (and-left _ _ f) in
           let u : t .user ≤ edgeAt r n = leb-true _ _ (and-right (eqb (chainLength r n) (t .held)) _ f) in
           omega arith,
       λ e.
           let q : chainLength r n ≡ t .held = omega (arith, chain-most r n (t .held - 1) (omega arith)) in
-          rw (s, le-ltb _ _ h, eq-eqb _ _ q, le-leb (t .user) (edgeAt r n) (omega arith)),
+          rw (s, eq-eqb _ _ q, le-leb (t .user) (edgeAt r n) (omega arith)),
     )
 
 -- with none shared

@@ -1,7 +1,7 @@
 -- "The line of channel RAM": T, the EXOS boundary, how the chain grows and shrinks, the room rule, and the tables after an open and a close.
-use mathlib.Core.Bool.{Bool, cond, _&&_, _||_}
+use mathlib.Core.Bool.{Bool, cond, _&&_}
 use Prim.Native.Nat.{ℕ, zero, suc, _+_, _-_, _*_}
-use lib.Dec.{leb, ltb, eqb}
+use lib.Dec.{leb, eqb}
 use lib.ListN.{getD, take, set}
 use Rattle.rows.specs.Lists.{lastOf, without}
 use Rattle.rows.specs.Classes.{FREE, USER, SYSTEM, SHARED}
@@ -54,12 +54,11 @@ shrunk zero t = t
 shrunk (suc k) t = shrunk k (oneLess t)
 
 -- "Room rule: with nothing shared, T may reach R + 16,384 x (chain length - 1 + free segments). With a segment shared, the line stays in the
--- present chain and the EXOS boundary may not fall below the user boundary, even if a free segment exists (build)." For a line of length n at the room r;
--- one that takes fewer segments than the chain has would leave the shared one, so no boundary stands in its way
+-- present chain and the EXOS boundary may not fall below the user boundary, even if a free segment exists (build)." For a line of length n at the room r.
 unfoldable pub roomFor : Tables → (r n : ℕ) → Bool
 roomFor t r n =
     cond (sharing t)
-    (ltb (chainLength r n) (t .held) || (eqb (chainLength r n) (t .held) && leb (t .user) (edgeAt r n)))
+    (eqb (chainLength r n) (t .held) && leb (t .user) (edgeAt r n))
     (leb n (r + SEGMENT * (t .held - 1 + countOf FREE t)))
 
 -- "Open appends a record"

@@ -50,8 +50,8 @@ pub record Enabled (t : Tables) (w : Wanted) (i : ℕ) : Type 0 where
 -- "Room rule", for a line of length n at the room r
 pub record Room (t : Tables) (r n : ℕ) : Type 0 where
   pub apart : (Some t SHARED → ⊥) → n ≤ r + SEGMENT * (t .held - 1 + countOf FREE t)
-  pub stays : Some t SHARED → chainLength r n ≤ t .held
-  pub above : Some t SHARED → chainLength r n ≡ t .held → t .user ≤ edgeAt r n
+  pub stays : Some t SHARED → chainLength r n ≡ t .held
+  pub above : Some t SHARED → t .user ≤ edgeAt r n
 
 -- "the user gives back user .. or shared ..; a device gives back device"
 pub data Gives : (caller class : ℕ) → Type 0 where

@@ -4,9 +4,11 @@ use Prim.Native.Nat.{ℕ, _-_, _≤_, _<_}
 use native.Mathlib.Omega.{arith}
 use Rattle.rows.specs.Lists.{at}
 use Rattle.rows.specs.Classes.{SHARED, held?}
+use Rattle.rows.specs.Sizes.{chainLength, length-mono}
 use Rattle.rows.specs.Exact as exact
 use Rattle.rows.specs.Exact.{Exactly, exactly}
 use Rattle.kernel.specs.Definition.Tables.{classAt}
+use Rattle.kernel.specs.Definition.Line.{totalOf}
 use Rattle.kernel.specs.Definition.Good.{Good}
 use Rattle.kernel.specs.declared.Tables.{Tables}
 
@@ -21,6 +23,10 @@ one-shared t g = exact.one-shared (t .segments) (t .classes) (t .chain) (t .held
 -- "255 is system or shared"
 pub top-held : (t : Tables) → Good t → 1 ≤ held? (classAt t (t .segments - 1))
 top-held t g = exact.top-held (t .segments) (t .classes) (t .chain) (t .held) (g .sized .chain) (g .chain)
+
+-- an open never shortens the line and a link never raises R: the new line takes no fewer segments than the chain has
+pub no-shorter : (t : Tables) → Good t → (r n : ℕ) → r ≤ t .room → totalOf t ≤ n → t .held ≤ chainLength r n
+no-shorter t g r n h k = omega (arith, g .line, length-mono (t .room) r (totalOf t) n h k)
 
 -- what the code of the calls needs: the counts are within the arrays, and the chain's entries are rows
 pub record Fit (t : Tables) : Type 0 where

@@ -3,7 +3,7 @@ use mathlib.Core.Path.{_≡_, refl, ap, sym, _∙_}
 use mathlib.Core.Bool.{Bool, true, false, _&&_}
 use Prim.Native.Nat.{ℕ, suc, _+_, _-_, _*_, _≤_, _<_}
 use native.Mathlib.Omega.{arith}
-use borrow.Author.Tests.{le-ltb, ltb-true, ltb-false, leb-true, eqb-true}
+use borrow.Author.Tests.{ltb-true, ltb-false, leb-true, eqb-true}
 use lib.Dec.{eqb, leb}
 use lib.ListN.{length, getD, take, set, length-set, length-take}
 use lib.Seq.{getD-take}
@@ -18,6 +18,7 @@ use Rattle.kernel.specs.Definition.Tables.{SEGMENT, classAt, countOf, sh
 use Rattle.kernel.specs.Definition.Line.{totalOf, grown, roomFor, opening, closing}
 use Rattle.kernel.specs.Definition.Good.{Good}
 use Rattle.kernel.specs.Laws.Body.{Shares, Body, body, whole, body-channels}
+use Rattle.kernel.specs.Laws.Facts.{no-shorter}
 use Rattle.kernel.specs.Laws.Grow.{grown-body, grown-rest}
 use Rattle.kernel.specs.Laws.Shrink.{cut}
 use Rattle.kernel.specs.declared.Tables.{Tables}
@@ -41,11 +42,10 @@ shares-no t b f e =
     first-none SHARED cs (omega arith) (lastRow t) (omega arith) (getD-take (t .segments) (t .classes) (lastRow t) 0 r ∙ e)
 
 -- the room rule, read: with a segment shared, and with none
-room-shared : (t : Tables) (r n : ℕ) → sharing t ≡ true → t .held ≤ chainLength r n → roomFor t r n ≡ true
-    → (chainLength r n ≡ t .held) × (t .user ≤ edgeAt r n)
+room-shared : (t : Tables) (r n : ℕ) → sharing t ≡ true → roomFor t r n ≡ true → (chainLength r n ≡ t .held) × (t .user ≤ edgeAt r n)
 unfolding roomFor
-room-shared t r n s h e =
-    let f : eqb (chainLength r n) (t .held) && leb (t .user) (edgeAt r n) ≡ true = rw (s, le-ltb _ _ h) at e in
+room-shared t r n s e =
+    let f : eqb (chainLength r n) (t .held) && leb (t .user) (edgeAt r n) ≡ true = rw s at e in
     (eqb-true _ _ (and-left _ _ f), leb-true _ _ (and-right (eqb (chainLength r n) (t .held)) _ f))
 
 room-apart : (t : Tables) (r n : ℕ) → sharing t ≡ false → roomFor t r n ≡ true → n ≤ r + SEGMENT * (t .held - 1 + countOf FREE t)
@@ -56,7 +56,7 @@ fill-by : (t : Tables) (k : ℕ) → Body t → t .held + k ≡ chainLength (t .
     → (shared : Bool) → sharing t ≡ shared → Good (grown k t)
 unfolding grown
 fill-by t k b l e true s =
-    let f = room-shared t (t .room) (totalOf t) s (omega arith) e in
+    let f = room-shared t (t .room) (totalOf t) s e in
     let z : k ≡ 0 = omega arith in
     rw z (whole t b (sym (f .0)) (f .1))
 fill-by t k b l e false s =
@@ -82,7 +82,7 @@ opening-keeps t c g h a b new e =
     rw (← s) (fill u
     (body-channels t (t .opened + 1) cs (length-set (t .channels) (t .opened) c ∙ l)
     (channels-more (t .channels) (t .opened) (t .known) c l h a b new (g .channels)) (body t g))
-    (omega (arith, g .line, length-mono (t .room) (t .room) (totalOf t) (totalOf u) (omega arith) (omega arith)))
+    (no-shorter t g (t .room) (totalOf u) (omega arith) (omega arith))
     (rw s e))
 
 pub closing-keeps : (t : Tables) (i : ℕ) → Good t → i < t .opened → Good (closing t i)

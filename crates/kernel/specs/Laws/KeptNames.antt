@@ -6,7 +6,6 @@ use Prim.Native.Nat.{ℕ, _+_, _-_, _≤_, _<_}
 use native.Mathlib.Omega.{arith}
 use lib.ListN.{length, length-set, length-map}
 use Rattle.rows.specs.Devices.{muted, added}
-use Rattle.rows.specs.Sizes.{length-mono}
 use Rattle.rows.specs.Good.{NameGood}
 use Rattle.rows.specs.Rows.{channels-known}
 use Rattle.rows.specs.DeviceRows.{devices-more}
@@ -16,6 +15,7 @@ use Rattle.kernel.specs.Definition.Line.{totalOf, roomFor}
 use Rattle.kernel.specs.Definition.Devices.{linking}
 use Rattle.kernel.specs.Definition.Good.{Good}
 use Rattle.kernel.specs.Laws.Body.{body, body-devices}
+use Rattle.kernel.specs.Laws.Facts.{no-shorter}
 use Rattle.kernel.specs.Laws.KeptLine.{fill}
 use Rattle.kernel.specs.declared.Tables.{Tables}
 
@@ -30,7 +30,7 @@ linking-keeps t m name n g k w p h e =
     (body-devices t (t .room - m) (t .known + 1) ds l (record { least = omega arith; most = omega (arith, g .room .most); top = g .room .top })
     (devices-more (t .devices) (t .known) name n (g .sized .devices) k w p (g .devices))
     (channels-known (t .channels) (t .opened) (t .known) (t .known + 1) (omega arith) (g .channels)) (body t g))
-    (omega (arith, g .line, length-mono (t .room) (t .room - m) (totalOf t) (totalOf t) (omega arith) (omega arith)))
+    (no-shorter t g (t .room - m) (totalOf t) (omega arith) (omega arith))
     e
 
 pub naming-keeps : (t : Tables) (name : List ℕ) (n unit : ℕ) → Good t → NameGood name n → 1 ≤ n → Good (withDefault t name n unit)
