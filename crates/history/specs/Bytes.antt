@@ -1,7 +1,6 @@
 -- A byte read is the one last written through that channel, and a user's byte changes only by the user's store.
 pub mod Runs
 pub mod Done
-pub mod Refused
 pub mod Places
 pub mod Changes
 pub mod Buffers

@@ -1,4 +1,4 @@
--- There are good tables, and every call keeps them.
+-- There are good tables, every call keeps them, and a refused one leaves them.
 pub mod Arrays
 pub mod Good
 pub mod Body
@@ -16,5 +16,6 @@ pub mod Opens
 pub mod Links
 pub mod Fields
 pub mod Effects
+pub mod Refused
 pub mod Keeps
 pub mod Ready

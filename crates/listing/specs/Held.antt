@@ -20,7 +20,7 @@ use Rattle.kernel.specs.declared.Tables.{Tables}
 use Rattle.events.specs.Records.{u16At, startIn, decode}
 use Rattle.events.specs.Bodies.{Bytes, decode-fields}
 use Rattle.listing.specs.Log.{lentTo, logStep}
-use Rattle.listing.specs.Starts.{before-start, refused-stays, short-answers}
+use Rattle.listing.specs.Starts.{before-start, refused-leaves, short-answers}
 
 -- no tables before an accepted start; after it good tables, of at most the four segments that are lent
 pub data Held (t : Tables) : Type 0 where
@@ -80,5 +80,5 @@ held-step t ram out kind body s b h = elim (split (granted (logStep t ram out ki
     | yes e ↦ rw e (start-held t ram out body s (rw e at d))
     | no e ↦ other-held t ram out body s kind e b h d
   ]
-  | inr d ↦ rw (refused-stays t ram out kind body b d) h
+  | inr d ↦ rw (refused-leaves t ram out kind body b d) h
 ]

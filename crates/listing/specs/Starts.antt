@@ -1,6 +1,6 @@
 -- What the listing answers before a start is accepted, and to a start that it can't serve. Assumes nothing.
-use mathlib.Core.Path.{_≡_, refl, sym}
-use mathlib.Core.Bool.{Bool, true, false, _&&_, false≢true}
+use mathlib.Core.Path.{_≡_, refl}
+use mathlib.Core.Bool.{Bool, true, false, _&&_}
 use mathlib.Core.List.{List}
 use Prim.Native.Nat.{ℕ, _-_, _*_, _<_, min}
 use native.Mathlib.Omega.{arith}
@@ -9,10 +9,9 @@ use lib.ListN.{length, take, drop, length-take, length-drop}
 use Rattle.kernel.specs.Definition.Answers.{granted, gives}
 use Rattle.kernel.specs.Definition.Calls.{Call, isStart, start}
 use Rattle.kernel.specs.Definition.Step.{decided, completed, step}
-use Rattle.kernel.specs.Laws.Effects.{Effect, bars, refuses, leaves, starts, resets, opens, closes, names, links, bounds, grants, shares, frees, parts, decided-effect}
+use Rattle.kernel.specs.Laws.Refused.{refused-stays}
 use Rattle.kernel.specs.declared.Tables.{Tables}
 use Rattle.kernel.specs.declared.Answer.the-variants.{BadTables, BadCall, BadStart}
-use Rattle.kernel.specs.declared.Outcome.{Outcome}
 use Rattle.events.specs.Records.{u16At, startIn, decode}
 use Rattle.events.specs.Bodies.{Bytes, decode-fields, no-start}
 use Rattle.kernel.specs.Definition.Reset.{noTables}
@@ -27,27 +26,11 @@ pub before-start : (ram out : List ℕ) (kind : ℕ) (body : List ℕ) → (kind
 unfolding logStep step completed
 before-start ram out kind body h = rw (barred _ (length out) (decode kind body) (no-start kind body h))
 
-stays : {t : Tables} {ram : ℕ} {o : Outcome} → Effect t ram o → granted (o .answer) ≡ false → o .tables ≡ t
-stays (bars e) f = refl
-stays (refuses answer e) f = refl
-stays (leaves a b) f = refl
-stays (starts a b room list e) f = absurd (false≢true (sym f))
-stays (resets a b flags) f = absurd (false≢true (sym f))
-stays (opens a b c small new device few fits) f = absurd (false≢true (sym f))
-stays (closes a b i h) f = absurd (false≢true (sym f))
-stays (names a b unit name h) f = absurd (false≢true (sym f))
-stays (links a b m name h few r fits) f = absurd (false≢true (sym f))
-stays (bounds a b value s h) f = absurd (false≢true (sym f))
-stays (grants a b caller h) f = absurd (false≢true (sym f))
-stays (shares a b s) f = absurd (false≢true (sym f))
-stays (frees a b caller row h e) f = absurd (false≢true (sym f))
-stays (parts a b row h e) f = absurd (false≢true (sym f))
-
 -- a record that is not done leaves the tables: there is no accepted start until one is done
-pub refused-stays : (t : Tables) (ram out : List ℕ) (kind : ℕ) (body : List ℕ) → Bytes body → granted (logStep t ram out kind body .answer) ≡ false
+pub refused-leaves : (t : Tables) (ram out : List ℕ) (kind : ℕ) (body : List ℕ) → Bytes body → granted (logStep t ram out kind body .answer) ≡ false
     → logStep t ram out kind body .tables ≡ t
 unfolding logStep step completed
-refused-stays t ram out kind body b f = stays (decided-effect t _ (length out) (decode kind body) (decode-fields kind body b)) f
+refused-leaves t ram out kind body b f = refused-stays t _ (length out) (decode kind body) (decode-fields kind body b) f
 
 -- kind 256 with a body short of R answers 2
 pub short-answers : (t : Tables) (ram out body : List ℕ) → length body < 2 → logStep t ram out 256 body .answer ≡ BadCall

@@ -23,7 +23,7 @@ use Rattle.kernel.specs.Laws.Ready.{Ready, ready-heard, decided-ready, start-re
 use Rattle.kernel.specs.declared.Tables.{Tables}
 use Rattle.history.specs.Bytes.Runs.{State, after, event, Started, NoStart}
 use Rattle.history.specs.Bytes.Done.{Done, resets, opens, closes, reads, writes, names, counts, links, tells, bounds, grants, shares, frees, stores, loads, heard-done}
-use Rattle.history.specs.Bytes.Refused.{refused-stays}
+use Rattle.kernel.specs.Laws.Refused.{refused-stays}
 use Rattle.history.specs.Bytes.Places.{reach-small}
 
 -- a state with good tables, and RAM of their size

@@ -1,4 +1,4 @@
--- Every call keeps good tables, a done start gives them whatever the tables before, and any sequence of calls keeps them.
+-- Every call keeps good tables, and a done start gives them whatever the tables before.
 use mathlib.Core.Path.{_≡_, refl}
 use mathlib.Core.Bool.{Bool, true, false, cond, not}
 use mathlib.Core.List.{List, [], _∷_}
@@ -77,22 +77,3 @@ start-done t ram output room list d =
 pub good-tables : Good (started 11074 (252 ∷ 253 ∷ 254 ∷ 255 ∷ []))
 unfolding upTo
 good-tables = start-good 65536 11074 (252 ∷ 253 ∷ 254 ∷ 255 ∷ []) refl
-
--- a call as it is made: with so many bytes of RAM and of output lent
-pub record Made : Type 0 where
-  pub ram : ℕ
-  pub output : ℕ
-  pub call : Call
-
-abbrev pub AllFields : List Made → Type 0
-AllFields [] = Unit {0}
-AllFields (m ∷ ms) = Fields (m .call) × AllFields ms
-
--- the tables after a sequence of calls, each made on the tables that the last one left
-abbrev pub run : Tables → List Made → Tables
-run t [] = t
-run t (m ∷ ms) = run (decided t (m .ram) (m .output) (m .call) .tables) ms
-
-pub run-keeps : (t : Tables) (ms : List Made) → Good t → AllFields ms → Good (run t ms)
-run-keeps t [] g f = g
-run-keeps t (m ∷ ms) g f = run-keeps _ ms (decided-keeps t (m .ram) (m .output) (m .call) g (f .0)) (f .1)

@@ -1,4 +1,4 @@
--- Good tables, lent RAM of their size, are never refused for the tables, and stay so over any sequence of calls.
+-- Good tables, lent RAM of their size, are never refused for the tables, and a call leaves them so.
 use mathlib.Core.Path.{_≡_, refl, ap, sym, _∙_}
 use mathlib.Core.Bool.{Bool, true, false, cond, not, _&&_, _||_, false≢true}
 use mathlib.Core.List.{List, [], _∷_}
@@ -30,7 +30,7 @@ use Rattle.kernel.specs.Laws.Shrink.{shrunk-rest}
 use Rattle.kernel.specs.Laws.KeptReset.{start-good}
 use Rattle.kernel.specs.Laws.Fields.{Fields}
 use Rattle.kernel.specs.Laws.Effects.{Effect, bars, refuses, leaves, starts, resets, opens, closes, names, links, bounds, grants, shares, frees, parts, decided-effect}
-use Rattle.kernel.specs.Laws.Keeps.{decided-keeps, start-passed, start-is, Made, AllFields, run}
+use Rattle.kernel.specs.Laws.Keeps.{decided-keeps, start-passed, start-is}
 use Rattle.kernel.specs.declared.Tables.{Tables}
 use Rattle.kernel.specs.declared.Answer.the-variants.{BadTables}
 use Rattle.kernel.specs.declared.Outcome.{Outcome}
@@ -143,14 +143,3 @@ pub start-ready : (t : Tables) (ram output room : ℕ) (list : List ℕ) → gra
 start-ready t ram output room list d =
     let e = start-passed t ram output room list d in
     rw (start-is t ram output room list e) (record { good = start-good ram room list e; size = started-size ram room list e })
-
--- every call of the sequence lends so much RAM
-abbrev pub Lends : ℕ → List Made → Type 0
-Lends ram [] = Unit {0}
-Lends ram (m ∷ ms) = (m .ram ≡ ram) × Lends ram ms
-
-pub run-ready : (t : Tables) (ram : ℕ) (ms : List Made) → Ready t ram → AllFields ms → Lends ram ms → Ready (run t ms) ram
-run-ready t ram [] r f l = r
-run-ready t ram (m ∷ ms) r f l =
-    let next : Ready (decided t (m .ram) (m .output) (m .call) .tables) ram = rw (l .0) (decided-ready t ram (m .output) (m .call) r (f .0)) in
-    run-ready _ ram ms next (f .1) (l .1)

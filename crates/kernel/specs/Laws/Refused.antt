@@ -1,14 +1,14 @@
--- A refused call leaves the tables as they were.
+-- A refused call leaves the tables as they were. Assumes nothing.
 use mathlib.Core.Path.{_≡_, refl, sym}
 use mathlib.Core.Bool.{false, false≢true}
 use Prim.Native.Nat.{ℕ}
 use Rattle.kernel.specs.Definition.Answers.{granted}
 use Rattle.kernel.specs.Definition.Calls.{Call}
 use Rattle.kernel.specs.Definition.Step.{decided}
 use Rattle.kernel.specs.Laws.Fields.{Fields}
 use Rattle.kernel.specs.Laws.Effects.{Effect, bars, refuses, leaves, starts, resets, opens, closes, names, links, bounds, grants, shares, frees, parts, decided-effect}
 use Rattle.kernel.specs.declared.Tables.{Tables}
 use Rattle.kernel.specs.declared.Outcome.{Outcome}
 
 stays : {t : Tables} {ram : ℕ} {o : Outcome} → Effect t ram o → granted (o .answer) ≡ false → o .tables ≡ t
 stays (bars e) f = refl
