@@ -1,11 +1,11 @@
--- Laws of the loops: the digest, bytes laid one a turn, the bytes of a number, bytes moved to the start. Assumes nothing.
-use mathlib.Core.Path.{_≡_, refl, sym, ap, _∙_}
+-- Laws of the loops: the digest, bytes laid one a turn, the bytes of a number. Assumes nothing.
+use mathlib.Core.Path.{_≡_, sym, ap, _∙_}
 use mathlib.Core.List.{List, [], _∷_, _++_, append-assoc, append-nil}
-use Prim.Native.Nat.{ℕ, zero, suc, _+_, _*_, _/_, _%_, _-_, _<_, _≤_}
+use Prim.Native.Nat.{ℕ, suc, _+_, _*_, _/_, _%_, _-_, _<_, _≤_}
 use native.Mathlib.Omega.{arith}
 use native.Mathlib.Numerals.{add-one}
-use lib.ListN.{length, getD, take, drop, set, replicate, length-drop, drop-of-length-le}
-use lib.Seq.{drop-cons, take-suc-set, take-suc, take-all, getD-drop, drop-drop, drop-set-lt}
+use lib.ListN.{length, getD, take, drop, set, replicate, drop-of-length-le}
+use lib.Seq.{drop-cons, take-suc-set, take-suc, take-all}
 use Rattle.text.specs.Text.{Put}
 use Rattle.text.proofs.Laws.{put-then}
 use Rattle.stream.specs.Digest.{mixed, digestFrom}
@@ -47,18 +47,3 @@ module _ (L : List ℕ) (i rest : ℕ) (l : length L ≡ 8) (h : i < 8) (e : dro
 
   pub low-rest : drop (i + 1) L ≡ lowBytes (8 - (i + 1)) (rest / 256)
   low-rest = ap (λ (k : ℕ). drop k L) (add-one i) ∙ ap (drop 1) split
-
--- i bytes of xs from start on are moved to the start of ys
-module _ (xs ys : List ℕ) (start i : ℕ) (h : start + i < length xs) (l : length ys ≡ length xs) (b : drop i ys ≡ drop i xs) where
-  moved : getD ys (start + i) 0 ≡ getD xs (start + i) 0
-  moved =
-      let q : i + start ≡ start + i = omega arith in
-      ap (λ (k : ℕ). getD ys k 0) (sym q) ∙ sym (getD-drop i ys start 0) ∙ ap (λ (zs : List ℕ). getD zs start 0) b ∙ getD-drop i xs start 0 ∙ ap (λ (k : ℕ). getD xs k 0) q
-
-  pub moved-front : take i ys ≡ take i (drop start xs) → take (i + 1) (set ys i (getD ys (start + i) 0)) ≡ take (i + 1) (drop start xs)
-  moved-front f =
-      let m : i < length (drop start xs) = rw length-drop (omega arith) in
-      rw (add-one, take-suc-set ys i (getD ys (start + i) 0) (omega arith), take-suc (drop start xs) i 0 m, getD-drop start xs i 0, f, moved)
-
-  pub moved-back : (v : ℕ) → drop (i + 1) (set ys i v) ≡ drop (i + 1) xs
-  moved-back v = drop-set-lt (i + 1) ys i v (omega arith) ∙ sym (drop-drop 1 i ys) ∙ ap (drop 1) b ∙ drop-drop 1 i xs

@@ -1,7 +1,7 @@
-// Numbers of four and of eight bytes, and bytes that stay in a buffer.
+// Numbers of four and of eight bytes.
 ghost use mathlib.Core.Path.{_≡_};
 ghost use Prim.Native.Nat.{_+_, _<_, _≤_};
-ghost use lib.ListN.{length, take, drop};
+ghost use lib.ListN.{length};
 ghost use Rattle.text.specs.Text.{Put};
 ghost use Rattle.stream.specs.Numbers.{u32At, u64Bytes};
 use events::fields::u16_at;
@@ -40,16 +40,4 @@ pub fn put_u64(x: u64, to: &mut [u8], at: usize) -> usize
         i += 1;
     }
     m
-}
-
-// The bytes from a place on, moved to the start.
-pub fn keep(buf: &mut [u8], start: usize, n: usize)
-    requires { ⌜ start + n ≤ length (now buf) ⌝ }
-    ensures { λ _. ⌜ take n (now (buf .exit)) ≡ take n (drop start (now (buf .entry))) ⌝ }
-{
-    let mut i = 0;
-    while i < n {
-        buf[i] = buf[start + i];
-        i += 1;
-    }
 }

@@ -1,7 +1,7 @@
 // A stream of requests and replies, to compare two implementations: a request has a call and may bring tables and RAM.
 use kernel::Tables;
 
-pub mod bytes; // numbers of four and of eight bytes, and bytes that stay in a buffer
+pub mod bytes; // numbers of four and of eight bytes
 pub mod digest; // the digest of bytes
 pub mod fill; // bytes by a seed, and bytes that are all the same
 pub mod requests; // where a request ends
