@@ -2,14 +2,14 @@
 
 use crate::edges::{edges, EDGES};
 use crate::protocol::{Reply, Request};
-use crate::words::{Shape, SHAPES};
 use exos_kernel::Tables;
+use exoslog::FORMS;
 use std::fmt::{self, Display, Formatter};
 
 /// The answers 0 to 17.
-const ANSWERS: usize = 18;
+const ANSWERS: usize = exoslog::ANSWERS.len();
 /// The rows: the kinds in the order of the table of bodies, and unknown ones.
-const ROWS: usize = SHAPES.len() + 1;
+const ROWS: usize = FORMS.len() + 1;
 
 /// The answers that document 01 allows for a kind. Every kind but start may
 /// answer TABLES, and every kind CALL: "body short of its fixed fields, or
@@ -50,21 +50,17 @@ fn allowed(kind: Option<u16>) -> &'static [u16] {
 
 /// The row of the counts for a kind.
 fn row_of(kind: u16) -> usize {
-    let known = SHAPES.iter().position(|shape| shape.kind == kind);
-    known.unwrap_or(SHAPES.len())
-}
-
-fn shape_of(row: usize) -> Option<&'static Shape> {
-    SHAPES.get(row)
+    let known = FORMS.iter().position(|form| form.kind == kind);
+    known.unwrap_or(FORMS.len())
 }
 
 fn allows(row: usize, answer: usize) -> bool {
-    allowed(shape_of(row).map(|shape| shape.kind)).contains(&(answer as u16))
+    allowed(FORMS.get(row).map(|form| form.kind)).contains(&(answer as u16))
 }
 
 fn name_of(row: usize) -> String {
-    shape_of(row).map_or("unknown".to_string(), |shape| {
-        format!("{} {}", shape.kind, shape.name)
+    FORMS.get(row).map_or("unknown".to_string(), |form| {
+        format!("{} {}", form.kind, form.words)
     })
 }
 

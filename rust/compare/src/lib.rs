@@ -1,6 +1,7 @@
 //! Holds the independent kernel against the proved program `exos_answer`:
 //! the same requests to both, and after every call the answer, both values,
-//! the tables, every byte of the RAM and the output compared.
+//! the tables, every byte of the RAM and the output compared. A difference is
+//! shrunk and told as a log in words, which `exoslog encode` reads back.
 
 pub mod cases;
 pub mod counts;
@@ -16,4 +17,3 @@ pub mod run;
 pub mod shrink;
 mod steer;
 mod view;
-pub mod words;

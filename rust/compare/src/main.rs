@@ -9,8 +9,9 @@ use std::sync::Mutex;
 use std::time::{Duration, Instant};
 
 const USAGE: &str =
-    "exos-compare [--calls N] [--seed S] [--pairs P]: holds the Rust kernel against \
-the proved program target/bin/exos_answer (or EXOS_ANSWER) over N calls";
+    "exos-compare [--calls N] [--seed S] [--first CASE] [--pairs P]: holds the Rust kernel \
+against the proved program target/bin/exos_answer (or EXOS_ANSWER) over N calls. A difference \
+is told as a log in words, which exoslog encode reads";
 
 /// How often the progress is shown.
 const OFTEN: Duration = Duration::from_secs(10);

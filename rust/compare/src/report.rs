@@ -1,35 +1,71 @@
-//! A difference as a person reads it.
+//! A difference as a person reads it: a log in words with comments.
 
 use crate::judge::Difference;
 use crate::machine::Machine;
-use crate::protocol::{tables_of, Case, Reply};
-use crate::words::words;
-use exos_kernel::{class, good, Device, Tables};
+use crate::protocol::{tables_of, Case, Image, Reply, Request, IMAGE};
+use exos_kernel::{good, Device, Tables};
+use exoslog::{hex, quoted, Class, Record, LONGEST};
 use std::fmt::Write;
 
-/// The case in 01's words, with the answers of both sides and what differs.
-/// It ends at the request that differs.
+/// What a report says of itself.
+const HEAD: &str = "# a log in words: paste it into a file for exoslog encode, and replay that by \
+exos-listing, which lends at most four segments\n";
+
+/// The records in 01's words, up to the one that differs. All else is comment:
+/// the tables and RAM to begin with, the answers of both sides, what differs.
+/// So `exoslog encode` reads the report back to the records, and `exos-listing`
+/// replays them, from no tables and with the RAM and output that it lends.
 pub fn report(case: &Case, found: &Difference) -> String {
-    let mut text = format!("  RAM: {} bytes, seed {}\n", case.ram_length, case.seed);
-    let tables = tables_of(&case.image);
-    if tables == Tables::default() {
-        text += "  tables to begin with: all zero\n";
-    } else {
-        text += &tables_in_words("tables to begin with", &tables);
-    }
+    let mut text = format!(
+        "{HEAD}# RAM: {} bytes, seed {}\n",
+        case.ram_length, case.seed
+    );
     let mut machine = Machine::of(case);
-    let mut before = tables;
+    let mut before = machine.tables.clone();
+    text += &start_state(&case.image);
     for (row, request) in case.requests.iter().enumerate() {
         before = machine.tables.clone();
         let answered = answer(&machine.answer(request));
         let (row, said, lent) = (row + 1, words(request), request.output);
-        let _ = writeln!(text, "{row:>4}. {said}, output of {lent}: {answered}");
+        let _ = writeln!(text, "{said} # {row}, output of {lent}: {answered}");
     }
     let program = found.program.as_ref().map_or("nothing".into(), answer);
-    let _ = writeln!(text, "      the program: {program}");
-    let _ = writeln!(text, "      differs: {}", found.fields().join(", "));
+    let _ = writeln!(text, "# the program: {program}");
+    let _ = writeln!(text, "# differs: {}", found.fields().join(", "));
     text += &tables_in_words("the kernel's tables before that call", &before);
     text + &tables_in_words("the kernel's tables after it", &machine.tables)
+}
+
+/// A request's record in the words that `exoslog encode` reads, or a comment
+/// where a log cannot have so long a record.
+pub fn words(request: &Request) -> String {
+    let (kind, body) = (request.kind(), request.body());
+    if request.record.len() > LONGEST {
+        return format!("# too long for a log: kind {kind}, body {}", body.len());
+    }
+    exoslog::words(Record::Whole { kind, body })
+}
+
+/// The tables to begin with, in words and as the bytes that are not zero.
+fn start_state(image: &Image) -> String {
+    if *image == [0; IMAGE] {
+        return "# tables to begin with: all zero\n".to_string();
+    }
+    let tables = tables_in_words("tables to begin with", &tables_of(image));
+    format!("{tables}#   image, but for zeros: {}\n", runs(image))
+}
+
+/// The runs of bytes that are not zero, each behind its offset.
+fn runs(image: &Image) -> String {
+    let mut runs = Vec::new();
+    let mut at = 0;
+    for run in image.split(|&byte| byte == 0) {
+        if !run.is_empty() {
+            runs.push(format!("{at}: {}", hex(run)));
+        }
+        at += run.len() + 1;
+    }
+    runs.join(", ")
 }
 
 fn answer(reply: &Reply) -> String {
@@ -62,96 +98,117 @@ fn tables_in_words(title: &str, tables: &Tables) -> String {
     let devices = &tables.devices[..used(tables.device_count, tables.devices.len())];
     let devices: Vec<_> = devices.iter().map(device_words).collect();
     let default = &tables.default;
-    let mut text = format!("  {title} ({state}):\n");
-    let mut line = |name: &str, value: String| {
-        let _ = writeln!(text, "    {name}: {value}");
-    };
-    line(
-        "segments",
-        format!("{}: {}", tables.segments, held.join(", ")),
-    );
-    line(
-        "chain",
-        format!("{}: {}", tables.chain_length, chain.join(", ")),
-    );
-    line("user boundary", tables.user_boundary.to_string());
-    line("R, cold R", format!("{}, {}", tables.r, tables.cold_r));
-    line(
-        "channels",
-        format!("{}: {}", tables.channel_count, channels.join(", ")),
-    );
-    line(
-        "devices",
-        format!("{}: {}", tables.device_count, devices.join(", ")),
-    );
-    line(
-        "default",
-        format!(
-            "\"{}\" unit {}",
-            letters(&default.name, default.length),
-            default.unit
-        ),
-    );
-    text
+    let default_name = name_words(&default.name, default.length);
+    let rows = |count: u8, rows: Vec<String>| format!("{count}: {}", rows.join(", "));
+    [
+        format!("# {title} ({state}):"),
+        format!("segments: {}", rows(tables.segments, held)),
+        format!("chain: {}", rows(tables.chain_length, chain)),
+        format!("user boundary: {}", tables.user_boundary),
+        format!("R, cold R: {}, {}", tables.r, tables.cold_r),
+        format!("channels: {}", rows(tables.channel_count, channels)),
+        format!("devices: {}", rows(tables.device_count, devices)),
+        format!("default: {default_name} unit {}\n", default.unit),
+    ]
+    .join("\n#   ")
 }
 
 fn class_name(held: u8) -> String {
-    match held {
-        class::NONE => "page zero".into(),
-        class::FREE => "free".into(),
-        class::USER => "user".into(),
-        class::SYSTEM => "system".into(),
-        class::DEVICE => "device".into(),
-        class::SHARED => "shared".into(),
-        other => format!("class {other}"),
-    }
+    Class::of(held).map_or(format!("class {held}"), |class| class.to_string())
 }
 
 fn device_words(device: &Device) -> String {
     let state = if device.enabled { "" } else { " (disabled)" };
-    format!("\"{}\"{state}", letters(&device.name, device.length))
+    name_words(&device.name, device.length) + state
 }
 
-fn letters(name: &[u8], length: u8) -> String {
-    name[..usize::from(length).min(name.len())]
-        .escape_ascii()
-        .to_string()
+fn name_words(name: &[u8], length: u8) -> String {
+    quoted(&name[..usize::from(length).min(name.len())])
 }
 
 #[cfg(test)]
 mod tests {
     use super::*;
     use crate::machine::replies;
-    use crate::protocol::{Request, IMAGE};
+    use exoslog::{encode, records};
 
-    #[test]
-    fn a_difference_in_words() {
+    /// The report of a case whose last reply has another answer and RAM.
+    fn told(image: Image, requests: Vec<Request>) -> String {
         let case = Case {
-            image: [0; IMAGE],
+            image,
             ram_length: 32_768,
             seed: 1,
-            requests: vec![
-                Request::new(0, 256, &[0, 1, 8, 255]),
-                Request::new(0, 1, b"\x05\x00\x64\x00net7:"),
-            ],
+            requests,
         };
         let kernel = replies(&case);
         let mut program = kernel.clone();
-        program[1].number = 9;
-        program[1].ram += 1;
-        let found = Difference::first(&kernel, &program).unwrap();
-        let text = report(&case, &found);
-        for part in [
-            "tables to begin with: all zero",
-            "  1. start 256 [8, 255], output of 0: 0 2 256",
-            "  2. open 5 0 100 \"net7:\", output of 0: 0 1 7",
-            "the program: 9 1 7",
-            "differs: answer, RAM",
-            "segments: 2: 8 page zero, 255 system",
-            "channels: 0: \n",
-            "channels: 1: 5 (device 1, unit 7, n 100)",
-        ] {
+        let last = program.last_mut().unwrap();
+        last.number = 9;
+        last.ram += 1;
+        report(&case, &Difference::first(&kernel, &program).unwrap())
+    }
+
+    fn check(text: &str, parts: &[&str]) {
+        for part in parts {
             assert!(text.contains(part), "{part} is not in\n{text}");
         }
+    }
+
+    #[test]
+    fn a_difference_in_words() {
+        let start = Request::new(0, 256, &[0, 1, 8, 255]);
+        let open = Request::new(0, 1, b"\x05\x00\x64\x00net7:");
+        check(
+            &told([0; IMAGE], vec![start, open]),
+            &[
+                "# tables to begin with: all zero\n",
+                "\nstart 256 8 255 # 1, output of 0: 0 2 256\n",
+                "\nopen 5 0 100 \"net7:\" # 2, output of 0: 0 1 7\n",
+                "# the program: 9 1 7\n",
+                "# differs: answer, RAM\n",
+                "#   segments: 2: 8 page zero, 255 system\n",
+                "#   channels: 0: \n",
+                "#   channels: 1: 5 (device 1, unit 7, n 100)\n",
+            ],
+        );
+    }
+
+    #[test]
+    fn tables_to_begin_with() {
+        let mut image = [0; IMAGE];
+        image[..3].copy_from_slice(&[2, 8, 255]);
+        image[33..35].copy_from_slice(&[9, 1]);
+        check(
+            &told(image, vec![Request::new(0, 22, &[])]),
+            &[
+                "# tables to begin with (not good):\n",
+                "#   segments: 2: 8 class 9, 255 free\n",
+                "#   image, but for zeros: 0: 0208ff, 33: 0901\n",
+                "\nboundary # 1, output of 0: 1 0 0\n",
+            ],
+        );
+    }
+
+    #[test]
+    fn the_records_are_read_back_from_a_report() {
+        let requests = vec![
+            Request::new(0, 256, &[0, 1, 8, 255]),
+            Request::new(3, 8, &[5, 0, 0, 1, 2]),
+            Request::new(3, 3, &[]),
+            Request::new(7, 999, &[1]),
+            Request::new(0, 19, b"\x01\"\n"),
+        ];
+        let mut with_long = requests.clone();
+        with_long.push(Request::new(0, 8, &[0; LONGEST - 1]));
+        let log = encode(told([7; IMAGE], with_long).as_bytes()).unwrap();
+        let read: Vec<_> = records(&log).collect();
+        let made: Vec<_> = requests
+            .iter()
+            .map(|request| Record::Whole {
+                kind: request.kind(),
+                body: request.body(),
+            })
+            .collect();
+        assert_eq!(read, made);
     }
 }

@@ -24,7 +24,7 @@ pub enum Until {
 pub enum Outcome {
     /// No difference.
     Same(Box<Counts>),
-    /// A difference, shrunk, in words.
+    /// A difference, shrunk, as a log in words.
     Differs(String),
 }
 
@@ -100,8 +100,10 @@ impl Shared<'_> {
             } = played(self.run.seed, number);
             if Difference::first(&replies, &program.replies(&case)?).is_some() {
                 self.ended.store(true, Ordering::Relaxed);
-                let title = format!("seed {}, case {number}", self.run.seed);
-                return Ok(Outcome::Differs(shrunk(&title, program, case)?));
+                let seed = self.run.seed;
+                let again =
+                    format!("exos-compare --seed {seed} --first {number} --calls 1 --pairs 1");
+                return Ok(Outcome::Differs(shrunk(&again, program, case)?));
             }
             all.join(&counts);
             let calls = counts.calls();
@@ -111,8 +113,9 @@ impl Shared<'_> {
     }
 }
 
-/// The least case that shows a difference, in words.
-fn shrunk(title: &str, program: &mut dyn Answerer, case: Case) -> io::Result<String> {
+/// The least case that shows a difference, as a log in words. `again` is the
+/// command that finds it again.
+fn shrunk(again: &str, program: &mut dyn Answerer, case: Case) -> io::Result<String> {
     let before = case.requests.len();
     let mut failed = None;
     let case = shrink(case, |case| {
@@ -126,11 +129,12 @@ fn shrunk(title: &str, program: &mut dyn Answerer, case: Case) -> io::Result<Str
         return Err(error);
     }
     let Some(found) = Difference::between(program, &case)? else {
-        return Ok(format!("{title}: a difference that does not come again\n"));
+        return Ok("# a difference that does not come again\n".to_string());
     };
     let records = case.requests.len();
-    let title = format!("{title}: a difference, shrunk from {before} records to {records}\n");
-    Ok(title + &report(&case, &found))
+    let title = format!("# a difference, shrunk from {before} records to {records}");
+    let report = report(&case, &found);
+    Ok(format!("{title}\n# found again by {again}\n{report}"))
 }
 
 #[cfg(test)]
@@ -179,9 +183,9 @@ mod tests {
         let Outcome::Differs(text) = outcome else {
             panic!("no difference was found");
         };
-        assert!(text.contains("to 1\n"), "{text}");
+        assert!(text.contains(" to 1\n"), "{text}");
         assert!(
-            text.contains("1. link 0 \"A\", output of 0: 1 0 0"),
+            text.contains("\nlink 0 \"A\" # 1, output of 0: 1 0 0\n"),
             "{text}"
         );
         assert!(text.contains("ended without a reply"), "{text}");

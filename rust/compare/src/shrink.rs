@@ -3,8 +3,8 @@
 
 use crate::cases::start_of;
 use crate::protocol::{tables_of, Case, Request, IMAGE};
-use crate::words::{Shape, Tail};
 use exos_kernel::{HEADING, SEGMENT};
+use exoslog::{form_of, Field};
 use std::ops::Range;
 
 /// Where an open's record has its n.
@@ -169,20 +169,14 @@ impl<Differs: FnMut(&Case) -> Option<usize>> Shrinker<Differs> {
     fn simplify_request(&mut self, row: usize) {
         let output = |request: &mut Request, value: u16| request.output = value;
         self.lower(row, |request| Some(request.output), output);
-        let Some(fields) = self.case.requests.get(row).map(fields_of) else {
-            return;
-        };
-        for field in 0..fields {
-            let value = |request: &Request| Some(parts(request)?.0[field]);
+        for at in 0..self.parts(row).map_or(0, |parts| parts.len()) {
+            let value = |request: &Request| parts(request)?[at].number();
             let set = |request: &mut Request, value: u16| {
-                if let Some((mut fields, tail)) = parts(request) {
-                    fields[field] = value;
-                    put(request, &fields, &tail);
-                }
+                change(request, |parts| parts.get_mut(at)?.set(value));
             };
             self.lower(row, value, set);
         }
-        self.simplify_tail(row);
+        self.simplify_rest(row);
     }
 
     /// Lowers a number of a request as far as halving finds.
@@ -230,73 +224,108 @@ impl<Differs: FnMut(&Case) -> Option<usize>> Shrinker<Differs> {
         }
     }
 
-    /// Tries a plain name, a shorter tail, and zero data.
-    fn simplify_tail(&mut self, row: usize) {
-        let Some(shape) = self.shape(row) else {
-            return;
-        };
-        match shape.tail {
-            Tail::None | Tail::List => return,
-            Tail::Name => {
+    /// Tries a plain name or zero data, then a shorter one.
+    fn simplify_rest(&mut self, row: usize) {
+        let last = self.parts(row).and_then(|mut parts| parts.pop());
+        match last.map(|last| last.field) {
+            Some(Field::Name) => {
                 for plain in [&b"A"[..], b"VIDEO:", b"NET:"] {
-                    if self.tail(row) == plain || self.try_tail(row, plain.to_vec()) {
+                    if self.rest(row) == plain || self.try_rest(row, plain.to_vec()) {
                         return;
                     }
                 }
             }
-            Tail::Data => {
-                let zero = vec![0; self.tail(row).len()];
-                if self.tail(row) != zero {
-                    self.try_tail(row, zero);
+            Some(Field::Data) => {
+                let zero = vec![0; self.rest(row).len()];
+                if self.rest(row) != zero {
+                    self.try_rest(row, zero);
                 }
             }
+            _ => return,
         }
-        self.shorten_tail(row);
+        self.shorten_rest(row);
     }
 
-    /// Leaves out runs of the tail's bytes: half of them at first.
-    fn shorten_tail(&mut self, row: usize) {
-        let mut run = self.tail(row).len();
+    /// Leaves out runs of a name's or data's bytes: half of them at first.
+    fn shorten_rest(&mut self, row: usize) {
+        let mut run = self.rest(row).len();
         while run > 0 {
-            let mut end = self.tail(row).len();
+            let mut end = self.rest(row).len();
             while end > 0 {
                 let start = end.saturating_sub(run);
-                let mut tail = self.tail(row);
-                tail.drain(start..end.min(tail.len()));
-                self.try_tail(row, tail);
-                end = start.min(self.tail(row).len());
+                let mut rest = self.rest(row);
+                rest.drain(start..end.min(rest.len()));
+                self.try_rest(row, rest);
+                end = start.min(self.rest(row).len());
             }
             run /= 2;
         }
     }
 
-    fn shape(&self, row: usize) -> Option<&'static Shape> {
-        let request = self.case.requests.get(row)?;
-        parts(request).and(Shape::of(request.kind()))
+    fn parts(&self, row: usize) -> Option<Vec<Part>> {
+        self.case.requests.get(row).and_then(parts)
     }
 
-    fn tail(&self, row: usize) -> Vec<u8> {
-        let request = self.case.requests.get(row);
-        request.and_then(parts).map_or(Vec::new(), |(_, tail)| tail)
+    /// The bytes of the last field of a request.
+    fn rest(&self, row: usize) -> Vec<u8> {
+        let last = self.parts(row).and_then(|mut parts| parts.pop());
+        last.map_or(Vec::new(), |last| last.bytes)
     }
 
-    fn try_tail(&mut self, row: usize, tail: Vec<u8>) -> bool {
+    fn try_rest(&mut self, row: usize, rest: Vec<u8>) -> bool {
         let mut case = self.case.clone();
-        let Some(request) = case.requests.get_mut(row) else {
-            return false;
+        let request = case.requests.get_mut(row);
+        let put = |parts: &mut [Part]| {
+            parts.last_mut()?.bytes = rest;
+            Some(())
         };
-        let Some((fields, _)) = parts(request) else {
-            return false;
-        };
-        put(request, &fields, &tail);
-        self.accepts(case)
+        request.is_some_and(|request| change(request, put)) && self.accepts(case)
     }
 }
 
-/// The fields and the tail of a request whose body is whole.
-fn parts(request: &Request) -> Option<(Vec<u16>, Vec<u8>)> {
-    let (fields, tail) = Shape::of(request.kind())?.split(request.body())?;
-    Some((fields, tail.to_vec()))
+/// A field of a body and its bytes.
+struct Part {
+    field: Field,
+    bytes: Vec<u8>,
+}
+
+impl Part {
+    /// The number that a fixed field is.
+    fn number(&self) -> Option<u16> {
+        self.field.size()?;
+        let bytes = self.bytes.iter().rev();
+        Some(bytes.fold(0, |number, &byte| number << 8 | u16::from(byte)))
+    }
+
+    /// Puts a number into a fixed field.
+    fn set(&mut self, number: u16) -> Option<()> {
+        let size = self.field.size()?;
+        self.bytes = number.to_le_bytes()[..size].to_vec();
+        Some(())
+    }
+}
+
+/// The parts of a request whose body fits its form.
+fn parts(request: &Request) -> Option<Vec<Part>> {
+    let parts = form_of(request.kind())?.parts(request.body()).ok()?;
+    let owned = parts.into_iter().map(|(field, bytes)| Part {
+        field,
+        bytes: bytes.to_vec(),
+    });
+    Some(owned.collect())
+}
+
+/// Changes the parts of a request; false where that cannot be.
+fn change(request: &mut Request, how: impl FnOnce(&mut [Part]) -> Option<()>) -> bool {
+    let Some(mut parts) = parts(request) else {
+        return false;
+    };
+    let changed = how(&mut parts).is_some();
+    if changed {
+        let body: Vec<u8> = parts.into_iter().flat_map(|part| part.bytes).collect();
+        *request = Request::new(usize::from(request.output), request.kind(), &body);
+    }
+    changed
 }
 
 /// The channel that a request names first in its body.
@@ -312,28 +341,13 @@ fn buffer_of(case: &Case, row: usize) -> Option<u16> {
     Some(u16::from_le_bytes([n[0], n[1]]))
 }
 
-fn fields_of(request: &Request) -> usize {
-    parts(request).map_or(0, |(fields, _)| fields.len())
-}
-
 /// Lowers the last number of a body by so much; false where that cannot be.
 fn lower_last(request: &mut Request, by: u16) -> bool {
-    let Some((mut fields, tail)) = parts(request) else {
-        return false;
-    };
-    let lowered = fields.last().and_then(|last| last.checked_sub(by));
-    if let (Some(last), Some(lowered)) = (fields.last_mut(), lowered) {
-        *last = lowered;
-        put(request, &fields, &tail);
-    }
-    lowered.is_some()
-}
-
-fn put(request: &mut Request, fields: &[u16], tail: &[u8]) {
-    if let Some(shape) = Shape::of(request.kind()) {
-        let body = shape.body(fields, tail);
-        *request = Request::new(usize::from(request.output), shape.kind, &body);
-    }
+    change(request, |parts| {
+        let mut numbers = parts.iter_mut().rev();
+        let last = numbers.find(|part| part.field.size().is_some())?;
+        last.set(last.number()?.checked_sub(by)?)
+    })
 }
 
 #[cfg(test)]
@@ -343,7 +357,7 @@ mod tests {
     use crate::judge::Difference;
     use crate::machine;
     use crate::protocol::Reply;
-    use crate::words::words;
+    use crate::report::words;
 
     /// A side that writes a buffer's byte wrong from the second channel on,
     /// for writes of two bytes or more.
@@ -377,9 +391,9 @@ mod tests {
             let case = shrink(found.next().unwrap(), differs);
             let said: Vec<_> = case.requests.iter().map(words).collect();
             let first = case.requests[0].record[4];
-            assert_eq!(said[0], format!("start 256 [{first}, 255]"));
+            assert_eq!(said[0], format!("start 256 {first} 255"));
             let written = case.requests[3].record[2];
-            assert_eq!(said[3..], [format!("write {written} 0 [00 00]")]);
+            assert_eq!(said[3..], [format!("write {written} 0 0000")]);
             let mut opens = [said[1].as_str(), &said[2]];
             opens.sort_by_key(|open| open.starts_with(&format!("open {written} ")));
             assert_eq!(opens[0], format!("open {} 0 0 \"VIDEO:\"", 1 - written));

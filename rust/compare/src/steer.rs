@@ -4,8 +4,8 @@
 use crate::protocol::Request;
 use crate::random::Random;
 use crate::view::View;
-use crate::words::{Shape, SHAPES};
 use exos_kernel::{class, Device, Tables, HEADING, LEAST_R, MOST_R, SEGMENT};
+use exoslog::{form_of, Field, FORMS};
 
 /// What a log is mostly about.
 #[derive(Clone, Copy, Debug, PartialEq, Eq)]
@@ -46,7 +46,7 @@ impl Mood {
         };
         let mut kinds = [(UNKNOWN, 0); 16];
         for (row, weight) in weights.into_iter().enumerate() {
-            kinds[row].0 = SHAPES.get(row).map_or(UNKNOWN, |shape| shape.kind);
+            kinds[row].0 = FORMS.get(row).map_or(UNKNOWN, |form| form.kind);
             kinds[row].1 = weight;
         }
         kinds
@@ -144,9 +144,14 @@ impl<'a> Steer<'a> {
     }
 
     fn lent(&mut self, output: usize, kind: u16, fields: &[usize], tail: &[u8]) -> Request {
-        let fields: Vec<u16> = fields.iter().map(|&field| field as u16).collect();
-        let shape = Shape::of(kind).expect("a known kind");
-        Request::new(output, kind, &shape.body(&fields, tail))
+        let form = form_of(kind).expect("a known kind");
+        let sizes = form.fields.iter().copied().filter_map(Field::size);
+        let mut body = Vec::new();
+        for (size, field) in sizes.zip(fields) {
+            body.extend(&field.to_le_bytes()[..size]);
+        }
+        body.extend(tail);
+        Request::new(output, kind, &body)
     }
 
     /// A value around an edge: mostly at it or one beyond.
@@ -518,8 +523,8 @@ impl<'a> Steer<'a> {
             1 => self
                 .random
                 .pick(&[2, 4, 5, 7, 9, 18, 26, 255, 259, 512, 65_535]),
-            2 => self.random.pick(&SHAPES.map(|shape| shape.kind)) ^ 256,
-            _ => self.random.pick(&SHAPES.map(|shape| shape.kind)) ^ 512,
+            2 => self.random.pick(&FORMS.map(|form| form.kind)) ^ 256,
+            _ => self.random.pick(&FORMS.map(|form| form.kind)) ^ 512,
         };
         let length = self.random.below(8);
         let body = self.random.bytes(length);
@@ -542,7 +547,7 @@ impl<'a> Steer<'a> {
                 record[at] = self.random.byte();
             }
             4 => {
-                let kind = self.random.pick(&SHAPES.map(|shape| shape.kind));
+                let kind = self.random.pick(&FORMS.map(|form| form.kind));
                 record[..2].copy_from_slice(&kind.to_le_bytes());
             }
             _ => {

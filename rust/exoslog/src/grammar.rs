@@ -170,11 +170,9 @@ pub fn form_of(kind: u16) -> Option<&'static Form> {
     FORMS.iter().find(|form| form.kind == kind)
 }
 
-/// How a body fits its form.
+/// How a body does not fit its form.
 #[derive(Clone, Copy, Debug, PartialEq, Eq)]
-pub(crate) enum Fit {
-    /// Exactly.
-    Fits,
+pub enum Misfit {
     /// "Body short of its fixed fields."
     Short,
     /// "Or longer without name, data or list."
@@ -182,26 +180,21 @@ pub(crate) enum Fit {
 }
 
 impl Form {
-    /// The bytes of the fixed fields.
-    pub(crate) fn fixed(&self) -> usize {
-        self.fields.iter().filter_map(|field| field.size()).sum()
-    }
-
-    /// Whether the last field is a name, data or list.
-    fn is_open_ended(&self) -> bool {
-        self.fields
-            .last()
-            .is_some_and(|field| field.size().is_none())
-    }
-
-    /// How a body of this length fits.
-    pub(crate) fn fit(&self, length: usize) -> Fit {
-        if length < self.fixed() {
-            Fit::Short
-        } else if length > self.fixed() && !self.is_open_ended() {
-            Fit::Long
+    /// The fields of a body, each with its bytes, which end to end are the
+    /// body.
+    pub fn parts<'a>(&self, body: &'a [u8]) -> Result<Vec<(Field, &'a [u8])>, Misfit> {
+        let mut parts = Vec::new();
+        let mut rest = body;
+        for field in self.fields {
+            let size = field.size().unwrap_or(rest.len());
+            let (bytes, later) = rest.split_at_checked(size).ok_or(Misfit::Short)?;
+            parts.push((*field, bytes));
+            rest = later;
+        }
+        if rest.is_empty() {
+            Ok(parts)
         } else {
-            Fit::Fits
+            Err(Misfit::Long)
         }
     }
 }
@@ -217,7 +210,7 @@ mod tests {
             for length in 0..20 {
                 let body = vec![0; length];
                 let call = exos_kernel::decode(kind, &body);
-                let fits = form_of(kind).is_some_and(|form| form.fit(length) == Fit::Fits);
+                let fits = form_of(kind).is_some_and(|form| form.parts(&body).is_ok());
                 assert_eq!(
                     fits,
                     !matches!(call, Call::Unknown { .. }),
@@ -225,6 +218,18 @@ mod tests {
                 );
             }
         }
+    }
+
+    #[test]
+    fn a_body_in_its_parts() {
+        let open = form_of(1).unwrap();
+        let body = b"\x05\x01\x02\x03NET";
+        let parts = open.parts(body).unwrap();
+        let bytes: Vec<_> = parts.iter().map(|part| part.1).collect();
+        assert_eq!(bytes, [&b"\x05"[..], b"\x01", b"\x02\x03", b"NET"]);
+        assert_eq!(parts[3].0, Field::Name);
+        assert_eq!(open.parts(&body[..3]), Err(Misfit::Short));
+        assert_eq!(form_of(3).unwrap().parts(body), Err(Misfit::Long));
     }
 
     #[test]

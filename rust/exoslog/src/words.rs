@@ -1,6 +1,6 @@
 //! Records in words.
 
-use crate::grammar::{form_of, Field, Fit, Form};
+use crate::grammar::{form_of, Field, Form, Misfit};
 use crate::records::{records, Record};
 
 /// A log in words, one record a line. [`encode`](crate::encode) gives exactly
@@ -26,25 +26,22 @@ fn whole(kind: u16, body: &[u8]) -> String {
     let Some(form) = form_of(kind) else {
         return format!("kind {kind} {} # kind unknown", data(body));
     };
-    let why = match form.fit(body.len()) {
-        Fit::Fits => return call(form, body),
-        Fit::Short => "body short of its fixed fields",
-        Fit::Long => "body longer than its fields",
+    let why = match form.parts(body) {
+        Ok(parts) => return call(form, &parts),
+        Err(Misfit::Short) => "body short of its fixed fields",
+        Err(Misfit::Long) => "body longer than its fields",
     };
     format!("kind {kind} {} # {}: {why}", data(body), form.words)
 }
 
 /// A body that fits its form.
-fn call(form: &Form, body: &[u8]) -> String {
+fn call(form: &Form, parts: &[(Field, &[u8])]) -> String {
     let mut text = form.words.to_string();
-    let mut rest = body;
-    for field in form.fields {
-        let (bytes, later) = rest.split_at(field.size().unwrap_or(rest.len()));
+    for (field, bytes) in parts {
         for word in field_words(*field, bytes) {
             text.push(' ');
             text.push_str(&word);
         }
-        rest = later;
     }
     text
 }
@@ -86,7 +83,7 @@ pub fn counted(count: usize, thing: &str) -> String {
 }
 
 /// Bytes in lower-case hex.
-pub(crate) fn hex(bytes: &[u8]) -> String {
+pub fn hex(bytes: &[u8]) -> String {
     let digit = |value: u8| char::from(b"0123456789abcdef"[usize::from(value)]);
     bytes
         .iter()
@@ -96,7 +93,7 @@ pub(crate) fn hex(bytes: &[u8]) -> String {
 
 /// A string in double quotes: printable bytes as they are, `\\` and `\"`, any
 /// other byte as `\x` and two digits.
-fn quoted(bytes: &[u8]) -> String {
+pub fn quoted(bytes: &[u8]) -> String {
     let mut text = "\"".to_string();
     for &byte in bytes {
         match byte {

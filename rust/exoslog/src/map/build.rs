@@ -106,14 +106,7 @@ fn line(tables: &Tables) -> Vec<LineRecord> {
 fn segment(tables: &Tables, row: usize, line: &[LineRecord]) -> Segment {
     let chain = &tables.chain[..usize::from(tables.chain_length)];
     let link = chain.iter().position(|&other| usize::from(other) == row);
-    let class = match tables.classes[row] {
-        class::FREE => Class::Free,
-        class::USER => Class::User,
-        class::SYSTEM => Class::System,
-        class::DEVICE => Class::Device,
-        class::SHARED => Class::Shared,
-        _ => Class::PageZero,
-    };
+    let class = Class::of(tables.classes[row]).expect("good tables");
     let regions = match link {
         Some(link) => held(tables, link, class, line),
         None => vec![Region {

@@ -3,6 +3,7 @@
 mod build;
 
 use crate::words::counted;
+use exos_kernel::class;
 use std::fmt;
 use std::ops::Range;
 
@@ -82,6 +83,21 @@ pub enum Class {
     Device,
     /// Held by the system above and the user below.
     Shared,
+}
+
+impl Class {
+    /// The class that a row of the tables says.
+    pub fn of(held: u8) -> Option<Class> {
+        match held {
+            class::NONE => Some(Class::PageZero),
+            class::FREE => Some(Class::Free),
+            class::USER => Some(Class::User),
+            class::SYSTEM => Some(Class::System),
+            class::DEVICE => Some(Class::Device),
+            class::SHARED => Some(Class::Shared),
+            _ => None,
+        }
+    }
 }
 
 impl fmt::Display for Class {

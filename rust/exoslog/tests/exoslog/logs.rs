@@ -44,7 +44,7 @@ pub fn random_log(random: &mut Random) -> Vec<u8> {
 pub fn damage(random: &mut Random, log: &mut Vec<u8>) {
     if random.one_in(4) && !log.is_empty() {
         let at = random.below(log.len());
-        log[at] = random.next() as u8;
+        log[at] = random.byte();
     }
     if random.one_in(4) {
         log.truncate(random.below(log.len() + 1));

@@ -3,6 +3,7 @@
 mod command;
 mod logs;
 mod pictures;
+#[path = "../../../compare/src/random.rs"]
 mod random;
 mod replays;
 mod round_trips;

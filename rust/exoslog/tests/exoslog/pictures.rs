@@ -17,7 +17,7 @@ fn after(log: &[u8]) -> (Map, Machine) {
 
 #[test]
 fn every_byte_of_every_segment_is_in_one_region() {
-    let mut random = Random::new(4);
+    let mut random = Random::new(4, 0);
     for _ in 0..2_000 {
         let ram = after(&random_log(&mut random)).0.ram.unwrap();
         for segment in &ram.segments {
@@ -36,7 +36,7 @@ fn every_byte_of_every_segment_is_in_one_region() {
 /// channel, device, unit, 7 zero bytes."
 #[test]
 fn each_record_has_its_heading_where_the_picture_shows_it() {
-    let mut random = Random::new(5);
+    let mut random = Random::new(5, 0);
     let mut seen = 0;
     for _ in 0..2_000 {
         let (map, machine) = after(&random_log(&mut random));
@@ -74,7 +74,7 @@ fn bytes_of_the_line(ram: &Ram, bytes: &[u8]) -> Vec<u8> {
 
 #[test]
 fn the_boundaries_are_edges_of_regions() {
-    let mut random = Random::new(6);
+    let mut random = Random::new(6, 0);
     let mut shared = 0;
     for _ in 0..2_000 {
         let ram = after(&random_log(&mut random)).0.ram.unwrap();
@@ -102,7 +102,7 @@ fn the_boundaries_are_edges_of_regions() {
 
 #[test]
 fn pictures_of_random_logs_have_80_columns_and_whole_elements() {
-    let mut random = Random::new(7);
+    let mut random = Random::new(7, 0);
     for _ in 0..300 {
         let map = after(&random_log(&mut random)).0;
         let text = terminal(&map);

@@ -7,7 +7,7 @@ use exoslog::{answer_to, records};
 
 #[test]
 fn the_answers_are_those_of_the_listing() {
-    let mut random = Random::new(8);
+    let mut random = Random::new(8, 0);
     let mut lines = 0;
     for _ in 0..2_000 {
         let mut log = random_log(&mut random);

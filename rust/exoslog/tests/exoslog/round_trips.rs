@@ -16,7 +16,7 @@ fn check(log: &[u8]) {
 
 #[test]
 fn random_bytes() {
-    let mut random = Random::new(1);
+    let mut random = Random::new(1, 0);
     for _ in 0..LOGS {
         let length = random.below(64);
         check(&random.bytes(length));
@@ -26,7 +26,7 @@ fn random_bytes() {
 /// Lengths that are right more often than not, with random kinds and bodies.
 #[test]
 fn random_records() {
-    let mut random = Random::new(2);
+    let mut random = Random::new(2, 0);
     let mut whole = 0;
     for _ in 0..LOGS {
         let mut log = Vec::new();
@@ -44,7 +44,7 @@ fn random_records() {
 
 #[test]
 fn long_records() {
-    let mut random = Random::new(3);
+    let mut random = Random::new(3, 0);
     for length in [2_u16, 4_094, 4_095, 4_096, 4_097, 65_535] {
         for form in &FORMS {
             let mut log = length.to_le_bytes().to_vec();
@@ -91,7 +91,7 @@ fn one_form_for_the_same_records() {
 /// Puts a record, mostly of a kind of 01 with a body of about its length.
 fn put_record(random: &mut Random, log: &mut Vec<u8>) {
     let kind = if random.one_in(8) {
-        random.next() as u16
+        random.word()
     } else {
         FORMS[random.below(FORMS.len())].kind
     };

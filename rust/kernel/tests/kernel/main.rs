@@ -11,6 +11,7 @@ mod model;
 mod moves;
 mod names;
 mod plain_good;
+#[path = "../../../compare/src/random.rs"]
 mod random;
 mod random_tables;
 mod refusals;

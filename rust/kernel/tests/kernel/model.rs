@@ -398,7 +398,7 @@ fn some_number(random: &mut Random) -> u8 {
 
 fn some_segment(random: &mut Random, model: &Model) -> u8 {
     if random.one_in(20) {
-        random.next() as u8
+        random.byte()
     } else {
         random.pick(&model.list)
     }
@@ -498,7 +498,7 @@ fn step_device(random: &mut Random, model: &mut Model, machine: &mut Machine) {
             assert_eq!(machine.reset(flags), model.reset(flags));
         }
         1..=3 => {
-            let unit = random.next() as u8;
+            let unit = random.byte();
             let text = name.to_lowercase();
             let name_bytes = text.as_bytes();
             let answer = machine.call(Call::Default {
@@ -517,8 +517,8 @@ fn step_device(random: &mut Random, model: &mut Model, machine: &mut Machine) {
     }
 }
 
-fn run(seed: u64, calls: usize) {
-    let mut random = Random::new(seed);
+fn run(case: u64, calls: usize) {
+    let mut random = Random::new(1, case);
     let segments = 1 + random.below(6);
     let mut list: Vec<u8> = (0..segments).map(|_| 8 + random.below(247) as u8).collect();
     list.push(255);
@@ -539,7 +539,7 @@ fn run(seed: u64, calls: usize) {
 
 #[test]
 fn random_calls_agree_with_the_plain_model() {
-    for seed in 1..=100 {
-        run(seed, 150);
+    for case in 1..=100 {
+        run(case, 150);
     }
 }
