@@ -170,7 +170,7 @@ impl<Differs: FnMut(&Case) -> Option<usize>> Shrinker<Differs> {
         let output = |request: &mut Request, value: u16| request.output = value;
         self.lower(row, |request| Some(request.output), output);
         for at in 0..self.parts(row).map_or(0, |parts| parts.len()) {
-            let value = |request: &Request| parts(request)?[at].number();
+            let value = |request: &Request| parts(request)?.get(at)?.number();
             let set = |request: &mut Request, value: u16| {
                 change(request, |parts| parts.get_mut(at)?.set(value));
             };
