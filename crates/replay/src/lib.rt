@@ -49,8 +49,23 @@ fn size_at(input: &[u8], at: usize) -> usize
     size
 }
 
+// Whether tables are known to be good from here on: never, where they are not to be held.
+fn known(t: Tables, size: usize, hold: bool) -> bool
+    ensures { λ r. ⌜ (r ≡ true → Ready t size) ⌝ }
+{
+    if hold { t.accepts(size) } else { false }
+}
+
 // One record. Good tables stay good by theorem, so that only others are tested.
-fn turn(good: bool, t: Tables, ram: &mut [u8], kind: u16, body: &[u8], out: &mut [u8]) -> Turned
+fn turn(
+    good: bool,
+    t: Tables,
+    ram: &mut [u8],
+    kind: u16,
+    body: &[u8],
+    out: &mut [u8],
+    hold: bool,
+) -> Turned
     requires { ⌜ (good ≡ true → Ready t (length (now ram))) ⌝ }
     ensures { λ r. ⌜ (result (r .last) (now (ram .exit)) (now (out .exit)) ≡ stepOf t (now (ram .entry)) kind (now (body .entry)) (now (out .entry))) × (r .good ≡ true → Ready (r .last .tables) (length (now (ram .exit)))) ⌝ }
 {
@@ -60,15 +75,16 @@ fn turn(good: bool, t: Tables, ram: &mut [u8], kind: u16, body: &[u8], out: &mut
     }
     let last = events::call(t, ram, kind, body, out);
     let next = last.tables;
-    let found = next.accepts(ram.len());
+    let found = known(next, ram.len(), hold);
     Turned { last, good: found }
 }
 
-// Every whole record at the front of the input, up to its end, a cut record or a bad length. Good tables are tested once for all of them.
-pub fn replay(t: Tables, ram: &mut [u8], out: &mut [u8], input: &[u8]) -> Replayed
+// Every whole record at the front of the input, up to its end, a cut record or a bad length. Good tables are tested once for all of them where
+// they are to be held, and else once a record.
+pub fn replay(t: Tables, ram: &mut [u8], out: &mut [u8], input: &[u8], hold: bool) -> Replayed
     ensures { λ r. ⌜ (result (r .last) (now (ram .exit)) (now (out .exit)) ≡ replayed (before t (now (ram .entry)) (now (out .entry))) (records (now (input .entry)))) × (r .taken ≡ bytesOf (records (now (input .entry)))) ⌝ }
 {
-    let mut good = t.accepts(ram.len());
+    let mut good = known(t, ram.len(), hold);
     let mut last = Outcome {
         answer: Answer::Done(0, 0),
         tables: t,
@@ -78,7 +94,7 @@ pub fn replay(t: Tables, ram: &mut [u8], out: &mut [u8], input: &[u8]) -> Replay
     while n != 0 {
         let kind = u16_at(input, at + 2);
         let tables = last.tables;
-        let r = turn(good, tables, ram, kind, &input[at + 4..at + n], out);
+        let r = turn(good, tables, ram, kind, &input[at + 4..at + n], out, hold);
         last = r.last;
         good = r.good;
         at = at + n;

@@ -8,26 +8,26 @@ use lib.ListN.{length}
 use borrow.Author.Needs.{needs}
 use Rattle.kernel.specs.Definition.Step.{result}
 use Rattle.kernel.specs.Laws.Ready.{Ready}
-use Rattle.replay.proofs.Laws.{accepted-ready, Goes, goes-first, goes-on, goes-last}
+use Rattle.replay.proofs.Laws.{Goes, goes-first, goes-on, goes-last}
 use Rattle.replay.proofs.replay.Statement.{statement}
 use Rattle.replay.proofs.replay.Tie as tie
 
 abbrev Inv-loop : tie.InvT-loop
-Inv-loop ram₀ out₀ input good₀ last₀ at₀ n₀ ram out good last at n =
+Inv-loop ram₀ out₀ input hold good₀ last₀ at₀ n₀ ram out good last at n =
     Goes (result last₀ ram₀ out₀) (result last ram out) input at n × (good ≡ true → Ready (last .tables) (length ram))
     × (length ram ≡ length ram₀) × (length out ≡ length out₀)
 
 abbrev μ-loop : tie.MeasureT-loop
-μ-loop ram₀ out₀ input good₀ last₀ at₀ n₀ ram out good last at n = length input - at
+μ-loop ram₀ out₀ input hold good₀ last₀ at₀ n₀ ram out good last at n = length input - at
 
-accepts-requires : tie.Need-accepts-requires Inv-loop μ-loop
-accepts-requires c κs = search needs
+known-requires : tie.Need-known-requires Inv-loop μ-loop
+known-requires c κs = search needs
 
 size-at-requires : tie.Need-size-at-requires Inv-loop μ-loop
 size-at-requires c κs = omega arith
 
 loop-holds : tie.Need-loop-holds Inv-loop μ-loop
-loop-holds c = (goes-first _ _ _ (c .size-at .ensures), accepted-ready _ _ _ (c .before .accepts .ensures .0) (c .before .accepts .ensures .1), refl, refl)
+loop-holds c = (goes-first _ _ _ (c .size-at .ensures), c .before .known .ensures, refl, refl)
 
 add-u16-at : tie.Need-add-u16-at Inv-loop μ-loop
 add-u16-at c = omega (arith, c .before .loop .inv .0 .there (c .loop-test .taken), c .before .before .before .before .before .before .before .good .1 .1 .1 .0 .0)
@@ -88,7 +88,7 @@ replay-spec =
     (tie.spec
     Inv-loop
     μ-loop
-    accepts-requires
+    known-requires
     size-at-requires
     loop-holds
     add-u16-at

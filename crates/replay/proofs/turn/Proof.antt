@@ -1,6 +1,6 @@
 -- `replay::turn` meets its contract. Assumes nothing.
 use native.Mathlib.Omega.{arith}
-use Rattle.replay.proofs.Laws.{accepted-ready, stays-ready}
+use Rattle.replay.proofs.Laws.{stays-ready}
 use borrow.Author.Needs.{needs}
 use Rattle.replay.proofs.turn.Statement.{statement}
 use Rattle.replay.proofs.turn.Tie as tie
@@ -20,8 +20,8 @@ returns c = (c .before .before .before .before .call-good .ensures, λ _. stays-
 call-requires : tie.Need-call-requires
 call-requires c κs = search needs
 
-accepts-requires : tie.Need-accepts-requires
-accepts-requires c κs = search needs
+known-requires : tie.Need-known-requires
+known-requires c κs = search needs
 
 same-length-3 : tie.Need-same-length-3
 same-length-3 c = search needs
@@ -30,7 +30,7 @@ same-length-4 : tie.Need-same-length-4
 same-length-4 c = search needs
 
 returns-2 : tie.Need-returns-2
-returns-2 c = (c .before .before .before .before .before .before .call .ensures, accepted-ready _ _ _ (c .accepts .ensures .0) (c .accepts .ensures .1))
+returns-2 c = (c .before .before .before .before .before .before .call .ensures, c .known .ensures)
 
 pub turn-spec : {M : Type 1} → statement M
 turn-spec =
@@ -41,7 +41,7 @@ turn-spec =
     same-length-2
     returns
     call-requires
-    accepts-requires
+    known-requires
     same-length-3
     same-length-4
     returns-2)
