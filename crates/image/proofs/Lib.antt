@@ -3,4 +3,3 @@ pub mod Known
 pub mod Laws
 pub mod Rows
 pub mod Made
-pub mod Calls

@@ -1,4 +1,3 @@
--- The image of the tables and its laws, and a call over bytes.
+-- The image of the tables and its laws.
 pub mod Image
-pub mod Call
 pub mod Round

@@ -2,11 +2,11 @@
 use denote.Ref.{now}
 use mathlib.Core.Path.{refl, _∙_}
 use native.Mathlib.Omega.{arith}
 use Rattle.image.proofs.Laws.{whole}
-use Rattle.image.proofs.Calls.{no-image, no-kind, too-long, no-reply, all-fit, done}
+use Rattle.exos.proofs.Calls.{no-image, no-kind, too-long, no-reply, all-fit, done}
 use borrow.Author.Needs.{needs}
-use Rattle.image.proofs.exos_call.Statement.{statement}
-use Rattle.image.proofs.exos_call.Tie as tie
+use Rattle.exos.proofs.exos_call.Statement.{statement}
+use Rattle.exos.proofs.exos_call.Tie as tie
 
 returns : tie.Need-returns
 returns c = let a = c .before .before .before .before .before .before .args in (no-image (now (a .image)) (now (a .«record»)) (now (a .reply)) (c .if1 .taken), record { image-is = refl; ram-is = refl; out-is = refl; reply-is = refl })

@@ -11,8 +11,8 @@ use Rattle.kernel.specs.Definition.Step.{Result, result}
 use Rattle.kernel.specs.declared.Tables.{Tables}
 use Rattle.kernel.specs.declared.Outcome.{Outcome}
 use Rattle.events.specs.Records.{u16At, stepOf}
 use Rattle.image.specs.Image.{SIZE, imageOf, tablesOf, answerBytes}
-use Rattle.image.specs.Call.{fits, stepOn, Done}
+use Rattle.exos.specs.Call.{fits, stepOn, Done}
 
 module _ (image event reply : List ℕ) where
   pub no-image : (length image ≡ SIZE → ⊥) → false ≡ fits image event reply

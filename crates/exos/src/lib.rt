@@ -1,0 +1,79 @@
+// The static library: the kernel over bytes, for other languages. c/exos.h tells a C program what each argument is.
+ghost use mathlib.Core.Path.{_≡_};
+ghost use Rattle.exos.specs.Call.{Called};
+ghost use Rattle.exos.specs.Replays.{Replays};
+use events::call;
+use events::fields::u16_at;
+use image::put_answer;
+use image::tables::decode;
+use image::tables::encode;
+use kernel::Tables;
+use replay::replay;
+
+// One call, on the image of the tables. False, and nothing changed, where a length is wrong.
+#[no_mangle]
+pub extern "C" fn exos_call(
+    image: &mut [u8],
+    ram: &mut [u8],
+    record: &[u8],
+    out: &mut [u8],
+    reply: &mut [u8],
+) -> bool
+    ensures { λ r. ⌜ Called (now (image .entry)) (now (ram .entry)) (now («record» .entry)) (now (out .entry)) (now (reply .entry)) (now (image .exit)) (now (ram .exit)) (now (out .exit)) (now (reply .exit)) r ⌝ }
+{
+    if image.len() != 776 {
+        return false;
+    }
+    if record.len() < 2 {
+        return false;
+    }
+    if 4096 < record.len() {
+        return false;
+    }
+    if reply.len() != 6 {
+        return false;
+    }
+    let kind = u16_at(record, 0);
+    let o = call(decode(image), ram, kind, &record[2..], out);
+    let answer = o.answer;
+    let next = o.tables;
+    encode(next, image);
+    put_answer(answer, reply, 0);
+    true
+}
+
+// Every whole record at the front of a log, from no tables; with the last answer, the bytes that they take. Zero, and nothing changed, where the
+// reply's length is wrong.
+fn replay_log(ram: &mut [u8], out: &mut [u8], log: &[u8], reply: &mut [u8], hold: bool) -> usize
+    ensures { λ r. ⌜ Replays (now (ram .entry)) (now (out .entry)) (now (log .entry)) (now (reply .entry)) (now (ram .exit)) (now (out .exit)) (now (reply .exit)) r ⌝ }
+{
+    if reply.len() != 6 {
+        return 0;
+    }
+    let r = replay(Tables::none(), ram, out, log, hold);
+    let o = r.last;
+    let answer = o.answer;
+    put_answer(answer, reply, 0);
+    r.taken
+}
+
+// The tables are tested until they are good, and then held.
+#[no_mangle]
+pub extern "C" fn exos_replay(ram: &mut [u8], out: &mut [u8], log: &[u8], reply: &mut [u8]) -> usize
+    ensures { λ r. ⌜ Replays (now (ram .entry)) (now (out .entry)) (now (log .entry)) (now (reply .entry)) (now (ram .exit)) (now (out .exit)) (now (reply .exit)) r ⌝ }
+{
+    replay_log(ram, out, log, reply, true)
+}
+
+// The same, by public calls: the tables are tested for each record.
+#[no_mangle]
+pub extern "C" fn exos_replay_tested(
+    ram: &mut [u8],
+    out: &mut [u8],
+    log: &[u8],
+    reply: &mut [u8],
+) -> usize
+    ensures { λ r. ⌜ Replays (now (ram .entry)) (now (out .entry)) (now (log .entry)) (now (reply .entry)) (now (ram .exit)) (now (out .exit)) (now (reply .exit)) r ⌝ }
+{
+    replay_log(ram, out, log, reply, false)
+}
