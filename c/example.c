@@ -1,0 +1,61 @@
+/* The example of the listing, by exos_call: a line for each record, as in logs/example.txt. Then the same records in one
+ * replay, which must leave the same RAM and the same last answer. */
+#include "exos.h"
+
+#include <stdio.h>
+#include <string.h>
+
+static const uint8_t log_bytes[] = {
+    8,  0, 0,  1, 0x42, 0x2B, 252,  253,  254, 255,          /* start: R 11,074, segments 252 to 255 */
+    12, 0, 1,  0, 5,    0,    100,  0,                       /* open 5, status 0, n 100 */
+    'V', 'I', 'D', 'E', 'O', ':',
+    2,  0, 22, 0,                                            /* boundary */
+    7,  0, 8,  0, 5,    98,   0,    0xAA, 0x55,              /* write 5 at 98 */
+    7,  0, 6,  0, 5,    98,   0,    2,    0,                 /* read 5 at 98, 2 bytes */
+    7,  0, 6,  0, 5,    99,   0,    2,    0,                 /* read 5 at 99, 2 bytes */
+    3,  0, 3,  0, 5,                                         /* close 5 */
+    2,  0, 22, 0                                             /* boundary */
+};
+
+static unsigned u16(const uint8_t *at) { return at[0] + 256u * at[1]; }
+
+/* What a record gives: its line. Read, status and user load show the bytes. */
+static void print_line(unsigned kind, const uint8_t *reply, const uint8_t *out) {
+  unsigned b = u16(reply + 4);
+  printf("%u %u %u %u", kind, u16(reply), u16(reply + 2), b);
+  if (u16(reply) == EXOS_DONE && b > 0 && (kind == 6 || kind == 20 || kind == 258)) {
+    putchar(' ');
+    for (unsigned i = 0; i < b; i++) printf("%02x", out[i]);
+  }
+  putchar('\n');
+}
+
+int main(void) {
+  static uint8_t image[EXOS_IMAGE], ram[4 * EXOS_SEGMENT], out[4096], reply[EXOS_REPLY];
+  static uint8_t ram_again[sizeof ram], out_again[sizeof out], reply_again[sizeof reply];
+
+  for (size_t at = 0; at < sizeof log_bytes;) {
+    size_t length = u16(log_bytes + at);
+    const uint8_t *record = log_bytes + at + 2;
+    if (!exos_call(image, sizeof image, ram, sizeof ram, record, length, out, sizeof out, reply, sizeof reply)) return 1;
+    print_line(u16(record), reply, out);
+    at += 2 + length;
+  }
+
+  /* A wrong length is told, and nothing changes. */
+  if (exos_call(image, sizeof image - 1, ram, sizeof ram, log_bytes + 2, 8, out, sizeof out, reply, sizeof reply)) return 2;
+  if (exos_replay(ram, sizeof ram, out, sizeof out, log_bytes, sizeof log_bytes, reply, sizeof reply - 1) != 0) return 3;
+
+  size_t (*const replays[])(uint8_t *, size_t, uint8_t *, size_t, const uint8_t *, size_t, uint8_t *, size_t) = {
+      exos_replay, exos_replay_tested};
+  for (int i = 0; i < 2; i++) {
+    memset(ram_again, 7, sizeof ram_again);
+    if (replays[i](ram_again, sizeof ram_again, out_again, sizeof out_again, log_bytes, sizeof log_bytes, reply_again,
+                   sizeof reply_again) != sizeof log_bytes)
+      return 4;
+    if (memcmp(ram, ram_again, sizeof ram) != 0) return 5;
+    if (memcmp(out, out_again, sizeof out) != 0) return 6;
+    if (memcmp(reply, reply_again, sizeof reply) != 0) return 7;
+  }
+  return 0;
+}
