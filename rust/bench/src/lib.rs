@@ -90,20 +90,20 @@ impl Numbers {
     }
 }
 
-/// A log of all kinds on eight segments: most of it reads and writes of open channels, about one record in four
+/// A log of all kinds: most of it reads and writes of open channels. On eight segments about one record in four is
 /// refused.
-pub fn mixed(records: usize) -> Log {
+pub fn mixed(records: usize, segments: u8) -> Log {
     let mut numbers = Numbers(7);
-    let mut log = Log::started(11_074, 8);
+    let mut log = Log::started(11_074, segments);
     let mut open: Vec<(u8, u16)> = Vec::new();
     while log.records < records {
-        mixed_record(&mut log, &mut numbers, &mut open);
+        mixed_record(&mut log, segments, &mut numbers, &mut open);
     }
     log
 }
 
-fn mixed_record(log: &mut Log, numbers: &mut Numbers, open: &mut Vec<(u8, u16)>) {
-    let segment = 248 + numbers.byte(8);
+fn mixed_record(log: &mut Log, segments: u8, numbers: &mut Numbers, open: &mut Vec<(u8, u16)>) {
+    let segment = 255 - (segments - 1) + numbers.byte(segments.into());
     let offset = 128 + numbers.word(16_000);
     let chosen = numbers.below(open.len().max(1) as u64) as usize;
     match (numbers.below(100), open.get(chosen).copied()) {

@@ -1,5 +1,7 @@
-//! Measures the proved kernel against the Rust kernel, in one run, and writes the figures as Markdown and an SVG.
+//! Measures the proved kernel and listing against the Rust ones, in one run, and writes the figures as Markdown and an
+//! SVG.
 
+mod listings;
 mod plot;
 mod proved;
 
@@ -83,18 +85,28 @@ fn line(r: u16, segments: u8, count: u8) -> Log {
     log
 }
 
+/// Ten starts of 32 segments, so many channels of 60,000 bytes opened after each.
+fn started_again(opens: u8) -> Log {
+    let mut log = Log::default();
+    for _ in 0..10 {
+        log.start(16_128, 32);
+        (0..opens).for_each(|channel| log.open(channel, 60_000, b"VIDEO:"));
+    }
+    log
+}
+
 /// (a): single calls that move many bytes, against the same bytes moved by the standard library.
 fn moves(rounds: usize) {
-    println!("| call | proved | by public calls | Rust kernel | plain move | proved / plain |");
-    println!("|---|---:|---:|---:|---:|---:|");
+    println!("## (a) Moves of many bytes\n");
+    println!("| call | held | tested | Rust kernel | plain move | held / Rust | tested / Rust | held / plain |");
+    println!("|---|---:|---:|---:|---:|---:|---:|---:|");
     let mut bytes = vec![1u8; 32 * 16_384];
-    let row = |name: &str, times: [f64; 3], plain: f64| {
+    let row = |name: &str, [held, tested, rust]: [f64; 3], plain: f64| {
         println!(
-            "| {name} | {:.0} ns | {:.0} ns | {:.0} ns | {plain:.0} ns | {:.2} |",
-            times[0],
-            times[1],
-            times[2],
-            times[0] / plain
+            "| {name} | {held:.0} ns | {tested:.0} ns | {rust:.0} ns | {plain:.0} ns | {:.2} | {:.2} | {:.2} |",
+            held / rust,
+            tested / rust,
+            held / plain
         );
     };
     let plain = |rounds, work: &mut dyn FnMut()| medians(rounds, &mut [("plain", work)])[0];
@@ -109,6 +121,16 @@ fn moves(rounds: usize) {
         }
     }) / 30.0;
     row("close of 16 bytes before 60,000", times, reference);
+
+    let before = started_again(0);
+    let after = started_again(7);
+    let times = difference(rounds, 32, &before, &after, 70);
+    let reference = plain(rounds, &mut || {
+        for _ in 0..70 {
+            black_box(&mut bytes)[..60_016].fill(0);
+        }
+    }) / 70.0;
+    row("open of 60,000", times, reference);
 
     let before = Log::started(16_128, 8);
     let mut after = Log::started(16_128, 8);
@@ -149,21 +171,23 @@ fn moves(rounds: usize) {
     row("start of 32 segments", times, reference);
 }
 
-/// (b) and (c): a mixed log.
-fn log_of_all_kinds(records: usize, rounds: usize) {
-    let log = mixed(records);
+/// (b) and (c): a mixed log. Its ratios to the Rust kernel, tables held and tested.
+fn log_of_all_kinds(records: usize, rounds: usize) -> [f64; 2] {
+    let log = mixed(records, 8);
     let [held, tested, rust] = log_medians(rounds, 8, &log).map(|time| time / records as f64);
+    println!("## (b), (c) A mixed log\n");
     println!("| a mixed log of {records} records | ns a record | / Rust kernel |");
     println!("|---|---:|---:|");
     println!(
-        "| proved step, tables held | {held:.0} | {:.2} |",
+        "| (b) proved step, tables held | {held:.0} | {:.2} |",
         held / rust
     );
     println!(
-        "| proved public calls, tables tested | {tested:.0} | {:.2} |",
+        "| (c) proved public calls, tables tested | {tested:.0} | {:.2} |",
         tested / rust
     );
-    println!("| Rust kernel, tables tested | {rust:.0} | 1.00 |");
+    println!("| Rust kernel, tables tested | {rust:.0} | 1.00 |\n");
+    [held / rust, tested / rust]
 }
 
 /// (d): the cost of a small read by open channels, of a boundary by segments, and of a read by bytes moved.
@@ -216,9 +240,9 @@ fn costs(rounds: usize) -> Vec<plot::Curve> {
     ]
 }
 
-/// (e): the stack of a log's calls.
-fn stacks() {
-    let log = mixed(2_000);
+/// (e): the stack of a log's calls, with tables held.
+fn stacks() -> usize {
+    let log = mixed(2_000, 8);
     let [mut a, mut b, mut c] = [0; 3].map(|_| Lent::new(8));
     let held = proved::stack_of(|| {
         proved::held(&mut a.ram, &mut a.out, &log.bytes);
@@ -229,27 +253,81 @@ fn stacks() {
     let rust = proved::stack_of(|| {
         run(&mut c.ram, &mut c.out, &log.bytes);
     });
+    println!("## (e) Stack\n");
     println!("| stack used by a log's calls | bytes |");
     println!("|---|---:|");
     println!("| proved step, tables held | {held} |");
     println!("| proved public calls, tables tested | {tested} |");
-    println!("| Rust kernel | {rust} |");
+    println!("| Rust kernel | {rust} |\n");
+    held
+}
+
+/// What was measured of the crates before the first and after the second mending, under entry functions that were not
+/// proved: (b), (c) and the stack with tables held.
+const FIRST: (f64, f64, usize) = (1.77, 5.71, 18_783);
+const MENDED: (f64, f64, usize) = (0.73, 2.43, 12_287);
+
+/// The figures that were followed, beside what this run found.
+fn before_and_now([held, tested]: [f64; 2], stack: usize) {
+    println!("## Before and now\n");
+    println!("| | first | rows mended | now |");
+    println!("|---|---:|---:|---:|");
+    println!(
+        "| (b) mixed log, tables held, to the Rust kernel | {:.2} | {:.2} | {held:.2} |",
+        FIRST.0, MENDED.0
+    );
+    println!(
+        "| (c) mixed log, tables tested, to the Rust kernel | {:.2} | {:.2} | {tested:.2} |",
+        FIRST.1, MENDED.1
+    );
+    println!(
+        "| (e) stack, tables held | {} bytes | {} bytes | {stack} bytes |",
+        FIRST.2, MENDED.2
+    );
+}
+
+/// The machine: the processor's name, its cores, and how busy it was.
+fn machine(rounds: usize) {
+    let file = |path| std::fs::read_to_string(path).unwrap_or_default();
+    let processors = file("/proc/cpuinfo");
+    let names = || {
+        processors
+            .lines()
+            .filter(|line| line.starts_with("model name"))
+    };
+    let name = names().find_map(|line| line.split(": ").nth(1));
+    let load = file("/proc/loadavg");
+    println!(
+        "Machine: {}, cores: {}. The load of the minute before: {}. Medians of {rounds} runs that take turns; of {} where the log has 200,000 records.\n",
+        name.unwrap_or("a processor without a name"),
+        names().count(),
+        load.split(' ').next().unwrap_or("not known"),
+        fewer(rounds)
+    );
+}
+
+/// The rounds of a long log.
+fn fewer(rounds: usize) -> usize {
+    (rounds / 5).max(3)
 }
 
 fn main() {
     let mut words = std::env::args().skip(1);
-    let picture = words
-        .next()
-        .expect("usage: exos-bench PICTURE.svg [ROUNDS]");
+    let usage = "usage: exos-bench PICTURE.svg PROVED-LISTING RUST-LISTING [ROUNDS]";
+    let mut word = || words.next().expect(usage);
+    let (picture, proved, rust) = (word(), word(), word());
     let rounds = words
         .next()
-        .map_or(51, |word| word.parse().expect("a number of rounds"));
+        .map_or(101, |word| word.parse().expect("a number of rounds"));
+    machine(rounds);
     moves(rounds);
     println!();
-    log_of_all_kinds(200_000, (rounds / 5).max(3));
-    println!();
+    let ratios = log_of_all_kinds(200_000, fewer(rounds));
+    println!("## (d) Cost by channels, segments and bytes moved\n\n![costs](benchmark.svg)\n");
     let curves = costs(rounds);
     curves.iter().for_each(plot::Curve::print);
-    stacks();
+    let stack = stacks();
+    listings::print(&proved, &rust, 200_000, fewer(rounds));
+    before_and_now(ratios, stack);
     std::fs::write(picture, plot::picture(&curves)).expect("a picture that can be written");
 }

@@ -22,14 +22,16 @@ impl Curve {
     /// The curve as a table.
     pub fn print(&self) {
         println!(
-            "| {} | proved, held | proved, tested | Rust kernel |",
+            "| {} | held | tested | Rust kernel | held / Rust | tested / Rust |",
             self.name
         );
-        println!("|---:|---:|---:|---:|");
-        for (size, times) in &self.points {
+        println!("|---:|---:|---:|---:|---:|---:|");
+        for (size, [held, tested, rust]) in &self.points {
             println!(
-                "| {size} {} | {:.0} ns | {:.0} ns | {:.0} ns |",
-                self.unit, times[0], times[1], times[2]
+                "| {size} {} | {held:.0} ns | {tested:.0} ns | {rust:.0} ns | {:.2} | {:.2} |",
+                self.unit,
+                held / rust,
+                tested / rust
             );
         }
         println!();

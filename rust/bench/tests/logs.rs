@@ -4,7 +4,7 @@ use exos_bench::{mixed, run, Log};
 
 #[test]
 fn the_mixed_log_is_mostly_done() {
-    let log = mixed(20_000);
+    let log = mixed(20_000, 8);
     let mut ram = vec![0; 8 * 16_384];
     let ran = run(&mut ram, &mut [0; 4_096], &log.bytes);
     let all: usize = ran.answers.iter().sum();
