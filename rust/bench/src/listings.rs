@@ -1,6 +1,6 @@
 //! (f): the listing programs, each over the same log.
 
-use crate::medians;
+use crate::{clock, medians};
 use exos_bench::mixed;
 use std::fs::File;
 use std::path::Path;
@@ -36,6 +36,7 @@ pub fn print(proved: &str, rust: &str, records: usize, rounds: usize) {
     assert!(text(proved, &log) == text(rust, &log), "the same text");
     let times = medians(
         rounds,
+        clock::others,
         &mut [
             ("proved", &mut || list(proved, &log, Stdio::null())),
             ("rust", &mut || list(rust, &log, Stdio::null())),

@@ -1,25 +1,25 @@
 //! Measures the proved kernel and listing against the Rust ones, in one run, and writes the figures as Markdown and an
 //! SVG.
 
+mod clock;
 mod listings;
 mod plot;
 mod proved;
 
 use exos_bench::{mixed, run, Log};
 use std::hint::black_box;
-use std::time::Instant;
 
 /// What is measured: a name and what to run.
 type Side<'a> = (&'a str, &'a mut dyn FnMut());
 
-/// The medians of many runs in turn, in nanoseconds.
-fn medians(rounds: usize, sides: &mut [Side]) -> Vec<f64> {
+/// The medians of many runs in turn, in nanoseconds of a clock.
+fn medians(rounds: usize, clock: fn() -> f64, sides: &mut [Side]) -> Vec<f64> {
     let mut times = vec![Vec::new(); sides.len()];
     for _ in 0..rounds {
         for (side, times) in sides.iter_mut().zip(&mut times) {
-            let began = Instant::now();
+            let began = clock();
             side.1();
-            times.push(began.elapsed().as_nanos() as f64);
+            times.push(clock() - began);
         }
     }
     times
@@ -55,6 +55,7 @@ fn log_medians(rounds: usize, segments: usize, log: &Log) -> [f64; 3] {
     assert!(a.ram == c.ram && b.ram == c.ram, "the same RAM");
     let times = medians(
         rounds,
+        clock::own,
         &mut [
             ("held", &mut || {
                 black_box(proved::held(&mut a.ram, &mut a.out, &log.bytes));
@@ -109,7 +110,8 @@ fn moves(rounds: usize) {
             held / plain
         );
     };
-    let plain = |rounds, work: &mut dyn FnMut()| medians(rounds, &mut [("plain", work)])[0];
+    let plain =
+        |rounds, work: &mut dyn FnMut()| medians(rounds, clock::own, &mut [("plain", work)])[0];
 
     let before = line(16_128, 8, 30);
     let mut after = line(16_128, 8, 30);
