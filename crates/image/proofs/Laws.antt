@@ -45,3 +45,7 @@ row-read row width rows xs at i v h p e =
 -- what is put from the start to the end is all there is
 pub whole : {d e : List ℕ} {r : ℕ} {xs : List ℕ} → Put d e 0 r xs → length e ≤ r → e ≡ xs
 whole {d} {e} {r} p h = sym (take-all r e h) ∙ p .text
+
+-- a record's body is all of it after the kind
+pub body-is : (event : List ℕ) → take (length event - 2) (drop 2 event) ≡ drop 2 event
+body-is event = take-all (length event - 2) (drop 2 event) (rw length-drop (omega arith))

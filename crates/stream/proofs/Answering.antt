@@ -9,7 +9,7 @@ use Rattle.kernel.specs.declared.Tables.{Tables}
 use Rattle.kernel.specs.declared.Outcome.{Outcome}
 use Rattle.text.specs.Text.{Put}
 use Rattle.events.specs.Records.{u16At, stepOf}
-use Rattle.image.proofs.Calls.{body-is}
+use Rattle.image.proofs.Laws.{body-is}
 use Rattle.stream.specs.Seed.{next, seeded}
 use Rattle.stream.specs.Replies.{stepOn, replyBytes, Replied}
 
