@@ -1,6 +1,5 @@
 // An event record's kind and body, to a call of the kernel.
 ghost use mathlib.Core.Path.{_≡_};
-ghost use Prim.Native.Nat.{_≤_, _<_};
 ghost use lib.ListN.{length};
 ghost use Rattle.kernel.specs.Definition.Tables.{ramSize};
 ghost use Rattle.kernel.specs.Definition.Good.{Good};
@@ -30,9 +29,9 @@ pub mod channels; // open, close, read, write
 pub mod segments; // status, boundary, set user boundary, allocate, free, store, load
 pub mod system; // start, reset, default, link
 
-// The kinds below 19.
-fn low_kind(t: Tables, ram: &mut [u8], kind: u16, body: &[u8], out: &mut [u8]) -> Outcome
-    requires { ⌜ Good t × (length (now ram) ≡ ramSize t) × (kind < 19) ⌝ }
+// One call on tables that are good by theorem: they are not tested.
+pub fn call_good(t: Tables, ram: &mut [u8], kind: u16, body: &[u8], out: &mut [u8]) -> Outcome
+    requires { ⌜ Good t × (length (now ram) ≡ ramSize t) ⌝ }
     ensures { λ r. ⌜ result r (now (ram .exit)) (now (out .exit)) ≡ stepOf t (now (ram .entry)) kind (now (body .entry)) (now (out .entry)) ⌝ }
 {
     match kind {
@@ -41,16 +40,6 @@ fn low_kind(t: Tables, ram: &mut [u8], kind: u16, body: &[u8], out: &mut [u8]) -
         3 => close_event(t, ram, body),
         6 => read_event(t, ram, body, out),
         8 => write_event(t, ram, body),
-        _ => t.refuse(Answer::BadCall),
-    }
-}
-
-// The kinds from 19 to 255.
-fn middle_kind(t: Tables, ram: &mut [u8], kind: u16, body: &[u8], out: &mut [u8]) -> Outcome
-    requires { ⌜ Good t × (length (now ram) ≡ ramSize t) × (19 ≤ kind) × (kind < 256) ⌝ }
-    ensures { λ r. ⌜ result r (now (ram .exit)) (now (out .exit)) ≡ stepOf t (now (ram .entry)) kind (now (body .entry)) (now (out .entry)) ⌝ }
-{
-    match kind {
         19 => default_event(t, body),
         20 => status_event(t, body, out),
         21 => link_event(t, ram, body),
@@ -58,35 +47,11 @@ fn middle_kind(t: Tables, ram: &mut [u8], kind: u16, body: &[u8], out: &mut [u8]
         23 => set_user_boundary_event(t, body),
         24 => allocate_event(t, body),
         25 => free_event(t, body),
-        _ => t.refuse(Answer::BadCall),
-    }
-}
-
-// The kinds from 256 on.
-fn high_kind(t: Tables, ram: &mut [u8], kind: u16, body: &[u8], out: &mut [u8]) -> Outcome
-    requires { ⌜ Good t × (length (now ram) ≡ ramSize t) × (256 ≤ kind) ⌝ }
-    ensures { λ r. ⌜ result r (now (ram .exit)) (now (out .exit)) ≡ stepOf t (now (ram .entry)) kind (now (body .entry)) (now (out .entry)) ⌝ }
-{
-    match kind {
         256 => start_event(t, ram, body),
         257 => store_event(t, ram, body),
         258 => load_event(t, ram, body, out),
         _ => t.refuse(Answer::BadCall),
     }
-}
-
-// One call on tables that are good by theorem: they are not tested.
-pub fn call_good(t: Tables, ram: &mut [u8], kind: u16, body: &[u8], out: &mut [u8]) -> Outcome
-    requires { ⌜ Good t × (length (now ram) ≡ ramSize t) ⌝ }
-    ensures { λ r. ⌜ result r (now (ram .exit)) (now (out .exit)) ≡ stepOf t (now (ram .entry)) kind (now (body .entry)) (now (out .entry)) ⌝ }
-{
-    if kind < 19 {
-        return low_kind(t, ram, kind, body, out);
-    }
-    if kind < 256 {
-        return middle_kind(t, ram, kind, body, out);
-    }
-    high_kind(t, ram, kind, body, out)
 }
 
 // One call, as an event record asks it.
