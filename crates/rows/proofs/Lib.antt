@@ -1,3 +1,4 @@
 -- What the proofs of several functions use.
+pub mod BuiltIn
 pub mod Shift
 pub mod Stores

@@ -1,8 +1,10 @@
 // The rows of devices, and names: 28 bytes, of which the first `length` count.
 ghost use mathlib.Core.Path.{_≡_};
+ghost use mathlib.Core.Bool.{_&&_, _||_};
 ghost use mathlib.Core.List.{map};
 ghost use Prim.Native.Nat.{_≤_, _<_};
 ghost use lib.ListN.{take};
+ghost use lib.Dec.{leb, ltb};
 ghost use Rattle.rows.specs.Lists.{upTo};
 ghost use Rattle.rows.specs.Channels.{foundAt};
 ghost use Rattle.rows.specs.Devices.{builtIn, sameName, sameBytes, muted, answers, deviceIn};
@@ -171,11 +173,31 @@ fn unused_from(devices: [Device; 16], known: usize) -> bool
     ok
 }
 
-// The first `known` rows are devices, each with a name, and enabled exactly if no later one has its name.
-fn devices_fine(devices: [Device; 16], known: usize) -> bool
-    requires { ⌜ known ≤ 16 ⌝ }
-    ensures { λ r. ⌜ r ≡ upTo known (deviceRow devices known) ⌝ }
+// The name of a row behind those that are built in. Their names are known.
+fn linked_named(i: usize, name: [u8; 28], length: u8) -> bool
+    ensures { λ r. ⌜ r ≡ ltb i 3 || (leb 1 length && nameTest name length) ⌝ }
 {
+    if i < 3 {
+        return true;
+    }
+    (1 <= length) & name_test(name, length)
+}
+
+// The first `known` rows are devices, first those that are built in, each with a name, and enabled exactly if no later
+// one has its name. One function, since a call would copy all rows.
+fn devices_fine(devices: [Device; 16], known: usize) -> bool
+    requires { ⌜ (3 ≤ known) × (known ≤ 16) ⌝ }
+    ensures { λ r. ⌜ r ≡ builtTest devices && upTo known (deviceRow devices known) ⌝ }
+{
+    let a = devices[0];
+    let b = devices[1];
+    let c = devices[2];
+    let x = a.name;
+    let y = b.name;
+    let z = c.name;
+    let built = same_name(x, a.length, VIDEO, 5)
+        & same_name(y, b.length, NET, 3)
+        & same_name(z, c.length, KEYBOARD, 8);
     let mut ok = true;
     let mut i: usize = 0;
     while i < known {
@@ -183,8 +205,7 @@ fn devices_fine(devices: [Device; 16], known: usize) -> bool
         let name = d.name;
         let length = d.length;
         let on = d.enabled;
-        let fine = name_test(name, length);
-        // whether no later one has its name: here, since a call would copy all rows
+        let fine = linked_named(i, name, length);
         let mut last = true;
         let mut j = i + 1;
         while j < known {
@@ -193,25 +214,10 @@ fn devices_fine(devices: [Device; 16], known: usize) -> bool
             last = last & !same_name(other, e.length, name, length);
             j = j + 1;
         }
-        ok = ok & ((1 <= length) & fine & ((on & last) | (!on & !last)));
+        ok = ok & (fine & ((on & last) | (!on & !last)));
         i = i + 1;
     }
-    ok
-}
-
-// The devices that are built in stand in the first three rows.
-fn built_named(devices: [Device; 16]) -> bool
-    ensures { λ r. ⌜ r ≡ builtTest devices ⌝ }
-{
-    let a = devices[0];
-    let b = devices[1];
-    let c = devices[2];
-    let x = a.name;
-    let y = b.name;
-    let z = c.name;
-    same_name(x, a.length, VIDEO, 5)
-        & same_name(y, b.length, NET, 3)
-        & same_name(z, c.length, KEYBOARD, 8)
+    built & ok
 }
 
 pub fn device_test(devices: [Device; 16], known: usize) -> bool
@@ -223,5 +229,5 @@ pub fn device_test(devices: [Device; 16], known: usize) -> bool
     if 16 < known {
         return false;
     }
-    built_named(devices) & devices_fine(devices, known) & unused_from(devices, known)
+    devices_fine(devices, known) & unused_from(devices, known)
 }

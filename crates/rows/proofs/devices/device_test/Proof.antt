@@ -13,9 +13,6 @@ returns-2 c =
     let known = c .before .before .args .known in
     rw (le-leb 3 known (omega arith), lt-leb known 16 (omega arith))
 
-built-named-requires : tie.Need-built-named-requires
-built-named-requires c κs = search needs
-
 devices-fine-requires : tie.Need-devices-fine-requires
 devices-fine-requires c κs = search needs
 
@@ -24,11 +21,10 @@ unused-from-requires c κs = search needs
 
 returns-3 : tie.Need-returns-3
 returns-3 c =
-    let known = c .before .before .before .before .before .args .known in
+    let known = c .before .before .before .before .args .known in
     rw (
       le-leb 3 known (omega arith),
       le-leb known 16 (omega arith),
-      c .before .before .built-named .ensures,
       c .before .devices-fine .ensures,
       c .unused-from .ensures,
     )
@@ -39,7 +35,6 @@ device-test-spec =
     (tie.spec
     returns
     returns-2
-    built-named-requires
     devices-fine-requires
     unused-from-requires
     returns-3)
