@@ -43,6 +43,14 @@ module _ {A : Type 0} (f : A → A) (d : A) where
     rest = λ j g. getD-set-other ys i j v d (λ q. omega arith) ∙ m .rest j (omega arith);
   }
 
+  -- a row that needs no turn
+  pub mapped-kept : (xs : List A) (i : ℕ) (ys : List A) → getD xs i d ≡ f (getD xs i d) → Mapped f d xs i ys → Mapped f d xs (i + 1) ys
+  mapped-kept xs i ys e m = record {
+    long = m .long;
+    done = λ j g. elim (ℕ-discrete j i) [ yes q ↦ rw q (m .rest i (omega arith) ∙ e) | no q ↦ m .done j (omega arith) ];
+    rest = λ j g. m .rest j (omega arith);
+  }
+
   -- the rows behind need no turn
   pub mapped-low : (xs : List A) (i : ℕ) (ys : List A) → Mapped f d xs i ys → ((j : ℕ) → i ≤ j → j < length xs → getD xs j d ≡ f (getD xs j d)) → ys ≡ map f xs
   mapped-low xs i ys m same =

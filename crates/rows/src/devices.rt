@@ -92,18 +92,6 @@ pub fn device_place(devices: [Device; 16], known: usize, name: [u8; 28], length:
     Place::Nowhere
 }
 
-fn disable_one(d: Device, name: [u8; 28], length: u8) -> Device
-    ensures { λ r. ⌜ r ≡ muted name length d ⌝ }
-{
-    let other = d.name;
-    let on = d.enabled & !same_name(other, d.length, name, length);
-    Device {
-        name: other,
-        length: d.length,
-        enabled: on,
-    }
-}
-
 // Each device of this name is disabled.
 pub fn disable(devices: [Device; 16], name: [u8; 28], length: u8) -> [Device; 16]
     ensures { λ r. ⌜ r ≡ map (muted name length) devices ⌝ }
@@ -111,8 +99,15 @@ pub fn disable(devices: [Device; 16], name: [u8; 28], length: u8) -> [Device; 16
     let mut rows = devices;
     let mut i: usize = 0;
     while i < 16 {
-        let d = disable_one(devices[i], name, length);
-        rows[i] = d;
+        let d = devices[i];
+        let other = d.name;
+        if same_name(other, d.length, name, length) {
+            rows[i] = Device {
+                name: other,
+                length: d.length,
+                enabled: false,
+            };
+        }
         i = i + 1;
     }
     rows

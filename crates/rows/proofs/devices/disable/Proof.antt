@@ -1,11 +1,13 @@
 -- `devices::disable` meets its contract. The loop's invariant: the rows passed are disabled where they have the name. Assumes nothing.
 use borrow.Author.Needs.{needs}
+use mathlib.Core.Logic.{⊎-elim}
 use mathlib.Core.Path.{_≡_}
 use Prim.Native.Nat.{_-_, _≤_}
 use native.Mathlib.Omega.{arith}
-use lib.ListN.{length}
+use lib.ListN.{length, getD}
 use Rattle.rows.specs.Devices.{muted, noDevice}
-use Rattle.rows.proofs.Stores.{Mapped, mapped-end, mapped-more, mapped-none}
+use Rattle.rows.proofs.Stores.{Mapped, mapped-end, mapped-kept, mapped-more, mapped-none}
+use Rattle.rows.proofs.Muted.{muted-off, muted-kept}
 use Rattle.rows.proofs.devices.disable.Statement.{statement}
 use Rattle.rows.proofs.devices.disable.Tie as tie
 
@@ -18,14 +20,14 @@ abbrev μ-loop : tie.MeasureT-loop
 loop-holds : tie.Need-loop-holds Inv-loop μ-loop
 loop-holds c = (search needs, mapped-none _ noDevice (c .args .t1))
 
-mul-disable-one : tie.Need-mul-disable-one Inv-loop μ-loop
-mul-disable-one c = search needs
+mul-d : tie.Need-mul-d Inv-loop μ-loop
+mul-d c = search needs
 
-array-copy-out-disable-one : tie.Need-array-copy-out-disable-one Inv-loop μ-loop
-array-copy-out-disable-one c = search needs
+array-copy-out-d : tie.Need-array-copy-out-d Inv-loop μ-loop
+array-copy-out-d c = search needs
 
-disable-one-requires : tie.Need-disable-one-requires Inv-loop μ-loop
-disable-one-requires c κs = search needs
+same-name-requires : tie.Need-same-name-requires Inv-loop μ-loop
+same-name-requires c κs = search needs
 
 mul-rows : tie.Need-mul-rows Inv-loop μ-loop
 mul-rows c = search needs
@@ -41,10 +43,16 @@ loop-less c = search needs
 
 loop-again : tie.Need-loop-again Inv-loop μ-loop
 loop-again c =
-    let s = c .before .before .before .before in
-    let at = c .before .before .before .loop in
+    let s = c .before .before .before .before .before .before in
+    let at = c .before .before .before .before .before .loop in
+    let f = muted (s .args .name) (s .args .length) in
+    let d = getD (s .args .t1) (at .i) noDevice in
+    let e = c .before .same-name .ensures in
     let l : length (s .args .t1) ≡ 16 = s .good .0 .1 .0 .1 in
-    (search needs, mapped-more (muted (s .args .name) (s .args .length)) noDevice (s .args .t1) (at .i) (at .rows) (c .disable-one .result) (omega arith) (c .disable-one .ensures) (at .inv .1))
+    ⊎-elim
+    (λ w. (search needs, rw (w .1) (mapped-more f noDevice (s .args .t1) (at .i) (at .rows) _ (omega arith) (muted-off (s .args .name) (s .args .length) d _ e (w .0 .taken)) (at .inv .1))))
+    (λ w. (search needs, rw (w .1) (mapped-kept f noDevice (s .args .t1) (at .i) (at .rows) (muted-kept (s .args .name) (s .args .length) d _ e (w .0 .left)) (at .inv .1))))
+    (c .if1 .came)
 
 returns : tie.Need-returns Inv-loop μ-loop
 returns c =
@@ -60,9 +68,9 @@ disable-spec =
     Inv-loop
     μ-loop
     loop-holds
-    mul-disable-one
-    array-copy-out-disable-one
-    disable-one-requires
+    mul-d
+    array-copy-out-d
+    same-name-requires
     mul-rows
     array-set-from-rows
     add-i
