@@ -11,7 +11,7 @@ use lib.ListN.{length, getD}
 use Rattle.names.specs.Tests.{nameTest}
 use Rattle.rows.specs.Lists.{upTo, and-left, and-right}
 use Rattle.rows.specs.Classes.{SHARED}
-use Rattle.rows.specs.Sizes.{chainLength, edgeAt}
+use Rattle.rows.specs.Sizes.{chainLength, boundaryAt}
 use Rattle.kernel.specs.Cases.{opens}
 use Rattle.kernel.specs.Definition.Tables.{ramSize, classAt, rowOf}
 use Rattle.kernel.specs.Definition.Line.{grown, shrunk}
@@ -177,19 +177,19 @@ fit-more = search needs
 
 -- 17 is SHARED
 pub answers : numbers t₀ calls ≡ 0 ∷ 0 ∷ 0 ∷ 0 ∷ 0 ∷ 0 ∷ 0 ∷ 17 ∷ 0 ∷ []
-unfolding decided noTables nameTest upTo chainLength edgeAt grown shrunk
+unfolding decided noTables nameTest upTo chainLength boundaryAt grown shrunk
 answers = refl
 
 pub answers-more : numbers t₁ more ≡ 0 ∷ 0 ∷ 0 ∷ []
-unfolding decided noTables nameTest upTo chainLength edgeAt grown shrunk
+unfolding decided noTables nameTest upTo chainLength boundaryAt grown shrunk
 answers-more = refl
 
 shared-here : sharedTest 255 5 t₁ ≡ true
-unfolding decided noTables nameTest upTo chainLength edgeAt grown shrunk
+unfolding decided noTables nameTest upTo chainLength boundaryAt grown shrunk
 shared-here = refl
 
 shared-all : sharedAll 255 5 t₁ more ≡ true
-unfolding decided noTables nameTest upTo chainLength edgeAt grown shrunk
+unfolding decided noTables nameTest upTo chainLength boundaryAt grown shrunk
 shared-all = refl
 
 module _ (ram : List ℕ) (four : length ram ≡ 65536) where
@@ -228,35 +228,35 @@ module _ (ram : List ℕ) (four : length ram ≡ 65536) where
 
   -- 1: channel 2's bytes, read after its buffer moved twice, are 0 and the 7 that was written
   gave : granted (event s₁ (read 2 0 3) lent .answer) ≡ true
-  unfolding decided noTables nameTest upTo chainLength edgeAt grown shrunk
+  unfolding decided noTables nameTest upTo chainLength boundaryAt grown shrunk
   gave = ap granted (known-answer k₁ (read 2 0 3))
 
   last : (k : ℕ) → lastWritten (tells [] s₀ calls) 2 k ≡ lastWritten (plain [] t₀ calls) 2 k
   last k = alike-written (alike none k₀ calls fit) 2 k
 
   pub byte-zero : getD (event s₁ (read 2 0 3) lent .output) 0 0 ≡ 0
-  unfolding lastWritten written patched decided noTables nameTest upTo chainLength edgeAt grown shrunk
+  unfolding lastWritten written patched decided noTables nameTest upTo chainLength boundaryAt grown shrunk
   byte-zero = bytes-read sequence 2 0 3 lent gave 0 (omega arith) ∙ last 0
 
   pub byte-one : getD (event s₁ (read 2 0 3) lent .output) 1 0 ≡ 7
-  unfolding lastWritten written patched decided noTables nameTest upTo chainLength edgeAt grown shrunk
+  unfolding lastWritten written patched decided noTables nameTest upTo chainLength boundaryAt grown shrunk
   byte-one = bytes-read sequence 2 0 3 lent gave 1 (omega arith) ∙ last 1
 
   -- 2: byte 5 of the shared segment is the 9 that was stored
   pub byte-stored : userByte (leads s₁ more) 255 5 ≡ 9
-  unfolding lastStored stored patched decided noTables nameTest upTo chainLength edgeAt grown shrunk
+  unfolding lastStored stored patched decided noTables nameTest upTo chainLength boundaryAt grown shrunk
   byte-stored =
       user-bytes sequence 255 5 (runs [] s₁ more fit-more (users-all 255 5 k₁ more fit-more shared-all) (stay (users 255 5 k₁ shared-here)))
       ∙ alike-stored (alike none k₁ more fit-more) 255 5 _
 
   -- 3: the one channel's record lies in one segment
   pub one-segment : size (s₁ .tables .segments) (held (s₁ .tables)) ≡ 1
-  unfolding decided noTables nameTest upTo chainLength edgeAt grown shrunk
+  unfolding decided noTables nameTest upTo chainLength boundaryAt grown shrunk
   one-segment = reachable-fewest sequence .many ∙ ap (λ (t : Tables). t .held) (k₁ .tables)
 
   -- 4: one byte more than the open of `more` asks, and no layout fits
   no-room : event s₁ (opens 3 9939) lent .answer ≡ NoRoom
-  unfolding decided noTables nameTest upTo chainLength edgeAt grown shrunk
+  unfolding decided noTables nameTest upTo chainLength boundaryAt grown shrunk
   no-room = known-answer k₁ (opens 3 9939)
 
   passes : Passes (s₁ .tables) (length (s₁ .ram)) 3 (opens 3 9939)

@@ -9,7 +9,7 @@ use lib.ListN.{take, set}
 use Rattle.rows.specs.Lists.{firstOf, lastOf, tally}
 use Rattle.rows.specs.Classes.{FREE, SYSTEM, SHARED}
 use Rattle.rows.specs.Channels.{sumOf}
-use Rattle.rows.specs.Sizes.{chainLength, edgeAt}
+use Rattle.rows.specs.Sizes.{chainLength, boundaryAt}
 use Rattle.kernel.specs.Definition.Tables.{SEGMENT, withSegments}
 use Rattle.kernel.specs.Definition.Line.{totalOf, oneMore, grown, roomFor}
 use Rattle.kernel.specs.declared.Tables.{Tables}
@@ -37,7 +37,7 @@ end-of t count end e f = rw (f, e)
 
 -- the room rule, with a segment shared and with none
 module _ (t : Tables) (room n segments held row : ℕ) (count : segments ≡ t .segments) (links : held ≡ t .held) (f : row ≡ firstOf SHARED (take segments (t .classes))) where
-  pub room-shared : (long edge : ℕ) → row < segments → long ≡ chainLength room n → edge ≡ edgeAt room n
+  pub room-shared : (long edge : ℕ) → row < segments → long ≡ chainLength room n → edge ≡ boundaryAt room n
       → (eqb long held && leb (t .user) edge) ≡ roomFor t room n
   unfolding roomFor
   room-shared long edge h l e = let s : firstOf SHARED (take (t .segments) (t .classes)) < t .segments = rw (f, count) at h in rw (lt-ltb _ _ s, l, e, links)

@@ -9,7 +9,7 @@ use lib.Dec.{ltb}
 use lib.ListN.{length, take, set}
 use lib.Seq.{take-all}
 use Rattle.rows.specs.Channels.{sumOf}
-use Rattle.rows.specs.Devices.{muted}
+use Rattle.rows.specs.Devices.{disabledBy}
 use Rattle.rows.specs.Sizes.{chainLength}
 use Rattle.rows.specs.declared.Device.{Device}
 use Rattle.names.specs.Runs.{link-right}
@@ -45,7 +45,7 @@ module _ (t : Tables) (m : ℕ) (name : List ℕ) (count end long held more : �
   device-held g l = rw growth (linking-held t m name g l)
 
   pub device-made : (bytes : List ℕ) (rows : List Device) (known : ℕ) (after : Tables) → bytes ≡ wordOf (take (length name) name)
-      → rows ≡ map (muted bytes (length name)) (t .devices) → known ≡ t .known
+      → rows ≡ map (disabledBy bytes (length name)) (t .devices) → known ≡ t .known
       → after ≡ grown more (withDevices t (t .room - m) (t .known + 1) (set rows known (record { name = bytes; length = length name; enabled = true })))
       → after ≡ linking t m (wordOf name) (length name)
   unfolding linking

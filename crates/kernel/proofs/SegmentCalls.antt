@@ -11,7 +11,7 @@ use lib.Dec.{eqb}
 use Rattle.rows.specs.Lists.{at, firstOf, tally, and-left, and-right}
 use Rattle.rows.specs.Classes.{FREE, USER, SYSTEM, DEVICE, SHARED}
 use Rattle.rows.specs.Channels.{sumOf}
-use Rattle.rows.specs.Sizes.{edgeAt}
+use Rattle.rows.specs.Sizes.{boundaryAt}
 use Rattle.kernel.specs.Definition.Tables.{SEGMENT, numberAt, rowOf, lastRow, countOf, withSegments}
 use Rattle.kernel.specs.Definition.Good.{Good}
 use Rattle.kernel.specs.Definition.Line.{boundaryOf}
@@ -23,7 +23,7 @@ use Rattle.kernel.specs.declared.Tables.{Tables}
 use Rattle.kernel.specs.declared.Answer.the-variants.{Done, BadCall, NoSegment, NotOwner, BadBoundary, BadRange, Shared}
 
 -- the EXOS boundary, from T as the code sums it
-pub edge-of : (t : Tables) (n line edge : ℕ) → n ≡ t .opened → line ≡ sumOf (take n (t .channels)) → edge ≡ edgeAt (t .room) line → edge ≡ boundaryOf t
+pub edge-of : (t : Tables) (n line edge : ℕ) → n ≡ t .opened → line ≡ sumOf (take n (t .channels)) → edge ≡ boundaryAt (t .room) line → edge ≡ boundaryOf t
 edge-of t n line edge e f g = rw (g, f, e)
 
 -- the chain's last row, from the count as the code widens it

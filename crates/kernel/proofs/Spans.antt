@@ -12,7 +12,7 @@ use Rattle.line.proofs.Places.{chain-less}
 use Rattle.rows.specs.Lists.{firstOf, and-left}
 use Rattle.rows.specs.Classes.{USER, SHARED}
 use Rattle.rows.specs.Channels.{placeIn, foundAt, found-at, found-nowhere}
-use Rattle.rows.specs.Sizes.{edgeAt, edge-low, edge-high}
+use Rattle.rows.specs.Sizes.{boundaryAt, edge-low, edge-high}
 use Rattle.rows.specs.declared.Place.{Place}
 use Rattle.rows.specs.declared.Place.the-variants.{At, Nowhere}
 use Rattle.kernel.specs.Definition.Tables.{SEGMENT, ramSize, classAt, rowOf, channelAt}
@@ -112,7 +112,7 @@ reached t n segment row may g e f m h =
     let less : row < t .segments = ltb-true row (t .segments) (and-left (ltb row (t .segments)) (eqb row 0 || eqb (classAt t row) USER || eqb (classAt t row) SHARED) yes-may) in
     record { here = sym (rw e at f); may = yes-may; among = less; below = omega (arith, g .list .most) }
 
-edge-most : (r n : ℕ) → r ≤ 16384 → edgeAt r n ≤ 16384
+edge-most : (r n : ℕ) → r ≤ 16384 → boundaryAt r n ≤ 16384
 edge-most r n h = elim (decLe n r) [ yes a ↦ omega (arith, edge-low r n a) | no a ↦ omega (arith, edge-high r n (omega arith)) ]
 
 cond-most : (b : Bool) (x y m : ℕ) → x ≤ m → y ≤ m → cond b x y ≤ m

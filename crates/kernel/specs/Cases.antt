@@ -7,7 +7,7 @@ use lib.ListN.{length, getD}
 use lib.Dec.{eqb}
 use borrow.Author.Tests.{eqb-true}
 use Rattle.rows.specs.Lists.{every, every-at, and-left, and-right, upTo}
-use Rattle.rows.specs.Sizes.{chainLength, edgeAt}
+use Rattle.rows.specs.Sizes.{chainLength, boundaryAt}
 use Rattle.kernel.specs.Definition.Line.{grown, shrunk}
 use Rattle.kernel.specs.Definition.Reset.{noTables}
 use Rattle.kernel.specs.Definition.Answers.{numberOf, aOf, bOf}
@@ -86,7 +86,7 @@ tested t (l ∷ ls) e =
     (eqb-true _ _ (and-left p (q && (r && more)) e), eqb-true _ _ (and-left q (r && more) e₁), eqb-true _ _ (and-left r more e₂), tested (o .tables) ls (and-right r more e₂))
 
 all-pass : every (λ (ls : List Expected). answersTest noTables (fresh ∷ ls)) cases ≡ true
-unfolding answered noTables upTo chainLength edgeAt grown shrunk
+unfolding answered noTables upTo chainLength boundaryAt grown shrunk
 all-pass = refl
 
 pub ten : length cases ≡ 10

@@ -20,8 +20,8 @@ use rows::segments::class_test;
 use rows::segments::list_test;
 use rows::segments::room_test;
 use rows::segments::user_test;
+use rows::sizes::boundary_at;
 use rows::sizes::chain_length;
-use rows::sizes::edge_at;
 
 // The counts are within the arrays.
 fn sizes_test(segments: usize, held: usize, opened: usize) -> bool
@@ -57,7 +57,7 @@ impl Tables {
         let line = total(channels, opened);
         let last = wide(chain[held - 1]);
         let class = class_at(classes, last);
-        let edge = edge_at(self.room, line);
+        let edge = boundary_at(self.room, line);
         let a = list_test(list, segments);
         let b = class_test(classes, segments);
         let c = room_test(self.room, self.cold);
@@ -98,6 +98,6 @@ impl Tables {
     {
         let channels = self.channels;
         let opened = wide(self.opened);
-        edge_at(self.room, total(channels, opened))
+        boundary_at(self.room, total(channels, opened))
     }
 }

@@ -12,8 +12,8 @@ use rows::segments::SYSTEM;
 use rows::segments::count_of;
 use rows::segments::first_of;
 use rows::segments::last_of;
+use rows::sizes::boundary_at;
 use rows::sizes::chain_length;
-use rows::sizes::edge_at;
 
 impl Tables {
     // One further segment for the chain: the highest numbered free one.
@@ -54,7 +54,7 @@ impl Tables {
         let segments = wide(self.segments);
         let held = wide(self.held);
         let long = chain_length(room, n);
-        let fits = (long == held) & (self.user <= edge_at(room, n));
+        let fits = (long == held) & (self.user <= boundary_at(room, n));
         let most = wide16(room) + 16384 * (held - 1 + count_of(classes, segments, FREE));
         if first_of(classes, segments, SHARED) < segments {
             fits

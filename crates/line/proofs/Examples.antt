@@ -4,7 +4,7 @@ use mathlib.Core.List.{List, [], _∷_}
 use Prim.Native.Nat.{ℕ, zero, suc, _+_, _*_, _<_, _≤_}
 use native.Mathlib.Omega.{arith}
 use lib.ListN.{getD}
-use Rattle.line.specs.Line.{linkOf, offsetOf, placeOf, headingOf, Chain}
+use Rattle.line.specs.Line.{chainIndexOf, offsetOf, placeOf, headingOf, Chain}
 
 two : List ℕ
 two = 1 ∷ 0 ∷ []
@@ -30,12 +30,12 @@ a-chain = record { held = 2; some = omega arith; few = omega arith; small = omeg
 
 -- position 0 is offset R - 1 of the first segment
 first : placeOf two 256 0 ≡ 16384 + 255
-unfolding placeOf linkOf offsetOf two
+unfolding placeOf chainIndexOf offsetOf two
 first = refl
 
 -- position R is offset 16,383 of the next
 over : placeOf two 256 256 ≡ 16383
-unfolding placeOf linkOf offsetOf two
+unfolding placeOf chainIndexOf offsetOf two
 over = refl
 
 -- the heading of a record with a buffer of 65,535 bytes

@@ -9,14 +9,14 @@ use lib.ListN.{length, getD, take, drop, length-drop}
 use lib.Seq.{getD-take, getD-drop, length-take-le}
 use borrow.Author.Tests.{lt-ltb, eq-eqb, ne-eqb}
 use Rattle.line.specs.declared.Lent.the-variants.{Part, Nothing}
-use Rattle.line.specs.Line.{linkOf, offsetOf, placeOf, lineFrom, Chain}
+use Rattle.line.specs.Line.{chainIndexOf, offsetOf, placeOf, lineFrom, Chain}
 use Rattle.line.specs.Lent.{lentAt, partOf}
 use Rattle.line.proofs.Walks.{bytes-at}
 use Rattle.line.proofs.Places.{link-low, link-high, offset-low, offset-high, place-inside, place-fall, place-offset}
 
 -- down to the foot of its segment a position's segment is the same, and past it another
 
-pub link-fall : (room p i : ℕ) → i ≤ offsetOf room p → linkOf room (p + i) ≡ linkOf room p
+pub link-fall : (room p i : ℕ) → i ≤ offsetOf room p → chainIndexOf room (p + i) ≡ chainIndexOf room p
 link-fall room p i h =
     by-cases (decLt p room)
     (λ l. let m : p + i < room = omega (arith, offset-low room p l) in omega (arith, link-low room p l, link-low room (p + i) m))
@@ -25,7 +25,7 @@ link-fall room p i h =
     let m : room ≤ p + i = omega arith in
     omega (arith, offset-high room p g, link-high room p g, link-high room (p + i) m))
 
-pub link-past : (room p i : ℕ) → offsetOf room p < i → linkOf room p < linkOf room (p + i)
+pub link-past : (room p i : ℕ) → offsetOf room p < i → chainIndexOf room p < chainIndexOf room (p + i)
 link-past room p i h =
     by-cases (decLt p room)
     (λ l. let m : room ≤ p + i = omega (arith, offset-low room p l) in omega (arith, link-low room p l, link-high room (p + i) m))
@@ -47,7 +47,7 @@ module _ (chain : List ℕ) (room start n d : ℕ) (small : room ≤ 16384) (som
       let last : start + n - 1 ≡ start + (n - 1) = omega arith in
       let low : n - 1 ≤ offsetOf room start = omega (arith, rw at at h, place-offset chain room start small) in
       let there : placeOf chain room (start + (n - 1)) ≡ d - (n - 1) = rw at (sym (place-fall chain room start (n - 1) small low .1)) in
-      rw (lt-ltb 0 n some, last, eq-eqb (linkOf room start) (linkOf room (start + (n - 1))) (sym (link-fall room start (n - 1) low)), there)
+      rw (lt-ltb 0 n some, last, eq-eqb (chainIndexOf room start) (chainIndexOf room (start + (n - 1))) (sym (link-fall room start (n - 1) low)), there)
 
   pub lent-apart : d % 16384 + 1 < n → Nothing ≡ lentAt chain room start n
   unfolding lentAt
@@ -55,7 +55,7 @@ module _ (chain : List ℕ) (room start n d : ℕ) (small : room ≤ 16384) (som
       let last : start + n - 1 ≡ start + (n - 1) = omega arith in
       let past : offsetOf room start < n - 1 = omega (arith, rw at at h, place-offset chain room start small) in
       let less = link-past room start (n - 1) past in
-      rw (lt-ltb 0 n some, last, ne-eqb (linkOf room start) (linkOf room (start + (n - 1))) (λ e. omega arith))
+      rw (lt-ltb 0 n some, last, ne-eqb (chainIndexOf room start) (chainIndexOf room (start + (n - 1))) (λ e. omega arith))
 
 -- what a part is
 
@@ -102,7 +102,7 @@ module _ (chain : List ℕ) (room start n at : ℕ) (ram : List ℕ) (good : Cha
   lent-length = length-take-le n (drop at ram) (omega (arith, length-drop at ram, lent-inside))
 
   -- all of its bytes lie in one segment
-  pub lent-link : (i : ℕ) → i < n → linkOf room (start + i) ≡ linkOf room start
+  pub lent-link : (i : ℕ) → i < n → chainIndexOf room (start + i) ≡ chainIndexOf room start
   lent-link i h = link-fall room start i (omega (arith, lies chain room start n at (good .small) e .low))
 
   -- its i-th byte is the buffer's byte n - 1 - i

@@ -7,17 +7,17 @@ use native.Mathlib.Decide.{decLt}
 use native.Mathlib.Omega.{arith}
 use lib.ListN.{getD}
 use borrow.Author.Tests.{lt-ltb, le-ltb}
-use Rattle.line.specs.Line.{linkOf, offsetOf, placeOf, Chain}
+use Rattle.line.specs.Line.{chainIndexOf, offsetOf, placeOf, Chain}
 use Rattle.line.specs.Runs.{reachOf}
 
 -- the two cases of a position: in the room of the chain's first segment, or past it
 
-pub link-low : (room p : ℕ) → p < room → linkOf room p ≡ 0
-unfolding linkOf
+pub link-low : (room p : ℕ) → p < room → chainIndexOf room p ≡ 0
+unfolding chainIndexOf
 link-low room p h = simp (lt-ltb p room h)
 
-pub link-high : (room p : ℕ) → room ≤ p → linkOf room p ≡ 1 + (p - room) / 16384
-unfolding linkOf
+pub link-high : (room p : ℕ) → room ≤ p → chainIndexOf room p ≡ 1 + (p - room) / 16384
+unfolding chainIndexOf
 link-high room p h = simp (le-ltb p room h)
 
 pub offset-low : (room p : ℕ) → p < room → offsetOf room p ≡ room - 1 - p
@@ -64,7 +64,7 @@ reach-some room p =
     (λ l. let g : room ≤ p = omega arith in omega (arith, reach-high room p g))
 
 -- segment and offset fix the position
-same-position : (room p q : ℕ) → room ≤ 16384 → linkOf room p ≡ linkOf room q → offsetOf room p ≡ offsetOf room q → p ≡ q
+same-position : (room p q : ℕ) → room ≤ 16384 → chainIndexOf room p ≡ chainIndexOf room q → offsetOf room p ≡ offsetOf room q → p ≡ q
 same-position room p q small l o =
     by-cases (decLt p room)
     (λ hp. by-cases (decLt q room)
@@ -86,7 +86,7 @@ same-row a b x y hx hy e = (omega arith, omega arith)
 
 module _ (chain : List ℕ) (room total size : ℕ) (good : Chain chain room total size) where
   -- a position of the line is in a segment that is held
-  pub link-lt : (p : ℕ) → p < total → linkOf room p < good .held
+  pub link-lt : (p : ℕ) → p < total → chainIndexOf room p < good .held
   link-lt p h =
       by-cases (decLt p room)
       (λ l. omega (arith, link-low room p l, good .some))
@@ -95,19 +95,19 @@ module _ (chain : List ℕ) (room total size : ℕ) (good : Chain chain room tot
   -- a position of the line lies in the RAM
   pub place-inside : (p : ℕ) → p < total → placeOf chain room p < size
   unfolding placeOf
-  place-inside p h = omega (arith, good .inside (linkOf room p) (link-lt p h), offset-lt room p (good .small))
+  place-inside p h = omega (arith, good .inside (chainIndexOf room p) (link-lt p h), offset-lt room p (good .small))
 
   -- no two positions of the line lie at one place
   pub place-apart : (p q : ℕ) → p < total → q < total → placeOf chain room p ≡ placeOf chain room q → p ≡ q
   unfolding placeOf
   place-apart p q hp hq e =
-      let both = same-row (getD chain (linkOf room p) 0) (getD chain (linkOf room q) 0) (offsetOf room p) (offsetOf room q) (offset-lt room p (good .small)) (offset-lt room q (good .small)) e in
-      same-position room p q (good .small) (good .apart (linkOf room p) (linkOf room q) (link-lt p hp) (link-lt q hq) (both .0)) (both .1)
+      let both = same-row (getD chain (chainIndexOf room p) 0) (getD chain (chainIndexOf room q) 0) (offsetOf room p) (offsetOf room q) (offset-lt room p (good .small)) (offset-lt room q (good .small)) e in
+      same-position room p q (good .small) (good .apart (chainIndexOf room p) (chainIndexOf room q) (link-lt p hp) (link-lt q hq) (both .0)) (both .1)
 
   -- a byte in a segment that the chain does not hold is at no position of the line
   pub place-row : (i p : ℕ) → p < total → ((k : ℕ) → k < good .held → i / 16384 ≡ getD chain k 0 → ⊥) → i ≡ placeOf chain room p → ⊥
   unfolding placeOf
-  place-row i p h off e = off (linkOf room p) (link-lt p h) (omega (arith, offset-lt room p (good .small)))
+  place-row i p h off e = off (chainIndexOf room p) (link-lt p h) (omega (arith, offset-lt room p (good .small)))
 
 -- a shorter line, and a RAM of the same size
 pub chain-less : (chain : List ℕ) (room total size t n : ℕ) → t ≤ total → n ≡ size → Chain chain room total size → Chain chain room t n

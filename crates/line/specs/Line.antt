@@ -11,8 +11,8 @@ use Rattle.line.specs.Ram.{bytesFrom, putFrom}
 -- "So buffers run downward". `room` is R. `chain` gives the rows of the chain's segments in the RAM, that of segment 255 first.
 
 -- which segment of the chain holds position p
-unfoldable pub linkOf : ℕ → ℕ → ℕ
-linkOf room p = cond (ltb p room) 0 (1 + (p - room) / 16384)
+unfoldable pub chainIndexOf : ℕ → ℕ → ℕ
+chainIndexOf room p = cond (ltb p room) 0 (1 + (p - room) / 16384)
 
 -- at which offset of its segment position p lies
 unfoldable pub offsetOf : ℕ → ℕ → ℕ
@@ -20,7 +20,7 @@ offsetOf room p = cond (ltb p room) (room - 1 - p) (16383 - (p - room) % 16384)
 
 -- the place of position p: its index in the RAM
 unfoldable pub placeOf : List ℕ → ℕ → ℕ → ℕ
-placeOf chain room p = getD chain (linkOf room p) 0 * 16384 + offsetOf room p
+placeOf chain room p = getD chain (chainIndexOf room p) 0 * 16384 + offsetOf room p
 
 -- the n bytes on positions p, p + 1, ..
 abbrev pub lineFrom : List ℕ → ℕ → List ℕ → ℕ → ℕ → List ℕ

@@ -9,9 +9,9 @@ use native.Mathlib.Omega.{arith}
 use lib.ListN.{length, getD, drop, set, replicate, length-replicate, length-set, length-drop}
 use lib.Seq.{getD-set-same, getD-set-other}
 use Rattle.rows.specs.Lists.{upTo}
-use Rattle.rows.specs.Sizes.{chainLength, edgeAt}
+use Rattle.rows.specs.Sizes.{chainLength, boundaryAt}
 use Rattle.line.specs.Ram.{bytesFrom, putFrom, taken}
-use Rattle.line.specs.Line.{linkOf, offsetOf, placeOf, opened, closed}
+use Rattle.line.specs.Line.{chainIndexOf, offsetOf, placeOf, opened, closed}
 use Rattle.line.proofs.Walks.{length-put}
 use Rattle.kernel.specs.Definition.Line.{grown, shrunk}
 use Rattle.kernel.specs.Definition.Calls.{Call}
@@ -78,7 +78,7 @@ callAt k = decode (kindAt k) (bodyAt k)
 
 -- the tables before record k
 before : ℕ → Tables
-unfolding callAt decided noTables upTo chainLength edgeAt grown shrunk
+unfolding callAt decided noTables upTo chainLength boundaryAt grown shrunk
 before zero = noTables
 before (suc k) = decided (before k) 65536 4096 (callAt k) .tables
 
@@ -143,13 +143,13 @@ unfolding taken
 filled x y out g = rw length-drop (omega arith)
 
 said-4 : Says Written 4
-unfolding left next lentTo taken bytesFrom placeOf linkOf offsetOf
+unfolding left next lentTo taken bytesFrom placeOf chainIndexOf offsetOf
 said-4 =
     says Written Any 4 refl refl refl
     (λ ram out h g p. record { line-is = shown (getD ram 60111 0) (getD ram 60110 0) out (p .0) (p .1); ram-length = h; output-length = filled (getD ram 60111 0) (getD ram 60110 0) out g; such = tt }) said-5
 
 said-3 : Says Any 3
-unfolding left next lentTo lineOf showsOf fieldsOf decimalOf decimalIn putFrom placeOf linkOf offsetOf
+unfolding left next lentTo lineOf showsOf fieldsOf decimalOf decimalIn putFrom placeOf chainIndexOf offsetOf
 said-3 =
     says Any Written 3 refl refl refl
     (λ ram out h g p.

@@ -8,12 +8,12 @@ use native.Mathlib.Omega.{arith}
 use borrow.Author.Tests.{ne-eqb}
 use lib.ListN.{length, replicate, length-append, length-replicate, List·getD-map}
 use Rattle.rows.specs.Lists.{at}
-use Rattle.rows.specs.Classes.{FREE, USER, SYSTEM, SHARED, held?, fresh, released}
+use Rattle.rows.specs.Classes.{FREE, USER, SYSTEM, SHARED, timesHeld, fresh, released}
 use Rattle.rows.specs.Count.{one-yes, one-no}
 use Rattle.rows.specs.Good.{ClassesGood, ChainGood}
 
 -- released classes: the chain holds the same, and nothing is shared
-pub released-kind : (c : ℕ) → held? (released c) ≡ held? c
+pub released-kind : (c : ℕ) → timesHeld (released c) ≡ timesHeld c
 released-kind c =
     elim (ℕ-discrete c USER) [
       | yes q ↦ rw q

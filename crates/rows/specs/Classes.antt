@@ -26,8 +26,8 @@ abbrev pub inChain : ℕ → Bool
 inChain c = eqb c SYSTEM || eqb c SHARED
 
 -- 1 if the chain holds a segment of this class, else 0
-abbrev pub held? : ℕ → ℕ
-held? c = cond (inChain c) 1 0
+abbrev pub timesHeld : ℕ → ℕ
+timesHeld c = cond (inChain c) 1 0
 
 -- "all but page zero and 255 free": the classes of n segments after a start
 abbrev pub fresh : ℕ → List ℕ

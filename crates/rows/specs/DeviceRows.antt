@@ -8,7 +8,7 @@ use native.Mathlib.Omega.{arith}
 use lib.ListN.{length, getD, set, length-map, List·getD-map}
 use lib.Seq.{getD-set-same, getD-set-other}
 use Rattle.rows.specs.Lists.{upTo}
-use Rattle.rows.specs.Devices.{noDevice, builtIn, muted, added}
+use Rattle.rows.specs.Devices.{noDevice, builtIn, disabledBy, added}
 use Rattle.rows.specs.Good.{NameGood, Same, DevicesGood}
 use Rattle.rows.specs.Join.{same-yes, same-no, device-says}
 use Rattle.rows.specs.declared.Device.{Device}
@@ -21,10 +21,10 @@ pub devices-more : (ds : List Device) (known : ℕ) (s : List ℕ) (n : ℕ) →
     → DevicesGood (added ds known s n) (known + 1)
 devices-more ds known s n l h w p g =
     let new : Device = record { name = s; length = n; enabled = true } in
-    let ms = map (muted s n) ds in
-    let here : getD (set ms known new) known noDevice ≡ new = getD-set-same ms known new noDevice (omega (arith, length-map ds (muted s n))) in
-    let old : (i : ℕ) → (i ≡ known → ⊥) → getD (set ms known new) i noDevice ≡ muted s n (getD ds i noDevice) =
-    λ i q. getD-set-other ms known i new noDevice q ∙ List·getD-map (muted s n) ds i noDevice in
+    let ms = map (disabledBy s n) ds in
+    let here : getD (set ms known new) known noDevice ≡ new = getD-set-same ms known new noDevice (omega (arith, length-map ds (disabledBy s n))) in
+    let old : (i : ℕ) → (i ≡ known → ⊥) → getD (set ms known new) i noDevice ≡ disabledBy s n (getD ds i noDevice) =
+    λ i q. getD-set-other ms known i new noDevice q ∙ List·getD-map (disabledBy s n) ds i noDevice in
     let least = g .least in
     record {
       least = omega arith;

@@ -40,12 +40,12 @@ abbrev pub builtIn : List Device
 builtIn = deviceOf VIDEO ∷ deviceOf NET ∷ deviceOf KEYBOARD ∷ replicate {A = Device} 13 zeroDevice
 
 -- "An older device of the same name is disabled": the device once one of this name is linked
-abbrev pub muted : List ℕ → ℕ → Device → Device
-muted s n d = record { name = d .name; length = d .length; enabled = d .enabled && not (sameName (d .name) (d .length) s n) }
+abbrev pub disabledBy : List ℕ → ℕ → Device → Device
+disabledBy s n d = record { name = d .name; length = d .length; enabled = d .enabled && not (sameName (d .name) (d .length) s n) }
 
 -- "Link adds a device"
 abbrev pub added : List Device → ℕ → List ℕ → ℕ → List Device
-added ds known s n = set (map (muted s n) ds) known (record { name = s; length = n; enabled = true })
+added ds known s n = set (map (disabledBy s n) ds) known (record { name = s; length = n; enabled = true })
 
 -- enabled and so named. "The empty default matches no device"
 abbrev pub answers : List ℕ → ℕ → Device → Bool

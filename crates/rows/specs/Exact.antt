@@ -7,14 +7,14 @@ use native.Mathlib.Omega.{arith}
 use lib.ListN.{length, getD, take, length-take}
 use lib.Seq.{getD-take}
 use Rattle.rows.specs.Lists.{at, tally}
-use Rattle.rows.specs.Classes.{SHARED, inChain, held?}
+use Rattle.rows.specs.Classes.{SHARED, inChain, timesHeld}
 use Rattle.rows.specs.Count.{tally-some, tally-two, tally-most, last-found, cond-most}
 use Rattle.rows.specs.Good.{ChainGood}
 
 -- the reader's form of "exactly the system and shared segments without a repeat"
 pub record Exactly (n : ℕ) (classes chain : List ℕ) (held : ℕ) : Type 0 where
-  pub only : (i : ℕ) → i < held → 1 ≤ held? (at classes (at chain i))
-  pub all : (row : ℕ) → row < n → 1 ≤ held? (at classes row) → (i : ℕ) × (i < held) × (at chain i ≡ row)
+  pub only : (i : ℕ) → i < held → 1 ≤ timesHeld (at classes (at chain i))
+  pub all : (row : ℕ) → row < n → 1 ≤ timesHeld (at classes row) → (i : ℕ) × (i < held) × (at chain i ≡ row)
   pub once : (i j : ℕ) → i < j → j < held → at chain i ≡ at chain j → ⊥
 
 module _ (n : ℕ) (cs chain : List ℕ) (held : ℕ) (l : length chain ≡ 32) (most : held ≤ 32) (rows : (i : ℕ) → i < held → at chain i < n) where
@@ -24,7 +24,7 @@ module _ (n : ℕ) (cs chain : List ℕ) (held : ℕ) (l : length chain ≡ 32) 
   place : (i : ℕ) → i < held → getD (take held chain) i 0 ≡ at chain i
   place i h = getD-take held chain i 0 h
 
-  pub exactly : ((row : ℕ) → row < n → tally row (take held chain) ≡ held? (at cs row)) → Exactly n cs chain held
+  pub exactly : ((row : ℕ) → row < n → tally row (take held chain) ≡ timesHeld (at cs row)) → Exactly n cs chain held
   exactly x = record {
     only = λ i h. omega (arith, x (at chain i) (rows i h), tally-some (at chain i) (take held chain) i (omega (arith, long)) (place i h));
     all = λ row h c. let f = last-found row (take held chain) (omega (arith, x row h)) in
@@ -32,11 +32,11 @@ module _ (n : ℕ) (cs chain : List ℕ) (held : ℕ) (l : length chain ≡ 32) 
     once = λ i j h k e. omega (arith, tally-two (at chain j) (take held chain) i j h (omega (arith, long)) (place i (omega arith) ∙ e) (place j k), x (at chain j) (rows j k), cond-most (inChain (at cs (at chain j))));
   }
 
-  pub exactly-back : Exactly n cs chain held → (row : ℕ) → row < n → tally row (take held chain) ≡ held? (at cs row)
+  pub exactly-back : Exactly n cs chain held → (row : ℕ) → row < n → tally row (take held chain) ≡ timesHeld (at cs row)
   exactly-back e row h =
       let m : tally row (take held chain) ≤ 1 = tally-most row (take held chain) (λ i j a b p q.
       e .once i j a (omega (arith, long)) (sym (place i (omega (arith, long))) ∙ p ∙ sym q ∙ place j (omega (arith, long)))) in
-      elim (decLe 1 (held? (at cs row))) [
+      elim (decLe 1 (timesHeld (at cs row))) [
         | yes c ↦ let s = e .all row h c in
             omega (arith, tally-some row (take held chain) (s .0) (omega (arith, long, s .1)) (place (s .0) (s .1) ∙ s .2), cond-most (inChain (at cs row)))
         | no c ↦ elim (decLe 1 (tally row (take held chain))) [
@@ -53,5 +53,5 @@ pub one-shared : (n : ℕ) (cs chain : List ℕ) (held : ℕ) → ChainGood n cs
 one-shared n cs chain held g i j h k p q = sym (g .last i h p) ∙ g .last j k q
 
 -- "255 is system or shared"
-pub top-held : (n : ℕ) (cs chain : List ℕ) (held : ℕ) → length chain ≡ 32 → ChainGood n cs chain held → 1 ≤ held? (at cs (n - 1))
+pub top-held : (n : ℕ) (cs chain : List ℕ) (held : ℕ) → length chain ≡ 32 → ChainGood n cs chain held → 1 ≤ timesHeld (at cs (n - 1))
 top-held n cs chain held l g = rw (g .starts) at (exactly n cs chain held l (g .most) (g .rows) (g .exact) .only 0 (g .holds))

@@ -5,7 +5,7 @@ use mathlib.Core.List.{List}
 use Prim.Native.Nat.{ℕ, _+_, _-_, _≤_, _<_}
 use lib.ListN.{length, getD, take}
 use Rattle.rows.specs.Lists.{at, padded, tally}
-use Rattle.rows.specs.Classes.{FREE, SHARED, held?}
+use Rattle.rows.specs.Classes.{FREE, SHARED, timesHeld}
 use Rattle.rows.specs.Channels.{noChannel}
 use Rattle.rows.specs.Devices.{noDevice, VIDEO, NET, KEYBOARD}
 use Rattle.rows.specs.declared.Channel.{Channel}
@@ -39,7 +39,7 @@ pub record ChainGood (n : ℕ) (classes chain : List ℕ) (held : ℕ) : Type 0 
   pub starts : at chain 0 ≡ n - 1
   pub rows : (i : ℕ) → i < held → at chain i < n
   -- "the chain below is exactly the system and shared segments without a repeat"
-  pub exact : (row : ℕ) → row < n → tally row (take held chain) ≡ held? (at classes row)
+  pub exact : (row : ℕ) → row < n → tally row (take held chain) ≡ timesHeld (at classes row)
   -- "at most one segment is shared", "a shared segment is the chain's last"
   pub last : (row : ℕ) → row < n → at classes row ≡ SHARED → at chain (held - 1) ≡ row
   -- "Unused rows and bytes of the tables are zero"

@@ -10,7 +10,7 @@ use lib.ListN.{length, getD, take}
 use lib.Dec.{leb, ltb, eqb}
 use borrow.Author.Tests.{leb-true, ltb-true, eqb-true, le-leb, lt-ltb, eq-eqb, not-true}
 use Rattle.rows.specs.Lists.{at, padded, tally, upTo, below→all, all→below, and-left, and-right}
-use Rattle.rows.specs.Classes.{FREE, SHARED, inChain, held?}
+use Rattle.rows.specs.Classes.{FREE, SHARED, inChain, timesHeld}
 use Rattle.rows.specs.Channels.{noChannel}
 use Rattle.rows.specs.Devices.{noDevice, sameBytes, sameName, VIDEO, NET, KEYBOARD}
 use Rattle.rows.specs.Good.{ListGood, ClassesGood, ChainGood, RoomGood, ChannelsGood, UserGood, NameGood, Same, NoDevice, Alias, Named, DevicesGood, DefaultGood}
@@ -163,7 +163,7 @@ class-says cs n one most =
 abbrev times : List ℕ → ℕ → ℕ → ℕ
 times chain held i = tally i (take held chain)
 
-exact-says : (c k : ℕ) → Says ((inChain c && eqb k 1) || (not (inChain c) && eqb k 0)) (k ≡ held? c)
+exact-says : (c k : ℕ) → Says ((inChain c && eqb k 1) || (not (inChain c) && eqb k 0)) (k ≡ timesHeld c)
 exact-says c k = go (inChain c)
   where
     go : (b : Bool) → Says ((b && eqb k 1) || (not b && eqb k 0)) (k ≡ cond b 1 0)

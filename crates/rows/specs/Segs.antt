@@ -9,12 +9,12 @@ use borrow.Author.Tests.{ne-eqb}
 use lib.ListN.{length, take, set, length-take}
 use lib.Seq.{take-suc-set, take-set-le, getD-set-same, getD-set-other, getD-take}
 use Rattle.rows.specs.Lists.{at, tally}
-use Rattle.rows.specs.Classes.{FREE, SYSTEM, SHARED, inChain, held?}
+use Rattle.rows.specs.Classes.{FREE, SYSTEM, SHARED, inChain, timesHeld}
 use Rattle.rows.specs.Count.{one, one-yes, one-no, tally-append, tally-suc, cond-most, sumTo, sum-tally, sum-same, tally-sum, sum-plus, sum-most}
 use Rattle.rows.specs.Good.{ClassesGood, ChainGood}
 
 -- a class that the chain holds, other than shared, is system
-pub held-yes : (c : ℕ) → 1 ≤ held? c → (c ≡ SHARED → ⊥) → c ≡ SYSTEM
+pub held-yes : (c : ℕ) → 1 ≤ timesHeld c → (c ≡ SHARED → ⊥) → c ≡ SYSTEM
 held-yes c h n =
     elim (ℕ-discrete c SYSTEM) [
       | yes q ↦ q
@@ -38,8 +38,8 @@ module _ (n : ℕ) (cs : List ℕ) (row v : ℕ) (l : length cs ≡ 32) where
   }
 
   -- a class of the same kind: the chain stays exact
-  pub exact-set : (chain : List ℕ) (held : ℕ) → row < 32 → held? v ≡ held? (at cs row)
-      → ((r : ℕ) → r < n → tally r (take held chain) ≡ held? (at cs r)) → (r : ℕ) → r < n → tally r (take held chain) ≡ held? (at (set cs row v) r)
+  pub exact-set : (chain : List ℕ) (held : ℕ) → row < 32 → timesHeld v ≡ timesHeld (at cs row)
+      → ((r : ℕ) → r < n → tally r (take held chain) ≡ timesHeld (at cs r)) → (r : ℕ) → r < n → tally r (take held chain) ≡ timesHeld (at (set cs row v) r)
   exact-set chain held h e x r g =
       elim (ℕ-discrete r row) [
         | yes q ↦ rw (q, at-same h, e) (x row (rw q at g))
@@ -90,7 +90,7 @@ module _ (n : ℕ) (cs chain : List ℕ) (held : ℕ) (lc : length cs ≡ 32) (l
       rw (take-set-le (held - 1) chain (held - 1) 0 (omega arith)) (ap (λ (i : ℕ). tally r (take i chain)) e ∙ tally-suc r chain (held - 1) (omega arith))
 
   -- its class is system or shared
-  less-class : 1 ≤ held? (at cs (at chain (held - 1)))
+  less-class : 1 ≤ timesHeld (at cs (at chain (held - 1)))
   less-class =
       let b = g .rows (held - 1) (omega arith) in
       omega (arith, g .exact (at chain (held - 1)) b, less-tally (at chain (held - 1)), one-yes (at chain (held - 1)) (at chain (held - 1)) refl)
@@ -104,7 +104,7 @@ module _ (n : ℕ) (cs chain : List ℕ) (held : ℕ) (lc : length cs ≡ 32) (l
   pub less-classes : (v : ℕ) → FREE ≤ v → v ≤ SHARED → ClassesGood n (set cs (at chain (held - 1)) v)
   less-classes v a b = classes-set n cs (at chain (held - 1)) v lc m less-some (g .rows (held - 1) (omega arith)) a b k
 
-  pub less-chain : (v : ℕ) → held? v ≡ 0 → (v ≡ SHARED → ⊥) → ChainGood n (set cs (at chain (held - 1)) v) (set chain (held - 1) 0) (held - 1)
+  pub less-chain : (v : ℕ) → timesHeld v ≡ 0 → (v ≡ SHARED → ⊥) → ChainGood n (set cs (at chain (held - 1)) v) (set chain (held - 1) 0) (held - 1)
   less-chain v z five =
       let w = at chain (held - 1) in
       let wn : w < n = g .rows (held - 1) (omega arith) in
@@ -128,7 +128,7 @@ module _ (n : ℕ) (cs chain : List ℕ) (held : ℕ) (lc : length cs ≡ 32) (l
       }
 
 -- held and free segments are not more than there are
-pub one-kind : (c : ℕ) → held? c + one FREE c ≤ 1
+pub one-kind : (c : ℕ) → timesHeld c + one FREE c ≤ 1
 one-kind c =
     elim (ℕ-discrete c FREE) [
       | yes q ↦ rw q (omega arith)
@@ -141,8 +141,8 @@ counted n cs chain held lc ln a b k g =
     let t = take held chain in
     let lt : length t ≡ min held (length chain) = length-take held chain in
     let all : sumTo n (λ r. tally r t) ≡ length t = sum-tally n t (λ i h. rw (getD-take held chain i 0 (omega arith)) (g .rows i (omega arith))) in
-    let same : sumTo n (λ r. tally r t) ≡ sumTo n (λ r. held? (at cs r)) = sum-same n _ _ (g .exact) in
+    let same : sumTo n (λ r. tally r t) ≡ sumTo n (λ r. timesHeld (at cs r)) = sum-same n _ _ (g .exact) in
     let free : tally FREE (take n cs) ≡ sumTo n (λ i. one FREE (at cs i)) = tally-sum FREE n cs (omega arith) in
-    let both = sum-plus n (λ r. held? (at cs r)) (λ i. one FREE (at cs i)) in
-    let most = sum-most n (λ i. held? (at cs i) + one FREE (at cs i)) a (rw (k .page)) (λ i h. one-kind (at cs i)) in
+    let both = sum-plus n (λ r. timesHeld (at cs r)) (λ i. one FREE (at cs i)) in
+    let most = sum-most n (λ i. timesHeld (at cs i) + one FREE (at cs i)) a (rw (k .page)) (λ i h. one-kind (at cs i)) in
     omega arith

@@ -12,8 +12,8 @@ unfoldable pub chainLength : ℕ → ℕ → ℕ
 chainLength r n = cond (leb n r) 1 (1 + (n - r + 16383) / 16384)
 
 -- "EXOS boundary: R-T if T <= R, else 16,383 - ((T-R-1) mod 16,384)"
-unfoldable pub edgeAt : ℕ → ℕ → ℕ
-edgeAt r n = cond (leb n r) (r - n) (16383 - (n - r - 1) % 16384)
+unfoldable pub boundaryAt : ℕ → ℕ → ℕ
+boundaryAt r n = cond (leb n r) (r - n) (16383 - (n - r - 1) % 16384)
 
 pub length-low : (r n : ℕ) → n ≤ r → chainLength r n ≡ 1
 unfolding chainLength
@@ -23,12 +23,12 @@ pub length-high : (r n : ℕ) → r < n → chainLength r n ≡ 1 + (n - r + 163
 unfolding chainLength
 length-high r n h = rw (lt-leb n r h)
 
-pub edge-low : (r n : ℕ) → n ≤ r → edgeAt r n ≡ r - n
-unfolding edgeAt
+pub edge-low : (r n : ℕ) → n ≤ r → boundaryAt r n ≡ r - n
+unfolding boundaryAt
 edge-low r n h = rw (le-leb n r h)
 
-pub edge-high : (r n : ℕ) → r < n → edgeAt r n ≡ 16383 - (n - r - 1) % 16384
-unfolding edgeAt
+pub edge-high : (r n : ℕ) → r < n → boundaryAt r n ≡ 16383 - (n - r - 1) % 16384
+unfolding boundaryAt
 edge-high r n h = rw (lt-leb n r h)
 
 -- with no `-` and no `%`: a line above R ends in segment c at the boundary e
@@ -37,7 +37,7 @@ pub record Ends (r n c e : ℕ) : Type 0 where
   pub sum : e + n ≡ r + 16384 * c
   pub top : e < 16384
 
-pub ends : (r n : ℕ) → r < n → Ends r n (chainLength r n - 1) (edgeAt r n)
+pub ends : (r n : ℕ) → r < n → Ends r n (chainLength r n - 1) (boundaryAt r n)
 ends r n h =
     let l = length-high r n h in
     let e = edge-high r n h in
@@ -61,7 +61,7 @@ length-mono r s n m h g =
     ]
 
 -- a shorter line in the same segment ends higher
-pub edge-falls : (r n m : ℕ) → n ≤ m → chainLength r n ≡ chainLength r m → edgeAt r m ≤ edgeAt r n
+pub edge-falls : (r n m : ℕ) → n ≤ m → chainLength r n ≡ chainLength r m → boundaryAt r m ≤ boundaryAt r n
 edge-falls r n m h e =
     elim (decLe m r) [
       | yes a ↦ omega (arith, edge-low r m a, edge-low r n (omega arith))

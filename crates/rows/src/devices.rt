@@ -7,7 +7,7 @@ ghost use lib.ListN.{take};
 ghost use lib.Dec.{leb, ltb};
 ghost use Rattle.rows.specs.Lists.{upTo};
 ghost use Rattle.rows.specs.Channels.{foundAt};
-ghost use Rattle.rows.specs.Devices.{builtIn, sameName, sameBytes, muted, answers, deviceIn};
+ghost use Rattle.rows.specs.Devices.{builtIn, sameName, sameBytes, disabledBy, answers, deviceIn};
 ghost use Rattle.rows.specs.Tests.{letterRow, nameTest, defaultTest, zeroRow, restDevice, deviceRow, builtTest, deviceTest};
 use super::Device;
 use super::Place;
@@ -94,7 +94,7 @@ pub fn device_place(devices: [Device; 16], known: usize, name: [u8; 28], length:
 
 // Each device of this name is disabled.
 pub fn disable(devices: [Device; 16], name: [u8; 28], length: u8) -> [Device; 16]
-    ensures { λ r. ⌜ r ≡ map (muted name length) devices ⌝ }
+    ensures { λ r. ⌜ r ≡ map (disabledBy name length) devices ⌝ }
 {
     let mut rows = devices;
     let mut i: usize = 0;

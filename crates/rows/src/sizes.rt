@@ -1,7 +1,7 @@
 // The chain's length and the EXOS boundary, of a line of length `n`.
 ghost use mathlib.Core.Path.{_≡_};
 ghost use Prim.Native.Nat.{_≤_};
-ghost use Rattle.rows.specs.Sizes.{chainLength, edgeAt};
+ghost use Rattle.rows.specs.Sizes.{chainLength, boundaryAt};
 
 // How many segments the line takes.
 pub fn chain_length(room: u16, n: usize) -> usize
@@ -17,8 +17,8 @@ pub fn chain_length(room: u16, n: usize) -> usize
 }
 
 // Where the line ends in the chain's last segment.
-pub fn edge_at(room: u16, n: usize) -> u16
-    ensures { λ r. ⌜ r ≡ edgeAt room n ⌝ }
+pub fn boundary_at(room: u16, n: usize) -> u16
+    ensures { λ r. ⌜ r ≡ boundaryAt room n ⌝ }
 {
     let r = room as usize;
     if n <= r {

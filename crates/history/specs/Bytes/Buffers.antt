@@ -14,7 +14,7 @@ use Rattle.rows.specs.Lists.{at, without, and-left, where-found}
 use Rattle.rows.specs.Channels.{noChannel, sumOf}
 use Rattle.rows.specs.Rows.{from, from-low, from-high, without-at, sum-without, sum-more}
 use Rattle.rows.specs.declared.Channel.{Channel}
-use Rattle.line.specs.Line.{linkOf, placeOf, putLine, linked, Chain}
+use Rattle.line.specs.Line.{chainIndexOf, placeOf, putLine, linked, Chain}
 use Rattle.line.specs.Ram.{putAt}
 use Rattle.line.proofs.Walks.{put-elsewhere}
 use Rattle.line.proofs.Places.{place-apart}
@@ -115,7 +115,7 @@ module _ (t : Tables) (ram : List ℕ) (r : Ready t (length ram)) (f : ℕ → �
   inside : (i k : ℕ) → i < t .opened → k < sizeAt t i → bufferAt t i + k < totalOf t
   inside i k h l = omega (arith, record-within t i (r .good) h)
 
-  link-held : (p : ℕ) → p < totalOf t → linkOf (t .room) p < t .held
+  link-held : (p : ℕ) → p < totalOf t → chainIndexOf (t .room) p < t .held
   link-held p h = rw (r .good .line) (link-short (t .room) (totalOf t) p h)
 
   -- the row that a channel is found in has its number
@@ -219,7 +219,7 @@ module _ (t : Tables) (ram : List ℕ) (r : Ready t (length ram)) (f : ℕ → �
               let q : p ≡ totalOf t + m =
               place-apart (u .chain) (t .room) (totalOf t + 16 + d .n) (length ram) open-chain p (totalOf t + m) (omega arith) (omega arith) e in
               omega arith)
-              ∙ ap (λ (x : ℕ). getD ram x 0) (place-same (u .chain) (t .chain) (t .room) p (o .chain (linkOf (t .room) p) (link-held p within)))
+              ∙ ap (λ (x : ℕ). getD ram x 0) (place-same (u .chain) (t .chain) (t .room) p (o .chain (chainIndexOf (t .room) p) (link-held p within)))
               ∙ holds i h k size)
           | no h ↦
               let q : i ≡ t .opened = omega (arith, o .opened) in
@@ -242,9 +242,9 @@ module _ (t : Tables) (ram : List ℕ) (r : Ready t (length ram)) (f : ℕ → �
         let points = closed-points (t .chain) (t .room) ram (recordAt t j) gap (totalOf t) chained (record-within t j (r .good) have) in
         let p = bufferAt u i + k in
         let within : p < totalOf u = omega (arith, record-within u i (s .good) a) in
-        let link : linkOf (u .room) p < u .held = rw (s .good .line) (link-short (u .room) (totalOf u) p within) in
+        let link : chainIndexOf (u .room) p < u .held = rw (s .good .line) (link-short (u .room) (totalOf u) p within) in
         let place : placeOf (u .chain) (u .room) p ≡ placeOf (t .chain) (t .room) p =
-        place-same (u .chain) (t .chain) (u .room) p (o .chain (linkOf (u .room) p) link) ∙ ap (λ (x : ℕ). placeOf (t .chain) x p) (o .room) in
+        place-same (u .chain) (t .chain) (u .room) p (o .chain (chainIndexOf (u .room) p) link) ∙ ap (λ (x : ℕ). placeOf (t .chain) x p) (o .room) in
         elim (decLt i j) [
           | yes h ↦
               let same : getD (u .channels) i noChannel ≡ getD cs i noChannel = row ∙ ap (λ (x : ℕ). getD cs x noChannel) (from-low j i h) in
@@ -289,7 +289,7 @@ module _ (t : Tables) (ram : List ℕ) (r : Ready t (length ram)) (f : ℕ → �
       chain-shift (u .chain) (t .room) m (totalOf t) (length ram) le small (rw (total, o .room) at (good-chain u (length ram) (s .good) (s .size))) in
       rw (number, buffer, o .room)
       (linked-points (u .chain) (t .room) m ram (totalOf t) chain le .moved p within
-      ∙ ap (λ (x : ℕ). getD ram x 0) (place-same (u .chain) (t .chain) (t .room) p (o .chain (linkOf (t .room) p) (link-held p within)))
+      ∙ ap (λ (x : ℕ). getD ram x 0) (place-same (u .chain) (t .chain) (t .room) p (o .chain (chainIndexOf (t .room) p) (link-held p within)))
       ∙ holds i few k (omega arith))
 
   -- a store touches no buffer

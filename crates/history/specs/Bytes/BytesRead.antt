@@ -27,7 +27,7 @@ use Rattle.kernel.specs.Laws.Keeps.{start-passed, start-is}
 use Rattle.kernel.specs.Laws.Ready.{Ready, ready-heard}
 use Rattle.kernel.specs.declared.Tables.{Tables}
 use Rattle.kernel.specs.declared.Outcome.{Outcome}
-use Rattle.history.specs.Bytes.Runs.{State, History, after, event, Started, NoStart, Runs, stay, then, Run, written, lastWritten}
+use Rattle.history.specs.Bytes.Runs.{State, History, after, event, Started, NotAccepted, Runs, stay, then, Run, written, lastWritten}
 use Rattle.history.specs.Bytes.Done.{Done, resets, opens, closes, reads, writes, names, counts, links, tells, bounds, grants, shares, frees, stores, loads, heard-done}
 use Rattle.history.specs.Bytes.Changes.{opening-opens, closing-closes, linking-links}
 use Rattle.history.specs.Bytes.Buffers.{Holds, found, write-law, open-law, close-law, link-law, store-law, reset-law}
@@ -70,7 +70,7 @@ start-none s z =
     ap (λ (x : State). x .tables .opened) (z .left)
     ∙ ap (λ (o : Outcome). o .tables .opened) (start-is (b .tables) (length (b .ram)) (length (z .output)) (z .room) (z .list) passed)
 
-step-holds : (s : State) (c : Call) (output : List ℕ) (h : History) → Sound s → Fields c → NoStart (event s c output) → Holds (lastWritten h) (s .tables) (s .ram)
+step-holds : (s : State) (c : Call) (output : List ℕ) (h : History) → Sound s → Fields c → NotAccepted (event s c output) → Holds (lastWritten h) (s .tables) (s .ram)
     → Holds (lastWritten (event s c output ∷ h)) (after s c output .tables) (after s c output .ram)
 unfolding lastWritten
 step-holds s c output h r f n holds = go (stepped s c output r f n)

@@ -9,9 +9,9 @@ use borrow.Author.Tests.{eq-eqb, ne-eqb, ltb-true}
 use lib.Dec.{eqb, ltb}
 use lib.Seq.{getD-set-other}
 use Rattle.rows.specs.Lists.{at, and-left, and-right}
-use Rattle.rows.specs.Classes.{USER, SHARED, held?}
-use Rattle.rows.specs.Sizes.{chainLength, edgeAt, Ends, ends, length-high, length-some, edge-low}
-use Rattle.line.specs.Line.{linkOf, offsetOf, placeOf}
+use Rattle.rows.specs.Classes.{USER, SHARED, timesHeld}
+use Rattle.rows.specs.Sizes.{chainLength, boundaryAt, Ends, ends, length-high, length-some, edge-low}
+use Rattle.line.specs.Line.{chainIndexOf, offsetOf, placeOf}
 use Rattle.line.proofs.Places.{link-low, link-high, offset-low, offset-high, offset-lt}
 use Rattle.kernel.specs.Definition.Tables.{SEGMENT, classAt}
 use Rattle.kernel.specs.Definition.Line.{totalOf, oneMore, grown, oneLess, shrunk}
@@ -33,12 +33,12 @@ shrunk-chain zero t i h = refl
 shrunk-chain (suc k) t i h = shrunk-chain k (oneLess t) i (omega arith) ∙ getD-set-other (t .chain) (t .held - 1) i 0 0 (λ e. omega arith)
 
 -- a position lies at the same place of two chains that hold its segment alike
-pub place-same : (chain other : List ℕ) (room p : ℕ) → at chain (linkOf room p) ≡ at other (linkOf room p) → placeOf chain room p ≡ placeOf other room p
+pub place-same : (chain other : List ℕ) (room p : ℕ) → at chain (chainIndexOf room p) ≡ at other (chainIndexOf room p) → placeOf chain room p ≡ placeOf other room p
 unfolding placeOf
 place-same chain other room p e = rw e
 
 -- a line's position is in one of the segments that the line takes
-pub link-short : (room total p : ℕ) → p < total → linkOf room p < chainLength room total
+pub link-short : (room total p : ℕ) → p < total → chainIndexOf room p < chainLength room total
 link-short room total p h =
     elim (decLt p room) [
       | yes l ↦ omega (arith, link-low room p l, length-some room total)
@@ -46,7 +46,7 @@ link-short room total p h =
     ]
 
 -- and in the last of them no lower than the EXOS boundary
-edge-under : (room total p : ℕ) → p < total → linkOf room p + 1 ≡ chainLength room total → edgeAt room total ≤ offsetOf room p
+edge-under : (room total p : ℕ) → p < total → chainIndexOf room p + 1 ≡ chainLength room total → boundaryAt room total ≤ offsetOf room p
 edge-under room total p h e =
     elim (decLt p room) [
       | yes l ↦ elim (decLe total room) [
@@ -55,15 +55,15 @@ edge-under room total p h e =
       ]
       | no l ↦
           let g : room ≤ p = omega arith in
-          let x : Ends room total (chainLength room total - 1) (edgeAt room total) = ends room total (omega arith) in
+          let x : Ends room total (chainLength room total - 1) (boundaryAt room total) = ends room total (omega arith) in
           omega (arith, link-high room p g, offset-high room p g, x .sum)
     ]
 
-edge-small : (room total : ℕ) → room < 16384 → edgeAt room total < 16384
+edge-small : (room total : ℕ) → room < 16384 → boundaryAt room total < 16384
 edge-small room total h =
     elim (decLe total room) [
       | yes q ↦ omega (arith, edge-low room total q)
-      | no q ↦ let x : Ends room total (chainLength room total - 1) (edgeAt room total) = ends room total (omega arith) in x .top
+      | no q ↦ let x : Ends room total (chainLength room total - 1) (boundaryAt room total) = ends room total (omega arith) in x .top
     ]
 
 -- "the page zero segment and user segments up to 16,384, a shared one up to the user boundary": an offset of the segment in this row is the user's
@@ -97,7 +97,7 @@ module _ (t : Tables) (g : Good t) where
   small = omega (arith, g .room .most, g .room .top)
 
   -- a place of the chain's segment i that is in a row of another class than system and shared
-  held-not : (i row : ℕ) → i < t .held → at (t .chain) i ≡ row → held? (classAt t row) ≡ 0 → ⊥
+  held-not : (i row : ℕ) → i < t .held → at (t .chain) i ≡ row → timesHeld (classAt t row) ≡ 0 → ⊥
   held-not i row h e z = omega (arith, (rw e at (chain-exactly t g .only i h)))
 
   once : (i j : ℕ) → i < t .held → j < t .held → at (t .chain) i ≡ at (t .chain) j → i ≡ j
@@ -135,9 +135,9 @@ module _ (t : Tables) (g : Good t) where
   off-line row offset u p h e =
       let so = users-small row offset u in
       let sp = offset-lt (t .room) p (omega (arith, small)) in
-      let same : at (t .chain) (linkOf (t .room) p) ≡ row = omega arith in
-      let l : linkOf (t .room) p < t .held = rw (g .line) (link-short (t .room) (totalOf t) p h) in
-      let last = users-last row offset (linkOf (t .room) p) u l same in
+      let same : at (t .chain) (chainIndexOf (t .room) p) ≡ row = omega arith in
+      let l : chainIndexOf (t .room) p < t .held = rw (g .line) (link-short (t .room) (totalOf t) p h) in
+      let last = users-last row offset (chainIndexOf (t .room) p) u l same in
       omega (arith, edge-under (t .room) (totalOf t) p h (last .0 ∙ g .line), last .1, g .user .most)
 
   -- nor is one of segment 255 from R on

@@ -48,13 +48,13 @@ pub record Started (s : State) : Type 0 where
   pub left : s ≡ after before (start room list) output
 
 -- an event that is no accepted start
-abbrev pub NoStart : Event → Type 0
-NoStart e = isStart (e .call) && granted (e .answer) ≡ false
+abbrev pub NotAccepted : Event → Type 0
+NotAccepted e = isStart (e .call) && granted (e .answer) ≡ false
 
 -- From s the calls of a history, with no accepted start among them, lead to a state; and all states on the way, the first and the last among them, have P.
 pub data Runs (P : State → Type 0) (s : State) : History → State → Type 0 where
   stay : P s → Runs P s [] s
-  then : {h : History} {t : State} → Runs P s h t → (c : Call) (output : List ℕ) → Fields c → NoStart (event t c output) → P (after t c output)
+  then : {h : History} {t : State} → Runs P s h t → (c : Call) (output : List ℕ) → Fields c → NotAccepted (event t c output) → P (after t c output)
       → Runs P s (event t c output ∷ h) (after t c output)
 
 abbrev pub Any : State → Type 0

@@ -21,7 +21,7 @@ use Rattle.kernel.specs.Definition.Step.{segmentAt, ramAfter, completed, step}
 use Rattle.kernel.specs.Laws.Fields.{Fields}
 use Rattle.kernel.specs.Laws.Ready.{Ready, ready-heard, decided-ready, start-ready}
 use Rattle.kernel.specs.declared.Tables.{Tables}
-use Rattle.history.specs.Bytes.Runs.{State, after, event, Started, NoStart}
+use Rattle.history.specs.Bytes.Runs.{State, after, event, Started, NotAccepted}
 use Rattle.history.specs.Bytes.Done.{Done, resets, opens, closes, reads, writes, names, counts, links, tells, bounds, grants, shares, frees, stores, loads, heard-done}
 use Rattle.kernel.specs.Laws.Refused.{refused-stays}
 use Rattle.history.specs.Bytes.Places.{reach-small}
@@ -89,7 +89,7 @@ no-start : (a b : Bool) → a && b ≡ false → b ≡ true → a ≡ false
 no-start true b f e = absurd (false≢true (sym f ∙ e))
 no-start false b f e = refl
 
-pub stepped : (s : State) (c : Call) (output : List ℕ) → Sound s → Fields c → NoStart (event s c output) → Stepped s c output
+pub stepped : (s : State) (c : Call) (output : List ℕ) → Sound s → Fields c → NotAccepted (event s c output) → Stepped s c output
 unfolding step completed
 stepped s c output r f n = go (granted (event s c output .answer)) refl
   where
@@ -105,7 +105,7 @@ stepped s c output r f n = go (granted (event s c output .answer)) refl
         (rw e)
 
 -- "each made on the tables and RAM the last one left": they stay good, and of one size
-pub step-sound : (s : State) (c : Call) (output : List ℕ) → Sound s → Fields c → NoStart (event s c output) → Sound (after s c output)
+pub step-sound : (s : State) (c : Call) (output : List ℕ) → Sound s → Fields c → NotAccepted (event s c output) → Sound (after s c output)
 step-sound s c output r f n = go (stepped s c output r f n)
   where
     go : Stepped s c output → Sound (after s c output)

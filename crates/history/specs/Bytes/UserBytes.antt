@@ -15,7 +15,7 @@ use Rattle.kernel.specs.Definition.Step.{segmentAt, outputAfter, completed, ste
 use Rattle.kernel.specs.Laws.Fields.{Fields}
 use Rattle.kernel.specs.Laws.Ready.{Ready, ready-heard}
 use Rattle.kernel.specs.declared.Tables.{Tables}
-use Rattle.history.specs.Bytes.Runs.{State, History, after, event, NoStart, Runs, stay, then, Run, stored, lastStored}
+use Rattle.history.specs.Bytes.Runs.{State, History, after, event, NotAccepted, Runs, stay, then, Run, stored, lastStored}
 use Rattle.history.specs.Bytes.Done.{Done, loads, heard-done}
 use Rattle.history.specs.Bytes.Places.{Users, reach-users}
 use Rattle.history.specs.Bytes.Changes.{done-listed}
@@ -31,7 +31,7 @@ abbrev pub userByte : State → (segment offset : ℕ) → ℕ
 userByte s segment offset = getD (s .ram) (segmentAt (rowOf (s .tables) segment) + offset) 0
 
 module _ (segment offset : ℕ) where
-  step-user : (s : State) (c : Call) (output : List ℕ) (h : History) (first : ℕ) → Sound s → Fields c → NoStart (event s c output)
+  step-user : (s : State) (c : Call) (output : List ℕ) (h : History) (first : ℕ) → Sound s → Fields c → NotAccepted (event s c output)
       → UsersIn segment offset s → UsersIn segment offset (after s c output) → userByte s segment offset ≡ lastStored h segment offset first
       → userByte (after s c output) segment offset ≡ lastStored (event s c output ∷ h) segment offset first
   unfolding lastStored

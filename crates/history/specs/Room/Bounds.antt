@@ -5,7 +5,7 @@ use Prim.Native.Nat.{ℕ, _+_, _-_, _*_, _≤_}
 use native.Mathlib.Decide.{decLe}
 use native.Mathlib.Omega.{arith}
 use Rattle.rows.specs.Classes.{SHARED}
-use Rattle.rows.specs.Sizes.{chainLength, edgeAt, length-low, edge-low, ends, Ends}
+use Rattle.rows.specs.Sizes.{chainLength, boundaryAt, length-low, edge-low, ends, Ends}
 use Rattle.kernel.specs.Definition.Tables.{classAt}
 use Rattle.kernel.specs.Definition.Line.{totalOf}
 use Rattle.kernel.specs.Definition.Good.{Good}
@@ -14,13 +14,13 @@ use Rattle.kernel.specs.declared.Tables.{Tables}
 use Rattle.history.specs.Room.Places.{held}
 
 -- the EXOS boundary is what a line of length n leaves of its chain
-pub line-sum : (r n : ℕ) → edgeAt r n + n ≡ r + 16384 * (chainLength r n - 1)
+pub line-sum : (r n : ℕ) → boundaryAt r n + n ≡ r + 16384 * (chainLength r n - 1)
 line-sum r n = elim (decLe n r) [
   | yes h ↦ omega (arith, length-low r n h, edge-low r n h)
   | no h ↦ ends r n (omega arith) .sum
 ]
 
-pub edge-small : (r n : ℕ) → r ≤ 16384 → edgeAt r n ≤ 16384
+pub edge-small : (r n : ℕ) → r ≤ 16384 → boundaryAt r n ≤ 16384
 edge-small r n h = elim (decLe n r) [
   | yes g ↦ omega (arith, edge-low r n g)
   | no g ↦ let e : Ends r n _ _ = ends r n (omega arith) in omega (arith, e .top)

@@ -11,7 +11,7 @@ use lib.Dec.{eqb}
 use lib.ListN.{length, take, length-take}
 use lib.Seq.{getD-take}
 use Rattle.rows.specs.Lists.{at, tally}
-use Rattle.rows.specs.Classes.{FREE, SHARED, inChain, held?}
+use Rattle.rows.specs.Classes.{FREE, SHARED, inChain, timesHeld}
 use Rattle.rows.specs.Channels.{sumOf}
 use Rattle.rows.specs.Count.{one, sumTo, sum-same, sum-plus, sum-tally, sum-zero, tally-sum}
 use Rattle.rows.specs.declared.Channel.{Channel}
@@ -194,7 +194,7 @@ held-size t g =
     let l : length c ≡ t .held = omega (arith, length-take (t .held) (t .chain), g .sized .chain, g .chain .most) in
     let all : sumTo (t .segments) (λ row. tally row c) ≡ length c =
     sum-tally (t .segments) c (λ i h. rw (getD-take (t .held) (t .chain) i 0 (omega arith)) (g .chain .rows i (omega arith))) in
-    sym (sum-same (t .segments) (λ row. tally row c) (λ row. held? (classAt t row)) (g .chain .exact)) ∙ all ∙ l
+    sym (sum-same (t .segments) (λ row. tally row c) (λ row. timesHeld (classAt t row)) (g .chain .exact)) ∙ all ∙ l
 
 -- with a segment shared it may take no further one
 pub offered-shared : (t : Tables) → Good t → sharing t ≡ true → size (t .segments) (offered t) ≡ t .held
@@ -208,12 +208,12 @@ offered-shared t g s =
 -- with none shared it may take the free ones
 pub offered-apart : (t : Tables) → Good t → sharing t ≡ false → size (t .segments) (offered t) ≡ t .held + countOf FREE t
 offered-apart t g s =
-    let a = sum-same (t .segments) (λ row. cond (offered t row) 1 0) (λ row. held? (classAt t row) + one FREE (classAt t row)) (λ row h. rw s (go (classAt t row))) in
-    let b = sum-plus (t .segments) (λ row. held? (classAt t row)) (λ row. one FREE (classAt t row)) in
+    let a = sum-same (t .segments) (λ row. cond (offered t row) 1 0) (λ row. timesHeld (classAt t row) + one FREE (classAt t row)) (λ row h. rw s (go (classAt t row))) in
+    let b = sum-plus (t .segments) (λ row. timesHeld (classAt t row)) (λ row. one FREE (classAt t row)) in
     let c = tally-sum FREE (t .segments) (t .classes) (omega (arith, g .sized .classes, g .list .most)) in
     omega (arith, held-size t g)
   where
-    go : (c : ℕ) → cond {A = ℕ} (inChain c || eqb c FREE) 1 0 ≡ held? c + one FREE c
+    go : (c : ℕ) → cond {A = ℕ} (inChain c || eqb c FREE) 1 0 ≡ timesHeld c + one FREE c
     go c = elim (ℕ-discrete c FREE) [
       | yes q ↦ rw q
       | no q ↦ rw (ne-eqb c FREE q) (by (inChain c))

@@ -10,7 +10,7 @@ use lib.Dec.{eqb, leb}
 use lib.ListN.{length}
 use Rattle.rows.specs.Lists.{at, and-left, and-right}
 use Rattle.rows.specs.Classes.{FREE, SHARED}
-use Rattle.rows.specs.Sizes.{chainLength, edgeAt, chain-most}
+use Rattle.rows.specs.Sizes.{chainLength, boundaryAt, chain-most}
 use Rattle.kernel.specs.Definition.Tables.{classAt, countOf, sharing}
 use Rattle.kernel.specs.Definition.Line.{roomFor}
 use Rattle.kernel.specs.Definition.Good.{Good}
@@ -31,13 +31,13 @@ unfolding roomFor
 rule-shared t r n some s h =
     let l = line-sum r n in (
       λ e.
-          let f : eqb (chainLength r n) (t .held) && leb (t .user) (edgeAt r n) ≡ true = rw s at e in
+          let f : eqb (chainLength r n) (t .held) && leb (t .user) (boundaryAt r n) ≡ true = rw s at e in
           let q : chainLength r n ≡ t .held = eqb-true _ _ (and-left _ _ f) in
-          let u : t .user ≤ edgeAt r n = leb-true _ _ (and-right (eqb (chainLength r n) (t .held)) _ f) in
+          let u : t .user ≤ boundaryAt r n = leb-true _ _ (and-right (eqb (chainLength r n) (t .held)) _ f) in
           omega arith,
       λ e.
           let q : chainLength r n ≡ t .held = omega (arith, chain-most r n (t .held - 1) (omega arith)) in
-          rw (s, eq-eqb _ _ q, le-leb (t .user) (edgeAt r n) (omega arith)),
+          rw (s, eq-eqb _ _ q, le-leb (t .user) (boundaryAt r n) (omega arith)),
     )
 
 -- with none shared

@@ -6,7 +6,7 @@ use lib.ListN.{getD, take, set}
 use Rattle.rows.specs.Lists.{lastOf, without}
 use Rattle.rows.specs.Classes.{FREE, USER, SYSTEM, SHARED}
 use Rattle.rows.specs.Channels.{noChannel, sumOf}
-use Rattle.rows.specs.Sizes.{chainLength, edgeAt}
+use Rattle.rows.specs.Sizes.{chainLength, boundaryAt}
 use Rattle.rows.specs.declared.Channel.{Channel}
 use Rattle.kernel.specs.Definition.Tables.{SEGMENT, classAt, countOf, sharing, lastRow, withSegments, withChannels}
 use Rattle.kernel.specs.declared.Tables.{Tables}
@@ -28,7 +28,7 @@ bufferAt t i = recordAt t i + 16
 
 -- the EXOS boundary
 abbrev pub boundaryOf : Tables → ℕ
-boundaryOf t = edgeAt (t .room) (totalOf t)
+boundaryOf t = boundaryAt (t .room) (totalOf t)
 
 -- "A new system segment is the highest numbered free one"
 unfoldable pub oneMore : Tables → Tables
@@ -58,7 +58,7 @@ shrunk (suc k) t = shrunk k (oneLess t)
 unfoldable pub roomFor : Tables → (r n : ℕ) → Bool
 roomFor t r n =
     cond (sharing t)
-    (eqb (chainLength r n) (t .held) && leb (t .user) (edgeAt r n))
+    (eqb (chainLength r n) (t .held) && leb (t .user) (boundaryAt r n))
     (leb n (r + SEGMENT * (t .held - 1 + countOf FREE t)))
 
 -- "Open appends a record"

@@ -12,7 +12,7 @@ use Rattle.rows.specs.Lists.{padded}
 use Rattle.rows.specs.Classes.{FREE, USER, DEVICE, SHARED}
 use Rattle.rows.specs.Channels.{noChannel}
 use Rattle.rows.specs.Devices.{noDevice}
-use Rattle.rows.specs.Sizes.{chainLength, edgeAt}
+use Rattle.rows.specs.Sizes.{chainLength, boundaryAt}
 use Rattle.rows.specs.Good.{ListGood, Same}
 use Rattle.kernel.specs.Definition.Tables.{SEGMENT, ramSize, numberAt, classAt, countOf}
 use Rattle.kernel.specs.Definition.Good.{Good}
@@ -51,7 +51,7 @@ pub record Enabled (t : Tables) (w : Wanted) (i : ℕ) : Type 0 where
 pub record Room (t : Tables) (r n : ℕ) : Type 0 where
   pub apart : (Some t SHARED → ⊥) → n ≤ r + SEGMENT * (t .held - 1 + countOf FREE t)
   pub stays : Some t SHARED → chainLength r n ≡ t .held
-  pub above : Some t SHARED → t .user ≤ edgeAt r n
+  pub above : Some t SHARED → t .user ≤ boundaryAt r n
 
 -- "the user gives back user .. or shared ..; a device gives back device"
 pub data Gives : (caller class : ℕ) → Type 0 where

@@ -3,7 +3,7 @@ use mathlib.Core.Path.{_≡_}
 use Prim.Native.Nat.{ℕ, _-_, _≤_, _<_}
 use native.Mathlib.Omega.{arith}
 use Rattle.rows.specs.Lists.{at}
-use Rattle.rows.specs.Classes.{SHARED, held?}
+use Rattle.rows.specs.Classes.{SHARED, timesHeld}
 use Rattle.rows.specs.Sizes.{chainLength, length-mono}
 use Rattle.rows.specs.Exact as exact
 use Rattle.rows.specs.Exact.{Exactly, exactly}
@@ -21,7 +21,7 @@ pub one-shared : (t : Tables) → Good t → (i j : ℕ) → i < t .segments →
 one-shared t g = exact.one-shared (t .segments) (t .classes) (t .chain) (t .held) (g .chain)
 
 -- "255 is system or shared"
-pub top-held : (t : Tables) → Good t → 1 ≤ held? (classAt t (t .segments - 1))
+pub top-held : (t : Tables) → Good t → 1 ≤ timesHeld (classAt t (t .segments - 1))
 top-held t g = exact.top-held (t .segments) (t .classes) (t .chain) (t .held) (g .sized .chain) (g .chain)
 
 -- an open never shortens the line and a link never raises R: the new line takes no fewer segments than the chain has

@@ -7,7 +7,7 @@ use lib.Dec.{eqb}
 use lib.ListN.{take}
 use Rattle.rows.specs.Lists.{at}
 use Rattle.rows.specs.Channels.{sumOf}
-use Rattle.rows.specs.Sizes.{chainLength, edgeAt}
+use Rattle.rows.specs.Sizes.{chainLength, boundaryAt}
 use Rattle.rows.specs.Tests.{listTest, classTest, chainTest, roomTest, channelTest, userTest, deviceTest, defaultTest}
 use Rattle.rows.specs.Join.{Says, says-le, says-eq, says-and, says-then, says-as, list-says, class-says, room-says, chain-says, channel-says, user-says, device-says, default-says}
 use Rattle.kernel.specs.Definition.Tables.{lastRow}
@@ -79,7 +79,7 @@ module _ (t : Tables) (segments held opened known : ℕ) (es : segments ≡ t .s
   good-sizes q = sizes-says segments held opened .yes (sym pz ∙ q)
 
   pub good-made : sizes ≡ true → (total last class edge long : ℕ) (list classes room chain channels user devices default : Bool)
-      → total ≡ sumOf (take opened (t .channels)) → last ≡ at (t .chain) (held - 1) → class ≡ at (t .classes) last → edge ≡ edgeAt (t .room) total
+      → total ≡ sumOf (take opened (t .channels)) → last ≡ at (t .chain) (held - 1) → class ≡ at (t .classes) last → edge ≡ boundaryAt (t .room) total
       → list ≡ listTest (t .list) segments → classes ≡ classTest (t .classes) segments → room ≡ roomTest (t .room) (t .cold)
       → chain ≡ chainTest (t .classes) (t .chain) held segments → channels ≡ channelTest (t .channels) opened known
       → long ≡ chainLength (t .room) total → user ≡ userTest class (t .user) edge → devices ≡ deviceTest (t .devices) known

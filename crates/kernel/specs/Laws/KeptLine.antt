@@ -10,7 +10,7 @@ use lib.Seq.{getD-take}
 use Rattle.rows.specs.Lists.{firstOf, without, and-left, and-right}
 use Rattle.rows.specs.Classes.{FREE, SHARED}
 use Rattle.rows.specs.Channels.{noChannel, sumOf}
-use Rattle.rows.specs.Sizes.{chainLength, edgeAt, length-mono, edge-falls, chain-most}
+use Rattle.rows.specs.Sizes.{chainLength, boundaryAt, length-mono, edge-falls, chain-most}
 use Rattle.rows.specs.Count.{first-found, first-none}
 use Rattle.rows.specs.Rows.{sum-without, sum-set, channels-less, channels-more, length-without}
 use Rattle.rows.specs.declared.Channel.{Channel}
@@ -42,10 +42,10 @@ shares-no t b f e =
     first-none SHARED cs (omega arith) (lastRow t) (omega arith) (getD-take (t .segments) (t .classes) (lastRow t) 0 r ∙ e)
 
 -- the room rule, read: with a segment shared, and with none
-room-shared : (t : Tables) (r n : ℕ) → sharing t ≡ true → roomFor t r n ≡ true → (chainLength r n ≡ t .held) × (t .user ≤ edgeAt r n)
+room-shared : (t : Tables) (r n : ℕ) → sharing t ≡ true → roomFor t r n ≡ true → (chainLength r n ≡ t .held) × (t .user ≤ boundaryAt r n)
 unfolding roomFor
 room-shared t r n s e =
-    let f : eqb (chainLength r n) (t .held) && leb (t .user) (edgeAt r n) ≡ true = rw s at e in
+    let f : eqb (chainLength r n) (t .held) && leb (t .user) (boundaryAt r n) ≡ true = rw s at e in
     (eqb-true _ _ (and-left _ _ f), leb-true _ _ (and-right (eqb (chainLength r n) (t .held)) _ f))
 
 room-apart : (t : Tables) (r n : ℕ) → sharing t ≡ false → roomFor t r n ≡ true → n ≤ r + SEGMENT * (t .held - 1 + countOf FREE t)

@@ -7,7 +7,7 @@ use borrow.Author.Tests.{eq-eqb, ne-eqb}
 use lib.ListN.{take, set, length-set, length-take}
 use lib.Seq.{getD-set-same, getD-set-other, getD-take}
 use Rattle.rows.specs.Lists.{at}
-use Rattle.rows.specs.Classes.{FREE, SYSTEM, SHARED, held?}
+use Rattle.rows.specs.Classes.{FREE, SYSTEM, SHARED, timesHeld}
 use Rattle.rows.specs.Count.{tally-some, first-found}
 use Rattle.rows.specs.Segs.{held-yes, classes-set, exact-set}
 use Rattle.kernel.specs.Definition.Tables.{classAt, lowestFree, lastRow, withSegments}
@@ -22,7 +22,7 @@ module _ (t : Tables) (b : Body t) where
   last-known : lastRow t < t .segments
   last-known = b .chain .rows (t .held - 1) (omega (arith, b .chain .holds))
 
-  last-held : 1 ≤ held? (classAt t (lastRow t))
+  last-held : 1 ≤ timesHeld (classAt t (lastRow t))
   last-held =
       let holds = b .chain .holds in
       let most = b .chain .most in
@@ -45,7 +45,7 @@ module _ (t : Tables) (b : Body t) where
   row-some row h = elim (decLe 1 row) [ yes q ↦ q | no q ↦ let z : row ≡ 0 = omega arith in absurd (omega (arith, b .classes .page, (rw z at h))) ]
 
   -- a class stored that the chain holds as it held the old one, the user boundary with it
-  body-class : (row v user : ℕ) → 1 ≤ row → row < t .segments → FREE ≤ v → v ≤ SHARED → held? v ≡ held? (classAt t row)
+  body-class : (row v user : ℕ) → 1 ≤ row → row < t .segments → FREE ≤ v → v ≤ SHARED → timesHeld v ≡ timesHeld (classAt t row)
       → ((r : ℕ) → r < t .segments → at (set (t .classes) row v) r ≡ SHARED → lastRow t ≡ r)
       → ((at (set (t .classes) row v) (lastRow t) ≡ SHARED → ⊥) → user ≡ 0)
       → Body (withSegments t (set (t .classes) row v) (t .held) (t .chain) user)
@@ -65,7 +65,7 @@ module _ (t : Tables) (b : Body t) where
       none b
 
   -- a class outside the chain for another: free, user, device
-  body-outside : (row v : ℕ) → row < t .segments → 1 ≤ classAt t row → held? (classAt t row) ≡ 0 → FREE ≤ v → v ≤ SHARED → held? v ≡ 0
+  body-outside : (row v : ℕ) → row < t .segments → 1 ≤ classAt t row → timesHeld (classAt t row) ≡ 0 → FREE ≤ v → v ≤ SHARED → timesHeld v ≡ 0
       → Body (withSegments t (set (t .classes) row v) (t .held) (t .chain) (t .user))
   body-outside row v h s z x y w =
       let cs = t .classes in
@@ -84,7 +84,7 @@ module _ (t : Tables) (b : Body t) where
 pub record Outside (class : ℕ) : Type 0 where
   pub some : FREE ≤ class
   pub most : class ≤ SHARED
-  pub out : held? class ≡ 0
+  pub out : timesHeld class ≡ 0
 
 pub class-outside : (caller : ℕ) → Outside (classFor caller)
 class-outside caller =

@@ -6,7 +6,7 @@ use native.Mathlib.Decide.{ℕ-discrete}
 use native.Mathlib.Omega.{arith}
 use borrow.Author.Tests.{eq-eqb, ne-eqb}
 use lib.ListN.{set, length-set}
-use Rattle.rows.specs.Classes.{FREE, USER, SYSTEM, SHARED, held?}
+use Rattle.rows.specs.Classes.{FREE, USER, SYSTEM, SHARED, timesHeld}
 use Rattle.rows.specs.Sizes.{chainLength, length-some}
 use Rattle.rows.specs.Segs.{less-classes, less-chain}
 use Rattle.kernel.specs.Definition.Tables.{classAt, lastRow, withSegments}
@@ -26,7 +26,7 @@ less-by t b h v user p q z =
     let n = t .segments in
     let cs = t .classes in
     let hb : t .held ≤ 32 = omega (arith, body-counted t b, b .list .most) in
-    let out : held? v ≡ 0 = rw (ne-eqb v SYSTEM (λ e. omega arith), ne-eqb v SHARED (λ e. omega arith)) in
+    let out : timesHeld v ≡ 0 = rw (ne-eqb v SYSTEM (λ e. omega arith), ne-eqb v SHARED (λ e. omega arith)) in
     record {
       body = body-segments t (set cs (lastRow t) v) (t .held - 1) (set (t .chain) (t .held - 1) 0) user (length-set cs (lastRow t) v ∙ b .sized .classes)
           (length-set (t .chain) (t .held - 1) 0 ∙ b .sized .chain)

@@ -10,11 +10,11 @@ wide-requires c κs = search needs
 total-requires : tie.Need-total-requires
 total-requires c κs = search needs
 
-edge-at-requires : tie.Need-edge-at-requires
-edge-at-requires c κs = search needs
+boundary-at-requires : tie.Need-boundary-at-requires
+boundary-at-requires c κs = search needs
 
 returns : tie.Need-returns
-returns c = edge-of (c .before .before .before .before .args .self) _ _ _ (c .before .before .wide .ensures .0) (c .before .total .ensures .0) (c .edge-at .ensures)
+returns c = edge-of (c .before .before .before .before .args .self) _ _ _ (c .before .before .wide .ensures .0) (c .before .total .ensures .0) (c .boundary-at .ensures)
 
 pub exos-boundary-spec : {M : Type 1} → statement M
-exos-boundary-spec = tie.close (tie.spec wide-requires total-requires edge-at-requires returns)
+exos-boundary-spec = tie.close (tie.spec wide-requires total-requires boundary-at-requires returns)

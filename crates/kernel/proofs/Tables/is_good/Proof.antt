@@ -39,8 +39,8 @@ wide-requires-5 c κs = search needs
 class-at-requires : tie.Need-class-at-requires
 class-at-requires c κs = search needs
 
-edge-at-requires : tie.Need-edge-at-requires
-edge-at-requires c κs = search needs
+boundary-at-requires : tie.Need-boundary-at-requires
+boundary-at-requires c κs = search needs
 
 list-test-requires : tie.Need-list-test-requires
 list-test-requires c κs = search needs
@@ -70,7 +70,7 @@ default-test-requires : tie.Need-default-test-requires
 default-test-requires c κs = search needs
 
 returns-2 : tie.Need-returns-2
-returns-2 c = good-made (c .before .before .before .before .before .before .before .before .before .before .before .before .before .before .before .before .before .before .before .before .before .before .before .before .before .args .self) _ _ _ _ (c .before .before .before .before .before .before .before .before .before .before .before .before .before .before .before .before .before .before .before .before .before .before .before .before .wide .ensures .0) (c .before .before .before .before .before .before .before .before .before .before .before .before .before .before .before .before .before .before .before .before .before .before .before .wide2 .ensures .0) (c .before .before .before .before .before .before .before .before .before .before .before .before .before .before .before .before .before .before .before .before .before .before .wide3 .ensures .0) (c .before .before .before .before .before .before .before .before .before .before .before .before .before .before .before .before .before .before .before .before .before .wide4 .ensures .0) _ (c .before .before .before .before .before .before .before .before .before .before .before .before .before .before .before .before .before .before .before .before .sizes-test .ensures) (not-false _ (c .before .before .before .before .before .before .before .before .before .before .before .before .before .before .before .before .before .before .before .if1 .left)) _ _ _ _ _ _ _ _ _ _ _ _ _ (c .before .before .before .before .before .before .before .before .before .before .before .before .total .ensures .0) (c .before .before .before .before .before .before .before .before .before .before .before .wide5 .ensures .0) (c .before .before .before .before .before .before .before .before .before .before .class-at .ensures) (c .before .before .before .before .before .before .before .before .before .edge-at .ensures) (c .before .before .before .before .before .before .before .before .list-test .ensures) (c .before .before .before .before .before .before .before .class-test .ensures) (c .before .before .before .before .before .before .room-test .ensures) (c .before .before .before .before .before .chain-test .ensures) (c .before .before .before .before .channel-test .ensures) (c .before .before .before .chain-length .ensures) (c .before .before .user-test .ensures) (c .before .device-test .ensures) (c .default-test .ensures)
+returns-2 c = good-made (c .before .before .before .before .before .before .before .before .before .before .before .before .before .before .before .before .before .before .before .before .before .before .before .before .before .args .self) _ _ _ _ (c .before .before .before .before .before .before .before .before .before .before .before .before .before .before .before .before .before .before .before .before .before .before .before .before .wide .ensures .0) (c .before .before .before .before .before .before .before .before .before .before .before .before .before .before .before .before .before .before .before .before .before .before .before .wide2 .ensures .0) (c .before .before .before .before .before .before .before .before .before .before .before .before .before .before .before .before .before .before .before .before .before .before .wide3 .ensures .0) (c .before .before .before .before .before .before .before .before .before .before .before .before .before .before .before .before .before .before .before .before .before .wide4 .ensures .0) _ (c .before .before .before .before .before .before .before .before .before .before .before .before .before .before .before .before .before .before .before .before .sizes-test .ensures) (not-false _ (c .before .before .before .before .before .before .before .before .before .before .before .before .before .before .before .before .before .before .before .if1 .left)) _ _ _ _ _ _ _ _ _ _ _ _ _ (c .before .before .before .before .before .before .before .before .before .before .before .before .total .ensures .0) (c .before .before .before .before .before .before .before .before .before .before .before .wide5 .ensures .0) (c .before .before .before .before .before .before .before .before .before .before .class-at .ensures) (c .before .before .before .before .before .before .before .before .before .boundary-at .ensures) (c .before .before .before .before .before .before .before .before .list-test .ensures) (c .before .before .before .before .before .before .before .class-test .ensures) (c .before .before .before .before .before .before .room-test .ensures) (c .before .before .before .before .before .chain-test .ensures) (c .before .before .before .before .channel-test .ensures) (c .before .before .before .chain-length .ensures) (c .before .before .user-test .ensures) (c .before .device-test .ensures) (c .default-test .ensures)
 
 pub is-good-spec : {M : Type 1} → statement M
 is-good-spec =
@@ -87,7 +87,7 @@ is-good-spec =
     array-read-wide
     wide-requires-5
     class-at-requires
-    edge-at-requires
+    boundary-at-requires
     list-test-requires
     class-test-requires
     room-test-requires

@@ -13,8 +13,8 @@ wide-requires-2 c κs = search needs
 chain-length-requires : tie.Need-chain-length-requires
 chain-length-requires c κs = search needs
 
-edge-at-requires : tie.Need-edge-at-requires
-edge-at-requires c κs = search needs
+boundary-at-requires : tie.Need-boundary-at-requires
+boundary-at-requires c κs = search needs
 
 wide16-requires : tie.Need-wide16-requires
 wide16-requires c κs = search needs
@@ -38,7 +38,7 @@ first-of-requires : tie.Need-first-of-requires
 first-of-requires c κs = search needs
 
 returns : tie.Need-returns
-returns c = room-shared (c .before .before .before .before .before .before .before .before .before .before .args .self) _ _ _ _ _ (c .before .before .before .before .before .before .before .before .wide .ensures .0) (c .before .before .before .before .before .before .before .wide2 .ensures .0) (c .before .first-of .ensures) _ _ (c .if1 .taken) (c .before .before .before .before .before .before .chain-length .ensures) (c .before .before .before .before .before .edge-at .ensures)
+returns c = room-shared (c .before .before .before .before .before .before .before .before .before .before .args .self) _ _ _ _ _ (c .before .before .before .before .before .before .before .before .wide .ensures .0) (c .before .before .before .before .before .before .before .wide2 .ensures .0) (c .before .first-of .ensures) _ _ (c .if1 .taken) (c .before .before .before .before .before .before .chain-length .ensures) (c .before .before .before .before .before .boundary-at .ensures)
 
 returns-2 : tie.Need-returns-2
 returns-2 c = room-apart (c .before .before .before .before .before .before .before .before .before .before .args .self) _ _ _ _ _ (c .before .before .before .before .before .before .before .before .wide .ensures .0) (c .before .before .before .before .before .before .before .wide2 .ensures .0) (c .before .first-of .ensures) _ _ (c .if1 .left) (c .before .before .before .wide16 .ensures .0) (c .before .before .count-of .ensures .0)
@@ -50,7 +50,7 @@ room-for-spec =
     wide-requires
     wide-requires-2
     chain-length-requires
-    edge-at-requires
+    boundary-at-requires
     wide16-requires
     sub-most
     count-of-requires

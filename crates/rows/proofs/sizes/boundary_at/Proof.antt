@@ -1,9 +1,9 @@
--- `sizes::edge_at` meets its contract. Assumes nothing.
+-- `sizes::boundary_at` meets its contract. Assumes nothing.
 use borrow.Author.Needs.{needs}
 use mathlib.Core.Path.{sym}
 use Rattle.rows.specs.Sizes.{edge-high, edge-low}
-use Rattle.rows.proofs.sizes.edge_at.Statement.{statement}
-use Rattle.rows.proofs.sizes.edge_at.Tie as tie
+use Rattle.rows.proofs.sizes.boundary_at.Statement.{statement}
+use Rattle.rows.proofs.sizes.boundary_at.Tie as tie
 
 cast-result : tie.Need-cast-result
 cast-result c = search needs
@@ -26,7 +26,7 @@ returns c = sym (edge-low _ _ (c .if1 .taken))
 returns-2 : tie.Need-returns-2
 returns-2 c = sym (edge-high _ _ (c .if1 .left))
 
-pub edge-at-spec : {M : Type 1} → statement M
-edge-at-spec =
+pub boundary-at-spec : {M : Type 1} → statement M
+boundary-at-spec =
     tie.close
     (tie.spec cast-result sub-result sub-result-2 sub-result-3 cast-result-2 returns returns-2)
