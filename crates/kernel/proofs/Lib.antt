@@ -7,6 +7,7 @@ pub mod SegmentCalls
 pub mod GrowCalls
 pub mod OpenCalls
 pub mod LinkCalls
+pub mod NoChange
 pub mod Shrinking
 pub mod Closing
 pub mod Resetting

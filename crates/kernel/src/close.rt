@@ -36,6 +36,10 @@ impl Tables {
         let mut next = self;
         next.opened = opened;
         next.channels = channels;
+        // most often the chain stays: the tables are not copied for a call
+        if gone == 0 {
+            return next;
+        }
         next.shrink(gone)
     }
 

@@ -49,6 +49,10 @@ impl Tables {
         next.room = room;
         next.known = self.known + 1;
         next.devices = rows;
+        // most often the chain stays: the tables are not copied for a call
+        if more == 0 {
+            return next;
+        }
         next.grow(more)
     }
 

@@ -99,6 +99,10 @@ impl Tables {
         let mut next = self;
         next.opened = self.opened + 1;
         next.channels[opened] = c;
+        // most often the chain stays: the tables are not copied for a call
+        if more == 0 {
+            return next;
+        }
         next.grow(more)
     }
 

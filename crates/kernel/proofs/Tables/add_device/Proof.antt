@@ -1,5 +1,6 @@
 -- `Tables::add_device` meets its contract. Assumes nothing.
 use borrow.Author.Needs.{needs}
+use Rattle.kernel.proofs.NoChange.{grown-none}
 use Rattle.kernel.proofs.LinkCalls.{device-held, device-made}
 use Rattle.kernel.proofs.Tables.add_device.Statement.{statement}
 use Rattle.kernel.proofs.Tables.add_device.Tie as tie
@@ -43,11 +44,14 @@ array-set-from-rows c = search needs
 add-next : tie.Need-add-next
 add-next c = search needs
 
-grow-requires : tie.Need-grow-requires
-grow-requires c κs = device-held (c .before .before .before .before .before .before .before .before .before .before .before .before .before .args .self) (c .before .before .before .before .before .before .before .before .before .before .before .before .before .args .m) _ _ _ _ _ _ (c .before .before .before .before .before .before .before .before .before .before .wide .ensures .0) (c .before .before .before .before .before .before .before .before .before .total .ensures .0) (c .before .before .before .before .before .before .before .chain-length .ensures) (c .before .before .before .before .before .before .wide2 .ensures .0) (c .before .before .before .before .before .less .ensures) (c .before .before .before .before .before .before .before .before .before .before .before .before .before .pre .0) (c .before .before .before .before .before .before .before .before .before .before .before .before .before .pre .1)
-
 returns : tie.Need-returns
-returns c = device-made (c .before .before .before .before .before .before .before .before .before .before .before .before .before .before .args .self) (c .before .before .before .before .before .before .before .before .before .before .before .before .before .before .args .m) _ _ _ _ _ _ (c .before .before .before .before .before .before .before .before .before .before .before .wide .ensures .0) (c .before .before .before .before .before .before .before .before .before .before .total .ensures .0) (c .before .before .before .before .before .before .before .before .chain-length .ensures) (c .before .before .before .before .before .before .before .wide2 .ensures .0) (c .before .before .before .before .before .before .less .ensures) _ _ _ _ (c .before .before .before .before .before .word .ensures) (c .before .before .before .disable .ensures) (c .before .before .wide3 .ensures .0) (c .grow .ensures)
+returns c = device-made (c .before .before .before .before .before .before .before .before .before .before .before .before .before .before .args .self) (c .before .before .before .before .before .before .before .before .before .before .before .before .before .before .args .m) _ _ _ _ _ _ (c .before .before .before .before .before .before .before .before .before .before .before .wide .ensures .0) (c .before .before .before .before .before .before .before .before .before .before .total .ensures .0) (c .before .before .before .before .before .before .before .before .chain-length .ensures) (c .before .before .before .before .before .before .before .wide2 .ensures .0) (c .before .before .before .before .before .before .less .ensures) _ _ _ _ (c .before .before .before .before .before .word .ensures) (c .before .before .before .disable .ensures) (c .before .before .wide3 .ensures .0) (grown-none _ _ (c .if1 .taken))
+
+grow-requires : tie.Need-grow-requires
+grow-requires c κs = device-held (c .before .before .before .before .before .before .before .before .before .before .before .before .before .before .args .self) (c .before .before .before .before .before .before .before .before .before .before .before .before .before .before .args .m) _ _ _ _ _ _ (c .before .before .before .before .before .before .before .before .before .before .before .wide .ensures .0) (c .before .before .before .before .before .before .before .before .before .before .total .ensures .0) (c .before .before .before .before .before .before .before .before .chain-length .ensures) (c .before .before .before .before .before .before .before .wide2 .ensures .0) (c .before .before .before .before .before .before .less .ensures) (c .before .before .before .before .before .before .before .before .before .before .before .before .before .before .pre .0) (c .before .before .before .before .before .before .before .before .before .before .before .before .before .before .pre .1)
+
+returns-2 : tie.Need-returns-2
+returns-2 c = device-made (c .before .before .before .before .before .before .before .before .before .before .before .before .before .before .before .args .self) (c .before .before .before .before .before .before .before .before .before .before .before .before .before .before .before .args .m) _ _ _ _ _ _ (c .before .before .before .before .before .before .before .before .before .before .before .before .wide .ensures .0) (c .before .before .before .before .before .before .before .before .before .before .before .total .ensures .0) (c .before .before .before .before .before .before .before .before .before .chain-length .ensures) (c .before .before .before .before .before .before .before .before .wide2 .ensures .0) (c .before .before .before .before .before .before .before .less .ensures) _ _ _ _ (c .before .before .before .before .before .before .word .ensures) (c .before .before .before .before .disable .ensures) (c .before .before .before .wide3 .ensures .0) (c .grow .ensures)
 
 pub add-device-spec : {M : Type 1} → statement M
 add-device-spec =
@@ -66,5 +70,6 @@ add-device-spec =
     mul-rows
     array-set-from-rows
     add-next
+    returns
     grow-requires
-    returns)
+    returns-2)

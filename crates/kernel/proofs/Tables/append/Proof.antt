@@ -1,5 +1,6 @@
 -- `Tables::append` meets its contract. Assumes nothing.
 use borrow.Author.Needs.{needs}
+use Rattle.kernel.proofs.NoChange.{grown-none}
 use Rattle.kernel.proofs.OpenCalls.{append-held, append-made}
 use Rattle.kernel.proofs.Tables.append.Statement.{statement}
 use Rattle.kernel.proofs.Tables.append.Tie as tie
@@ -37,11 +38,14 @@ mul-c c = search needs
 element-set-from-c : tie.Need-element-set-from-c
 element-set-from-c c = search needs
 
-grow-requires : tie.Need-grow-requires
-grow-requires c κs = append-held (c .before .before .before .before .before .before .before .before .args .self) (c .before .before .before .before .before .before .before .before .args .c) _ _ _ _ _ _ (c .before .before .before .before .before .before .before .wide .ensures .0) (c .before .before .before .before .before .total .ensures .0) (c .before .before .before .before .wide16 .ensures .0) (c .before .before .before .chain-length .ensures) (c .before .before .wide2 .ensures .0) (c .before .less .ensures) (c .before .before .before .before .before .before .before .before .pre .0) (c .before .before .before .before .before .before .before .before .pre .1) (c .before .before .before .before .before .before .before .before .pre .2)
-
 returns : tie.Need-returns
-returns c = append-made (c .before .before .before .before .before .before .before .before .before .args .self) (c .before .before .before .before .before .before .before .before .before .args .c) _ _ _ _ _ _ (c .before .before .before .before .before .before .before .before .wide .ensures .0) (c .before .before .before .before .before .before .total .ensures .0) (c .before .before .before .before .before .wide16 .ensures .0) (c .before .before .before .before .chain-length .ensures) (c .before .before .before .wide2 .ensures .0) (c .before .before .less .ensures) _ (c .grow .ensures)
+returns c = append-made (c .before .before .before .before .before .before .before .before .before .args .self) (c .before .before .before .before .before .before .before .before .before .args .c) _ _ _ _ _ _ (c .before .before .before .before .before .before .before .before .wide .ensures .0) (c .before .before .before .before .before .before .total .ensures .0) (c .before .before .before .before .before .wide16 .ensures .0) (c .before .before .before .before .chain-length .ensures) (c .before .before .before .wide2 .ensures .0) (c .before .before .less .ensures) _ (grown-none _ _ (c .if1 .taken))
+
+grow-requires : tie.Need-grow-requires
+grow-requires c κs = append-held (c .before .before .before .before .before .before .before .before .before .args .self) (c .before .before .before .before .before .before .before .before .before .args .c) _ _ _ _ _ _ (c .before .before .before .before .before .before .before .before .wide .ensures .0) (c .before .before .before .before .before .before .total .ensures .0) (c .before .before .before .before .before .wide16 .ensures .0) (c .before .before .before .before .chain-length .ensures) (c .before .before .before .wide2 .ensures .0) (c .before .before .less .ensures) (c .before .before .before .before .before .before .before .before .before .pre .0) (c .before .before .before .before .before .before .before .before .before .pre .1) (c .before .before .before .before .before .before .before .before .before .pre .2)
+
+returns-2 : tie.Need-returns-2
+returns-2 c = append-made (c .before .before .before .before .before .before .before .before .before .before .args .self) (c .before .before .before .before .before .before .before .before .before .before .args .c) _ _ _ _ _ _ (c .before .before .before .before .before .before .before .before .before .wide .ensures .0) (c .before .before .before .before .before .before .before .total .ensures .0) (c .before .before .before .before .before .before .wide16 .ensures .0) (c .before .before .before .before .before .chain-length .ensures) (c .before .before .before .before .wide2 .ensures .0) (c .before .before .before .less .ensures) _ (c .grow .ensures)
 
 pub append-spec : {M : Type 1} → statement M
 append-spec =
@@ -58,5 +62,6 @@ append-spec =
     add-next
     mul-c
     element-set-from-c
+    returns
     grow-requires
-    returns)
+    returns-2)

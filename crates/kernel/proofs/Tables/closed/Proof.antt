@@ -1,6 +1,7 @@
 -- `Tables::closed` meets its contract. Assumes nothing.
 use Rattle.kernel.proofs.Closing.{rows-fit, rows-closed}
 use borrow.Author.Needs.{needs}
+use Rattle.kernel.proofs.NoChange.{shrunk-none}
 use Rattle.kernel.proofs.Tables.closed.Statement.{statement}
 use Rattle.kernel.proofs.Tables.closed.Tie as tie
 
@@ -25,16 +26,22 @@ wide-requires-2 c κs = search needs
 less-requires : tie.Need-less-requires
 less-requires c κs = search needs
 
-shrink-requires : tie.Need-shrink-requires
-shrink-requires c κs =
-    let s = c .before .before .before .before .before .before .before .before in
-    rows-fit (s .args .self) _ _ _ _ _ (c .before .before .chain-length .ensures) (c .before .wide2 .ensures .0) (c .less .ensures) (s .pre .0)
-
 returns : tie.Need-returns
 returns c =
     let s = c .before .before .before .before .before .before .before .before .before in
     rows-closed (s .args .self) _ _ _ _ _ (c .before .before .before .chain-length .ensures) (c .before .before .wide2 .ensures .0) (c .before .less .ensures) _ _ _ (c .before .before .before .before .before .before .before .without-row .ensures)
-    (c .before .before .before .before .before .wide .ensures .0) (c .before .before .before .before .total .ensures .0) (c .shrink .ensures)
+    (c .before .before .before .before .before .wide .ensures .0) (c .before .before .before .before .total .ensures .0) (shrunk-none _ _ (c .if1 .taken))
+
+shrink-requires : tie.Need-shrink-requires
+shrink-requires c κs =
+    let s = c .before .before .before .before .before .before .before .before .before in
+    rows-fit (s .args .self) _ _ _ _ _ (c .before .before .before .chain-length .ensures) (c .before .before .wide2 .ensures .0) (c .before .less .ensures) (s .pre .0)
+
+returns-2 : tie.Need-returns-2
+returns-2 c =
+    let s = c .before .before .before .before .before .before .before .before .before .before in
+    rows-closed (s .args .self) _ _ _ _ _ (c .before .before .before .before .chain-length .ensures) (c .before .before .before .wide2 .ensures .0) (c .before .before .less .ensures) _ _ _ (c .before .before .before .before .before .before .before .before .without-row .ensures)
+    (c .before .before .before .before .before .before .wide .ensures .0) (c .before .before .before .before .before .total .ensures .0) (c .shrink .ensures)
 
 pub closed-spec : {M : Type 1} → statement M
 closed-spec =
@@ -47,5 +54,6 @@ closed-spec =
     chain-length-requires
     wide-requires-2
     less-requires
+    returns
     shrink-requires
-    returns)
+    returns-2)
