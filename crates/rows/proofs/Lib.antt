@@ -1,5 +1,5 @@
 -- What the proofs of several functions use.
 pub mod BuiltIn
-pub mod Muted
+pub mod Disabled
 pub mod Shift
 pub mod Stores

@@ -7,7 +7,7 @@ use native.Mathlib.Omega.{arith}
 use lib.ListN.{length, getD}
 use Rattle.rows.specs.Devices.{disabledBy, noDevice}
 use Rattle.rows.proofs.Stores.{Mapped, mapped-end, mapped-kept, mapped-more, mapped-none}
-use Rattle.rows.proofs.Muted.{disabledBy-off, disabledBy-kept}
+use Rattle.rows.proofs.Disabled.{disabledBy-off, disabledBy-kept}
 use Rattle.rows.proofs.devices.disable.Statement.{statement}
 use Rattle.rows.proofs.devices.disable.Tie as tie
 
