@@ -21,7 +21,7 @@ lentAt bytes at =
     (cond (ltb (length bytes) end) Part
     (Whole (record { out = u16At bytes at; start = start; end = end }))))
 
--- "above 524,288 ends the program"
+-- what bytes begin with; docs/STREAM.md has the stream in words
 unfoldable pub requestIn : List ℕ → Found
 unfolding lentAt
 requestIn bytes =
