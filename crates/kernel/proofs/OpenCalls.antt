@@ -7,12 +7,12 @@ use native.Mathlib.Omega.{arith}
 use borrow.Author.Tests.{lt-ltb, le-ltb, le-leb, lt-leb, ne-eqb, ltb-false, not-false}
 use lib.Dec.{ltb}
 use lib.ListN.{length, take, set, length-take}
-use Rattle.rows.specs.Channels.{sumOf, placeIn, foundAt, found-at, found-nowhere}
+use Rattle.rows.specs.Channels.{sumOf, rowIn, foundAt, found-at, found-nowhere}
 use Rattle.rows.specs.Devices.{deviceIn}
 use Rattle.rows.specs.Sizes.{chainLength}
 use Rattle.rows.specs.declared.Channel.{Channel}
-use Rattle.rows.specs.declared.Place.{Place}
-use Rattle.rows.specs.declared.Place.the-variants.{At, Nowhere}
+use Rattle.rows.specs.declared.Lookup.{Lookup}
+use Rattle.rows.specs.declared.Lookup.the-variants.{At, Nowhere}
 use Rattle.names.specs.Read.{reading}
 use Rattle.names.specs.Parts.{partsOf}
 use Rattle.names.specs.Places.{parts-refused}
@@ -48,7 +48,7 @@ done : (t : Tables) (o : Outcome) (u : Tables) (a b : ℕ) (ram after out : List
 unfolding completed
 done t o u a b ram after out d e f s q h = rw (q, h)
 
-module _ (t : Tables) (ch n : ℕ) (place : Place) (count : n ≡ t .opened) (f : place ≡ foundAt (placeIn (take n (t .channels)) ch) n) where
+module _ (t : Tables) (ch n : ℕ) (place : Lookup) (count : n ≡ t .opened) (f : place ≡ foundAt (rowIn (take n (t .channels)) ch) n) where
   pub open-yes : (i : ℕ) → place ≡ At i → true ≡ ltb (channelAt t ch) (t .opened)
   open-yes i e =
       let h : channelAt t ch < t .opened = rw count at (found-at _ n i (sym f ∙ e) .1) in
@@ -150,7 +150,7 @@ module _ (t : Tables) (c : Channel) where
         done t (onOpenRow t c) next (c .device) (c .unit) ram after out (c .number) 0 (c .n) [] row-answer (h ∙ k)
 
 -- the device, and the status of its driver
-module _ (t : Tables) (channel driver n : ℕ) (w : Sought) (known : ℕ) (place : Place) (count : known ≡ t .known)
+module _ (t : Tables) (channel driver n : ℕ) (w : Sought) (known : ℕ) (place : Lookup) (count : known ≡ t .known)
     (f : place ≡ foundAt (deviceIn (take known (t .devices)) (w .name) (w .length)) known) where
   pub to-none : place ≡ Nowhere → onOpenTo t channel driver n (wantedOf w) ≡ gives NoDevice t
   unfolding onOpenTo

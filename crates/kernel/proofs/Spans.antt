@@ -11,10 +11,10 @@ use Rattle.line.specs.Line.{Chain}
 use Rattle.line.proofs.Places.{chain-less}
 use Rattle.rows.specs.Lists.{firstOf, and-left}
 use Rattle.rows.specs.Classes.{USER, SHARED}
-use Rattle.rows.specs.Channels.{placeIn, foundAt, found-at, found-nowhere}
+use Rattle.rows.specs.Channels.{rowIn, foundAt, found-at, found-nowhere}
 use Rattle.rows.specs.Sizes.{boundaryAt, edge-low, edge-high}
-use Rattle.rows.specs.declared.Place.{Place}
-use Rattle.rows.specs.declared.Place.the-variants.{At, Nowhere}
+use Rattle.rows.specs.declared.Lookup.{Lookup}
+use Rattle.rows.specs.declared.Lookup.the-variants.{At, Nowhere}
 use Rattle.kernel.specs.Definition.Tables.{SEGMENT, ramSize, classAt, rowOf, channelAt}
 use Rattle.kernel.specs.Definition.Good.{Good}
 use Rattle.kernel.specs.Definition.Line.{totalOf, sizeAt, bufferAt}
@@ -54,14 +54,14 @@ pub record Open (t : Tables) (channel i : ℕ) : Type 0 where
   pub among : i < t .opened
   pub row : i < 32
 
-pub open-at : (t : Tables) (n channel i : ℕ) (p : Place) → Good t → n ≡ t .opened → p ≡ foundAt (placeIn (take n (t .channels)) channel) n → p ≡ At i
+pub open-at : (t : Tables) (n channel i : ℕ) (p : Lookup) → Good t → n ≡ t .opened → p ≡ foundAt (rowIn (take n (t .channels)) channel) n → p ≡ At i
     → Open t channel i
 open-at t n channel i p g e f a =
     let w : foundAt (channelAt t channel) (t .opened) ≡ At i = sym (rw e at f) ∙ a in
     let q = found-at (channelAt t channel) (t .opened) i w in
     record { here = q .0; found = lt-leb (t .opened) (channelAt t channel) (q .1); among = omega arith; row = omega (arith, g .channels .most) }
 
-pub open-none : (t : Tables) (n channel : ℕ) (p : Place) → n ≡ t .opened → p ≡ foundAt (placeIn (take n (t .channels)) channel) n → p ≡ Nowhere
+pub open-none : (t : Tables) (n channel : ℕ) (p : Lookup) → n ≡ t .opened → p ≡ foundAt (rowIn (take n (t .channels)) channel) n → p ≡ Nowhere
     → t .opened ≤ channelAt t channel
 open-none t n channel p e f a = found-nowhere (channelAt t channel) (t .opened) (sym (rw e at f) ∙ a)
 

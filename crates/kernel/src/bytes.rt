@@ -22,8 +22,8 @@ use line::lent_at;
 use line::put;
 use line::ram::load;
 use line::ram::store;
-use rows::Place;
-use rows::channels::channel_place;
+use rows::Lookup;
+use rows::channels::channel_row;
 use rows::channels::total;
 use rows::numbers::less;
 use rows::numbers::wide;
@@ -73,7 +73,7 @@ impl Tables {
     {
         let channels = self.channels;
         let opened = wide(self.opened);
-        let Place::At(i) = channel_place(channels, opened, channel) else {
+        let Lookup::At(i) = channel_row(channels, opened, channel) else {
             return self.refuse(Answer::NoChannel);
         };
         let from = wide16(offset);
@@ -106,7 +106,7 @@ impl Tables {
     {
         let channels = self.channels;
         let opened = wide(self.opened);
-        let Place::At(i) = channel_place(channels, opened, channel) else {
+        let Lookup::At(i) = channel_row(channels, opened, channel) else {
             return self.refuse(Answer::NoChannel);
         };
         let from = wide16(offset);
@@ -236,7 +236,7 @@ impl Tables {
     {
         let channels = self.channels;
         let opened = wide(self.opened);
-        let Place::At(i) = channel_place(channels, opened, channel) else {
+        let Lookup::At(i) = channel_row(channels, opened, channel) else {
             return Lent::Nothing;
         };
         let chain = self.chain;
@@ -261,7 +261,7 @@ impl Tables {
     {
         let channels = self.channels;
         let opened = wide(self.opened);
-        let Place::At(i) = channel_place(channels, opened, channel) else {
+        let Lookup::At(i) = channel_row(channels, opened, channel) else {
             return &ram[0..0];
         };
         let chain = self.chain;

@@ -13,8 +13,8 @@ use super::Answer;
 use super::Outcome;
 use super::Tables;
 use line::close_line;
-use rows::Place;
-use rows::channels::channel_place;
+use rows::Lookup;
+use rows::channels::channel_row;
 use rows::channels::total;
 use rows::channels::without_row;
 use rows::numbers::less;
@@ -71,7 +71,7 @@ impl Tables {
     {
         let channels = self.channels;
         let opened = wide(self.opened);
-        let Place::At(i) = channel_place(channels, opened, channel) else {
+        let Lookup::At(i) = channel_row(channels, opened, channel) else {
             return self.refuse(Answer::NoChannel);
         };
         self.close_record(ram, i);

@@ -23,10 +23,10 @@ use names::UnitNumber;
 use names::parse;
 use names::word;
 use rows::Channel;
-use rows::Place;
-use rows::channels::channel_place;
+use rows::Lookup;
+use rows::channels::channel_row;
 use rows::channels::total;
-use rows::devices::device_place;
+use rows::devices::device_row;
 use rows::numbers::less;
 use rows::numbers::wide;
 use rows::numbers::wide16;
@@ -45,9 +45,9 @@ impl Tables {
         ensures { λ r. ⌜ r ≡ ltb (channelAt self channel) (self .opened) ⌝ }
     {
         let channels = self.channels;
-        match channel_place(channels, wide(self.opened), channel) {
-            Place::At(_) => true,
-            Place::Nowhere => false,
+        match channel_row(channels, wide(self.opened), channel) {
+            Lookup::At(_) => true,
+            Lookup::Nowhere => false,
         }
     }
 
@@ -145,7 +145,7 @@ impl Tables {
     {
         let devices = self.devices;
         let name = w.name;
-        let Place::At(row) = device_place(devices, wide(self.known), name, w.length) else {
+        let Lookup::At(row) = device_row(devices, wide(self.known), name, w.length) else {
             return self.refuse(Answer::NoDevice);
         };
         if driver != 0 {

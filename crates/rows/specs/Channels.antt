@@ -9,8 +9,8 @@ use borrow.Author.Tests.{lt-ltb, le-ltb}
 use lib.Dec.{ltb, eqb}
 use Rattle.rows.specs.Lists.{firstWhere}
 use Rattle.rows.specs.declared.Channel.{Channel}
-use Rattle.rows.specs.declared.Place.{Place}
-use Rattle.rows.specs.declared.Place.the-variants.{At, Nowhere}
+use Rattle.rows.specs.declared.Lookup.{Lookup}
+use Rattle.rows.specs.declared.Lookup.the-variants.{At, Nowhere}
 
 -- "Unused rows and bytes of the tables are zero"
 abbrev pub noChannel : Channel
@@ -22,11 +22,11 @@ sumOf [] = 0
 sumOf (c ∷ cs) = (16 + c .n) + sumOf cs
 
 -- the row of the channel numbered ch, or the number of rows where it is not open
-abbrev pub placeIn : List Channel → ℕ → ℕ
-placeIn cs ch = firstWhere (λ (c : Channel). eqb (c .number) ch) cs
+abbrev pub rowIn : List Channel → ℕ → ℕ
+rowIn cs ch = firstWhere (λ (c : Channel). eqb (c .number) ch) cs
 
 -- a place among the first n rows, as the code says it
-abbrev pub foundAt : ℕ → ℕ → Place
+abbrev pub foundAt : ℕ → ℕ → Lookup
 foundAt i n = elim (ltb i n) [ true ↦ At i | false ↦ Nowhere ]
 
 pub found-yes : (i n : ℕ) → i < n → foundAt i n ≡ At i

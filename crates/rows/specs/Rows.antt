@@ -12,7 +12,7 @@ use lib.Dec.{eqb, ltb}
 use lib.ListN.{length, getD, take, drop, set, replicate, length-append, length-take, length-drop, getD-replicate, List·getD-append}
 use lib.Seq.{take-append-le, take-suc, take-suc-set, getD-set-same, getD-set-other, getD-take, getD-append-seam}
 use Rattle.rows.specs.Lists.{without, where-absent}
-use Rattle.rows.specs.Channels.{sumOf, placeIn, noChannel}
+use Rattle.rows.specs.Channels.{sumOf, rowIn, noChannel}
 use Rattle.rows.specs.Good.{ChannelsGood}
 use Rattle.rows.specs.declared.Channel.{Channel}
 
@@ -104,7 +104,7 @@ channels-less cs opened known i l h g =
     }
 
 -- a channel that is not found is at no place
-pub place-none : (cs : List Channel) (ch n : ℕ) → n ≤ length cs → n ≤ placeIn (take n cs) ch → (i : ℕ) → i < n → getD cs i noChannel .number ≡ ch → ⊥
+pub place-none : (cs : List Channel) (ch n : ℕ) → n ≤ length cs → n ≤ rowIn (take n cs) ch → (i : ℕ) → i < n → getD cs i noChannel .number ≡ ch → ⊥
 place-none cs ch n l h i a e =
     let long : length (take n cs) ≡ n = omega (arith, length-take n cs) in
     let no : eqb (getD (take n cs) i noChannel .number) ch ≡ false =

@@ -3,10 +3,10 @@ ghost use mathlib.Core.Path.{_≡_};
 ghost use Prim.Native.Nat.{ℕ, _≤_, _<_};
 ghost use lib.ListN.{take, getD, replicate};
 ghost use Rattle.rows.specs.Lists.{without, upTo};
-ghost use Rattle.rows.specs.Channels.{noChannel, sumOf, placeIn, foundAt};
+ghost use Rattle.rows.specs.Channels.{noChannel, sumOf, rowIn, foundAt};
 ghost use Rattle.rows.specs.Tests.{restChannel, channelRow, channelTest};
 use super::Channel;
-use super::Place;
+use super::Lookup;
 use super::numbers::wide;
 use super::numbers::wide16;
 
@@ -26,19 +26,19 @@ pub fn total(channels: [Channel; 32], count: usize) -> usize
 }
 
 // Where the channel `ch` stands among the first `opened` rows.
-pub fn channel_place(channels: [Channel; 32], opened: usize, ch: u8) -> Place
+pub fn channel_row(channels: [Channel; 32], opened: usize, ch: u8) -> Lookup
     requires { ⌜ opened ≤ 32 ⌝ }
-    ensures { λ r. ⌜ r ≡ foundAt (placeIn (take opened channels) ch) opened ⌝ }
+    ensures { λ r. ⌜ r ≡ foundAt (rowIn (take opened channels) ch) opened ⌝ }
 {
     let mut i: usize = 0;
     while i < opened {
         let c = channels[i];
         if c.number == ch {
-            return Place::At(i);
+            return Lookup::At(i);
         }
         i = i + 1;
     }
-    Place::Nowhere
+    Lookup::Nowhere
 }
 
 // The rows without the one at `i`, the later ones moved up, and an empty row at the end.

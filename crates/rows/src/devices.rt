@@ -10,7 +10,7 @@ ghost use Rattle.rows.specs.Channels.{foundAt};
 ghost use Rattle.rows.specs.Devices.{builtIn, sameName, sameBytes, disabledBy, answers, deviceIn};
 ghost use Rattle.rows.specs.Tests.{letterRow, nameTest, defaultTest, zeroRow, restDevice, deviceRow, builtTest, deviceTest};
 use super::Device;
-use super::Place;
+use super::Lookup;
 use super::numbers::wide;
 
 const VIDEO: [u8; 28] = *b"VIDEO\0\0\0\0\0\0\0\0\0\0\0\0\0\0\0\0\0\0\0\0\0\0\0";
@@ -77,7 +77,7 @@ fn has_name(d: Device, name: [u8; 28], length: u8) -> bool
 }
 
 // Where the first enabled device of this name stands among the first `known` rows.
-pub fn device_place(devices: [Device; 16], known: usize, name: [u8; 28], length: u8) -> Place
+pub fn device_row(devices: [Device; 16], known: usize, name: [u8; 28], length: u8) -> Lookup
     requires { ⌜ known ≤ 16 ⌝ }
     ensures { λ r. ⌜ r ≡ foundAt (deviceIn (take known devices) name length) known ⌝ }
 {
@@ -85,11 +85,11 @@ pub fn device_place(devices: [Device; 16], known: usize, name: [u8; 28], length:
     while i < known {
         let d = devices[i];
         if has_name(d, name, length) {
-            return Place::At(i);
+            return Lookup::At(i);
         }
         i = i + 1;
     }
-    Place::Nowhere
+    Lookup::Nowhere
 }
 
 // Each device of this name is disabled.

@@ -18,8 +18,8 @@ pub struct Device {
     pub enabled: bool,
 }
 
-// Where a row stands, if anywhere.
-pub enum Place {
+// What a lookup finds: the row, if there is one.
+pub enum Lookup {
     At(usize),
     Nowhere,
 }

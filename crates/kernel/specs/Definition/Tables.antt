@@ -6,7 +6,7 @@ use lib.Dec.{ltb}
 use lib.ListN.{take}
 use Rattle.rows.specs.Lists.{at, firstOf, tally}
 use Rattle.rows.specs.Classes.{FREE, SHARED}
-use Rattle.rows.specs.Channels.{placeIn}
+use Rattle.rows.specs.Channels.{rowIn}
 use Rattle.rows.specs.declared.Channel.{Channel}
 use Rattle.rows.specs.declared.Device.{Device}
 use Rattle.kernel.specs.declared.Tables.{Tables}
@@ -53,7 +53,7 @@ lastRow t = at (t .chain) (t .held - 1)
 
 -- the row of an open channel, or the number of open channels where it is not open
 abbrev pub channelAt : Tables → ℕ → ℕ
-channelAt t ch = placeIn (take (t .opened) (t .channels)) ch
+channelAt t ch = rowIn (take (t .opened) (t .channels)) ch
 
 abbrev pub withSegments : Tables → (classes : List ℕ) (held : ℕ) (chain : List ℕ) (user : ℕ) → Tables
 withSegments t classes held chain user =

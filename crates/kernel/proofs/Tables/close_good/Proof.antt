@@ -8,8 +8,8 @@ use Rattle.kernel.proofs.Tables.close_good.Tie as tie
 wide-requires : tie.Need-wide-requires
 wide-requires c κs = search needs
 
-channel-place-requires : tie.Need-channel-place-requires
-channel-place-requires c κs = search needs
+channel-row-requires : tie.Need-channel-row-requires
+channel-row-requires c κs = search needs
 
 enum-known-i : tie.Need-enum-known-i
 enum-known-i c = search needs
@@ -24,7 +24,7 @@ returns : tie.Need-returns
 returns c =
     let s = c .before .before .before .before .before .before .before .args in
     λ out. rw (c .refuse .ensures) (close-gone _ _ _ out
-    (open-none (s .self) _ (s .channel) _ (c .before .before .before .before .wide .ensures .0) (c .before .before .before .channel-place .ensures) (c .before .enum-told .given .1)))
+    (open-none (s .self) _ (s .channel) _ (c .before .before .before .before .wide .ensures .0) (c .before .before .before .channel-row .ensures) (c .before .enum-told .given .1)))
 
 -- the channel's row
 placed : (c : tie.After-known-told) →
@@ -33,7 +33,7 @@ placed : (c : tie.After-known-told) →
 placed c =
     let f = c .before .before .before .before .before .before .before in
     let s = f .args in
-    open-at (s .self) _ (s .channel) _ _ (f .pre .0) (c .before .before .before .before .wide .ensures .0) (c .before .before .before .channel-place .ensures) (c .before .i .given .1)
+    open-at (s .self) _ (s .channel) _ _ (f .pre .0) (c .before .before .before .before .wide .ensures .0) (c .before .before .before .channel-row .ensures) (c .before .i .given .1)
 
 close-record-requires : tie.Need-close-record-requires
 close-record-requires c κs =
@@ -58,7 +58,7 @@ close-good-spec =
     tie.close
     (tie.spec
     wide-requires
-    channel-place-requires
+    channel-row-requires
     enum-known-i
     enum-told
     refuse-requires

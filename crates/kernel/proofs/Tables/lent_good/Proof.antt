@@ -8,13 +8,13 @@ use Rattle.kernel.proofs.Tables.lent_good.Tie as tie
 
 -- where the channel stands
 placed : (c : tie.After-known-told) → Open (c .before .before .before .before .before .before .args .self) (c .before .before .before .before .before .before .args .channel) (c .before .i .given .0 .0)
-placed c = open-at _ _ _ _ _ (c .before .before .before .before .before .before .pre) (c .before .before .before .before .wide .ensures .0) (c .before .before .before .channel-place .ensures) (c .before .i .given .1)
+placed c = open-at _ _ _ _ _ (c .before .before .before .before .before .before .pre) (c .before .before .before .before .wide .ensures .0) (c .before .before .before .channel-row .ensures) (c .before .i .given .1)
 
 wide-requires : tie.Need-wide-requires
 wide-requires c κs = search needs
 
-channel-place-requires : tie.Need-channel-place-requires
-channel-place-requires c κs = search needs
+channel-row-requires : tie.Need-channel-row-requires
+channel-row-requires c κs = search needs
 
 enum-known-i : tie.Need-enum-known-i
 enum-known-i c = search needs
@@ -23,7 +23,7 @@ enum-told : tie.Need-enum-told
 enum-told c = search needs
 
 returns : tie.Need-returns
-returns c = lent-closed _ _ (open-none (c .before .before .before .before .before .args .self) _ _ _ (c .before .before .before .wide .ensures .0) (c .before .before .channel-place .ensures) (c .enum-told .given .1))
+returns c = lent-closed _ _ (open-none (c .before .before .before .before .before .args .self) _ _ _ (c .before .before .before .wide .ensures .0) (c .before .before .channel-row .ensures) (c .enum-told .given .1))
 
 wide16-requires : tie.Need-wide16-requires
 wide16-requires c κs = search needs
@@ -45,7 +45,7 @@ lent-good-spec =
     tie.close
     (tie.spec
     wide-requires
-    channel-place-requires
+    channel-row-requires
     enum-known-i
     enum-told
     returns

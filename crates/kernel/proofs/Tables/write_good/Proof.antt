@@ -10,13 +10,13 @@ use Rattle.kernel.proofs.Tables.write_good.Tie as tie
 
 -- where the channel stands
 placed : (c : tie.After-known-told) → Open (c .before .before .before .before .before .before .before .before .args .self) (c .before .before .before .before .before .before .before .before .args .channel) (c .before .i .given .0 .0)
-placed c = open-at _ _ _ _ _ (c .before .before .before .before .before .before .before .before .pre .0) (c .before .before .before .before .wide .ensures .0) (c .before .before .before .channel-place .ensures) (c .before .i .given .1)
+placed c = open-at _ _ _ _ _ (c .before .before .before .before .before .before .before .before .pre .0) (c .before .before .before .before .wide .ensures .0) (c .before .before .before .channel-row .ensures) (c .before .i .given .1)
 
 wide-requires : tie.Need-wide-requires
 wide-requires c κs = search needs
 
-channel-place-requires : tie.Need-channel-place-requires
-channel-place-requires c κs = search needs
+channel-row-requires : tie.Need-channel-row-requires
+channel-row-requires c κs = search needs
 
 enum-known-i : tie.Need-enum-known-i
 enum-known-i c = search needs
@@ -28,7 +28,7 @@ refuse-requires : tie.Need-refuse-requires
 refuse-requires c κs = search needs
 
 returns : tie.Need-returns
-returns c = rw (c .refuse .ensures) (write-closed (c .before .before .before .before .before .before .before .before .args .self) _ (now (c .before .before .before .before .before .before .before .before .args .bytes)) _ _ (open-none (c .before .before .before .before .before .before .before .before .args .self) _ _ _ (c .before .before .before .before .wide .ensures .0) (c .before .before .before .channel-place .ensures) (c .before .enum-told .given .1)))
+returns c = rw (c .refuse .ensures) (write-closed (c .before .before .before .before .before .before .before .before .args .self) _ (now (c .before .before .before .before .before .before .before .before .args .bytes)) _ _ (open-none (c .before .before .before .before .before .before .before .before .args .self) _ _ _ (c .before .before .before .before .wide .ensures .0) (c .before .before .before .channel-row .ensures) (c .before .enum-told .given .1)))
 
 wide16-requires : tie.Need-wide16-requires
 wide16-requires c κs = search needs
@@ -71,7 +71,7 @@ write-good-spec =
     tie.close
     (tie.spec
     wide-requires
-    channel-place-requires
+    channel-row-requires
     enum-known-i
     enum-told
     refuse-requires

@@ -1,4 +1,4 @@
--- `devices::device_place` meets its contract. The loop's invariant: no row passed is enabled and has the name. Assumes nothing.
+-- `devices::device_row` meets its contract. The loop's invariant: no row passed is enabled and has the name. Assumes nothing.
 use borrow.Author.Count.{below-more}
 use borrow.Author.Needs.{needs}
 use mathlib.Core.Bool.{false}
@@ -9,8 +9,8 @@ use lib.ListN.{getD, length, take}
 use Rattle.rows.specs.Channels.{found-no, found-yes, foundAt}
 use Rattle.rows.specs.Devices.{answers, deviceIn, noDevice}
 use Rattle.rows.specs.Lists.{where-here, where-none}
-use Rattle.rows.proofs.devices.device_place.Statement.{statement}
-use Rattle.rows.proofs.devices.device_place.Tie as tie
+use Rattle.rows.proofs.devices.device_row.Statement.{statement}
+use Rattle.rows.proofs.devices.device_row.Tie as tie
 
 abbrev Inv-loop : tie.InvT-loop
 Inv-loop known name length devices i₀ i = (i ≤ known) × ((j : ℕ) → j < i → answers name length (getD devices j noDevice) ≡ false)
@@ -58,8 +58,8 @@ returns-2 c =
     (λ j g. c .before .loop .inv .1 j (omega arith)) in
     sym (found-no _ (s .args .known) (omega (arith, e)))
 
-pub device-place-spec : {M : Type 1} → statement M
-device-place-spec =
+pub device-row-spec : {M : Type 1} → statement M
+device-row-spec =
     tie.close
     (tie.spec
     Inv-loop

@@ -1,4 +1,4 @@
--- `channels::channel_place` meets its contract. The loop's invariant: no row passed has the number. Assumes nothing.
+-- `channels::channel_row` meets its contract. The loop's invariant: no row passed has the number. Assumes nothing.
 use borrow.Author.Count.{below-more}
 use borrow.Author.Needs.{needs}
 use borrow.Author.Tests.{eq-eqb, ne-eqb}
@@ -7,11 +7,11 @@ use Prim.Native.Nat.{_-_, _<_, _≤_, ℕ}
 use native.Mathlib.Omega.{arith}
 use lib.Dec.{eqb}
 use lib.ListN.{getD, length, take}
-use Rattle.rows.specs.Channels.{found-no, found-yes, foundAt, noChannel, placeIn}
+use Rattle.rows.specs.Channels.{found-no, found-yes, foundAt, noChannel, rowIn}
 use Rattle.rows.specs.Lists.{where-here, where-none}
 use Rattle.rows.specs.declared.Channel.{Channel}
-use Rattle.rows.proofs.channels.channel_place.Statement.{statement}
-use Rattle.rows.proofs.channels.channel_place.Tie as tie
+use Rattle.rows.proofs.channels.channel_row.Statement.{statement}
+use Rattle.rows.proofs.channels.channel_row.Tie as tie
 
 abbrev Inv-loop : tie.InvT-loop
 Inv-loop opened ch channels i₀ i = (i ≤ opened) × ((j : ℕ) → j < i → getD channels j noChannel .number ≡ ch → ⊥)
@@ -33,7 +33,7 @@ returns c =
     let s = c .before .before .before .before .before in
     let at = c .before .before .before .before .loop in
     let l : length (s .args .t1) ≡ 32 = s .good .0 .1 .0 .1 in
-    let e : placeIn (take (s .args .opened) (s .args .t1)) (s .args .ch) ≡ at .i =
+    let e : rowIn (take (s .args .opened) (s .args .t1)) (s .args .ch) ≡ at .i =
     where-here (λ (x : Channel). eqb (x .number) (s .args .ch)) (s .args .t1) noChannel (at .i) (s .args .opened) (omega arith) (omega arith)
     (λ j g. ne-eqb _ _ (at .inv .1 j g)) (eq-eqb _ _ (c .if1 .taken)) in
     sym (ap (λ (k : ℕ). foundAt k (s .args .opened)) e ∙ found-yes (at .i) (s .args .opened) (omega arith))
@@ -51,13 +51,13 @@ returns-2 : tie.Need-returns-2 Inv-loop μ-loop
 returns-2 c =
     let s = c .before .before in
     let l : length (s .args .t1) ≡ 32 = s .good .0 .1 .0 .1 in
-    let e : placeIn (take (s .args .opened) (s .args .t1)) (s .args .ch) ≡ s .args .opened =
+    let e : rowIn (take (s .args .opened) (s .args .t1)) (s .args .ch) ≡ s .args .opened =
     where-none (λ (x : Channel). eqb (x .number) (s .args .ch)) (s .args .t1) noChannel (s .args .opened) (omega arith)
     (λ j g. ne-eqb _ _ (c .before .loop .inv .1 j (omega arith))) in
     sym (found-no _ (s .args .opened) (omega (arith, e)))
 
-pub channel-place-spec : {M : Type 1} → statement M
-channel-place-spec =
+pub channel-row-spec : {M : Type 1} → statement M
+channel-row-spec =
     tie.close
     (tie.spec
     Inv-loop
