@@ -1,4 +1,4 @@
--- A byte read is the one last written through that channel, and a user's byte changes only by the user's store.
+-- A byte read or lent on is the one last written through that channel, and a user's byte changes only by the user's store.
 pub mod Runs
 pub mod Done
 pub mod Places
@@ -6,6 +6,7 @@ pub mod Changes
 pub mod Buffers
 pub mod Steps
 pub mod BytesRead
+pub mod LentOn
 pub mod Stores
 pub mod UserBytes
 pub mod Words

@@ -1,14 +1,17 @@
 -- A sequence worked out: a start, two opens, a write, a close, a link, a segment shared, a store. Its states meet all that the theorems ask.
-use mathlib.Core.Path.{_≡_, refl, sym, ap, _∙_}
+use mathlib.Core.Path.{_≡_, refl, sym, ap, subst, _∙_}
 use mathlib.Core.Bool.{Bool, true, false, _&&_}
 use mathlib.Core.List.{List, [], _∷_}
-use Prim.Native.Nat.{ℕ}
+use Prim.Native.Nat.{ℕ, _-_, _<_}
 use native.Mathlib.Omega.{arith}
 use borrow.Author.Needs.{needs}
 use borrow.Author.Tests.{ltb-true, eqb-true}
 use lib.Dec.{ltb, eqb}
 use lib.ListN.{length, getD}
 use Rattle.names.specs.Tests.{nameTest}
+use Rattle.line.specs.Line.{chainIndexOf, offsetOf, placeOf}
+use Rattle.line.specs.Lent.{lentAt}
+use Rattle.line.specs.declared.Lent.the-variants.{Part}
 use Rattle.rows.specs.Lists.{upTo, and-left, and-right}
 use Rattle.rows.specs.Classes.{SHARED}
 use Rattle.rows.specs.Sizes.{chainLength, boundaryAt}
@@ -19,6 +22,7 @@ use Rattle.kernel.specs.Definition.Reset.{noTables}
 use Rattle.kernel.specs.Definition.Answers.{numberOf, granted}
 use Rattle.kernel.specs.Definition.Calls.{Call, start, close, read, write, link, set-user-boundary, allocate, store, isStart}
 use Rattle.kernel.specs.Definition.Step.{decided, completed, step}
+use Rattle.kernel.specs.Definition.Lend.{lentOn, lentFrom, partFrom}
 use Rattle.kernel.specs.Laws.Fields.{Fields}
 use Rattle.kernel.specs.Laws.Ready.{Ready, decided-ready, start-ready}
 use Rattle.kernel.specs.declared.Tables.{Tables}
@@ -28,6 +32,7 @@ use Rattle.history.specs.Bytes.Runs.{State, Event, History, after, event
 use Rattle.history.specs.Bytes.Places.{shared}
 use Rattle.history.specs.Bytes.Steps.{step-sound, start-sound}
 use Rattle.history.specs.Bytes.BytesRead.{bytes-read}
+use Rattle.history.specs.Bytes.LentOn.{sizeOf, lent-written}
 use Rattle.history.specs.Bytes.UserBytes.{UsersIn, userByte, user-bytes}
 use Rattle.history.specs.Room.Layout.{Layout}
 use Rattle.history.specs.Room.Places.{size, held, offered, Outside}
@@ -90,6 +95,9 @@ record Known (s : State) (t : Tables) : Type 0 where
 known-answer : {s : State} {t : Tables} → Known s t → (c : Call) → event s c lent .answer ≡ answered t c .answer
 unfolding step completed
 known-answer k c = rw (k .tables, k .size)
+
+known-lent : {s : State} {t : Tables} → Known s t → (channel : ℕ) → lentFrom (s .tables) (length (s .ram)) channel ≡ lentFrom t 65536 channel
+known-lent k channel = rw (k .tables, k .size)
 
 known-next : {s : State} {t : Tables} → Known s t → (c : Call) → Fields c → isStart c ≡ false → Known (after s c lent) (answered t c .tables)
 unfolding step completed
@@ -192,6 +200,11 @@ shared-all : sharedAll 255 5 t₁ more ≡ true
 unfolding decided noTables nameTest upTo chainLength boundaryAt grown shrunk
 shared-all = refl
 
+-- channel 2's buffer, on positions 16 to 19 of the line, where R is 10,974
+computed : Part 60106 ≡ lentFrom t₁ 65536 2
+unfolding lentFrom lentOn lentAt placeOf chainIndexOf offsetOf decided noTables nameTest upTo chainLength boundaryAt grown shrunk
+computed = refl
+
 module _ (ram : List ℕ) (four : length ram ≡ 65536) where
   abbrev before : State
   before = record { tables = noTables; ram = ram }
@@ -267,3 +280,18 @@ module _ (ram : List ℕ) (four : length ram ≡ 65536) where
 
   pub no-layout : ¬ Layout (recordsAnd (s₁ .tables) 9939) (Outside (s₁ .tables) (s₁ .tables .room) (offered (s₁ .tables)))
   no-layout = reachable-open sequence lent 3 0 9939 _ passes .refused .0 no-room
+
+  -- 5: channel 2's four bytes are lent on, the last first: the 7 is the third of them
+  lent-on : Part 60106 ≡ lentFrom (s₁ .tables) (length (s₁ .ram)) 2
+  lent-on = computed ∙ sym (known-lent k₁ 2)
+
+  four-bytes : sizeOf (s₁ .tables) 2 ≡ 4
+  unfolding decided noTables nameTest upTo chainLength boundaryAt grown shrunk
+  four-bytes = ap (λ (t : Tables). sizeOf t 2) (k₁ .tables)
+
+  pub byte-lent : getD (partFrom (s₁ .tables) (s₁ .ram) 2) 2 0 ≡ 7
+  unfolding lastWritten written patched decided noTables nameTest upTo chainLength boundaryAt grown shrunk
+  byte-lent =
+      ap (λ (n : ℕ). getD (partFrom (s₁ .tables) (s₁ .ram) 2) (n - 1 - 1) 0) (sym four-bytes)
+      ∙ lent-written sequence 2 60106 lent-on 1 (subst (λ (n : ℕ). 1 < n) (sym four-bytes) (omega arith))
+      ∙ last 1
