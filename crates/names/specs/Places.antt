@@ -24,8 +24,8 @@ spell-file (full d u f) =
     let n : length d + length (unit-text u) ≡ length (d ++ unit-text u) = sym (length-append d (unit-text u)) in
     rw (e, n) (drop-append-add (d ++ unit-text u) (58 ∷ f) 1)
 
-pub device-row : (s : List ℕ) (r : Reading) → Reads s r → take (length (device r)) s ≡ device r
-device-row s r h = rw (← h .spelled) (spell-device r)
+pub device-place : (s : List ℕ) (r : Reading) → Reads s r → take (length (device r)) s ≡ device r
+device-place s r h = rw (← h .spelled) (spell-device r)
 
 pub file-place : (s : List ℕ) (r : Reading) → Reads s r → drop (fileAt r) s ≡ file r
 file-place s r h = rw (← h .spelled) (spell-file r)
@@ -54,4 +54,4 @@ parts-read s letters number at e = go (reading s) refl
         let l : letters ≡ length (device r) = cc in
         let n : number ≡ unit r = cc in
         let a : at ≡ fileAt r = cc in
-        (r, record { read = q; device-is = rw l (device-row s r h); unit-is = n; file-is = rw a (file-place s r h) })
+        (r, record { read = q; device-is = rw l (device-place s r h); unit-is = n; file-is = rw a (file-place s r h) })

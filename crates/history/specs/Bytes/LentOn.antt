@@ -1,6 +1,5 @@
 -- "A buffer's bytes are lent on, for reading only, as that part of the RAM and nothing else where they lie in one segment."
 use mathlib.Core.Path.{_≡_, refl, sym, ap, _∙_}
-use mathlib.Core.Bool.{true}
 use mathlib.Core.List.{List, []}
 use Prim.Native.Nat.{ℕ, _+_, _-_, _≤_, _<_}
 use native.Mathlib.Decide.{decLt}
@@ -14,14 +13,13 @@ use Rattle.line.specs.declared.Lent.the-variants.{Part, Nothing}
 use Rattle.line.proofs.Walks.{bytes-at}
 use Rattle.line.proofs.Places.{chain-less}
 use Rattle.line.proofs.Lending.{lies, lent-byte, lent-length, lent-link}
-use Rattle.kernel.specs.Definition.Tables.{ramSize, channelAt}
+use Rattle.kernel.specs.Definition.Tables.{channelAt}
 use Rattle.kernel.specs.Definition.Line.{totalOf, sizeAt, bufferAt}
 use Rattle.kernel.specs.Definition.Step.{accepted}
 use Rattle.kernel.specs.Definition.Lend.{lentOn, lentFrom, partFrom}
-use Rattle.kernel.specs.Laws.Good.{good-says}
 use Rattle.kernel.specs.Laws.Chains.{good-chain}
 use Rattle.kernel.specs.Laws.Records.{record-within}
-use Rattle.kernel.specs.Laws.Ready.{Ready}
+use Rattle.kernel.specs.Laws.Ready.{Ready, ready-accepted}
 use Rattle.kernel.specs.declared.Tables.{Tables}
 use Rattle.history.specs.Bytes.Runs.{State, History, Run, lastWritten}
 use Rattle.history.specs.Bytes.Buffers.{Holds, found}
@@ -46,17 +44,14 @@ module _ (t : Tables) (ram : List ℕ) (r : Ready t (length ram)) (channel : ℕ
       chain-less (t .chain) (t .room) (totalOf t) (length ram) (bufferOf t channel + sizeOf t channel) (length ram)
       (omega (arith, record-within t (channelAt t channel) (r .good) h)) refl (good-chain t (length ram) (r .good) (r .size))
 
-  right : accepted t (length ram) ≡ true
-  right = rw (good-says t (r .good .sized) .make (r .good), eq-eqb (length ram) (ramSize t) (r .size))
-
   -- what is lent of a channel that is open, and of one that is not
   lent-open : channelAt t channel < t .opened → lentFrom t (length ram) channel ≡ lentAt (t .chain) (t .room) (bufferOf t channel) (sizeOf t channel)
   unfolding lentFrom lentOn
-  lent-open h = rw (right, lt-ltb (channelAt t channel) (t .opened) h)
+  lent-open h = rw (ready-accepted r, lt-ltb (channelAt t channel) (t .opened) h)
 
   lent-closed : t .opened ≤ channelAt t channel → lentFrom t (length ram) channel ≡ Nothing
   unfolding lentFrom lentOn
-  lent-closed h = rw (right, le-ltb (channelAt t channel) (t .opened) h)
+  lent-closed h = rw (ready-accepted r, le-ltb (channelAt t channel) (t .opened) h)
 
   one-lent : OneSegment t channel → Part (placeOf (t .chain) (t .room) (bufferOf t channel + sizeOf t channel - 1)) ≡ lentFrom t (length ram) channel
   unfolding lentAt

@@ -40,8 +40,8 @@ pub record Ready (t : Tables) (ram : ℕ) : Type 0 where
   pub good : Good t
   pub size : ram ≡ ramSize t
 
-right : {t : Tables} {ram : ℕ} → Ready t ram → accepted t ram ≡ true
-right {t} {ram} r = rw (good-says t (r .good .sized) .make (r .good), eq-eqb ram (ramSize t) (r .size))
+pub ready-accepted : {t : Tables} {ram : ℕ} → Ready t ram → accepted t ram ≡ true
+ready-accepted {t} {ram} r = rw (good-says t (r .good .sized) .make (r .good), eq-eqb ram (ramSize t) (r .size))
 
 heard-by : (starting : Bool) (t : Tables) (o : Outcome) → cond (not (starting || true)) (gives BadTables t) o ≡ o
 heard-by true t o = refl
@@ -50,10 +50,10 @@ heard-by false t o = refl
 -- every call is heard
 pub ready-heard : (t : Tables) (ram output : ℕ) (c : Call) → Ready t ram → decided t ram output c ≡ heard t ram output c
 unfolding decided
-ready-heard t ram output c r = rw (right r) (heard-by (isStart c) t (heard t ram output c))
+ready-heard t ram output c r = rw (ready-accepted r) (heard-by (isStart c) t (heard t ram output c))
 
 never : {t : Tables} {ram : ℕ} {o : Outcome} → Ready t ram → Effect t ram o → numberOf (o .answer) ≡ 1 → ⊥
-never r (bars e) q = false≢true (sym e ∙ right r)
+never r (bars e) q = false≢true (sym e ∙ ready-accepted r)
 never r (refuses answer e) q = omega (arith, ltb-true 1 (numberOf answer) (and-left (ltb 1 (numberOf answer)) _ e))
 never r (leaves a b) q = omega arith
 never r (starts a b room list e) q = omega arith
