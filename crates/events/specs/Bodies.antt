@@ -1,4 +1,4 @@
--- The numbers of a body of bytes fit their fields, so that an event record keeps good tables; and which record is a start. Assumes nothing.
+-- The numbers of a body of bytes fit their fields; and which event record is a start. Assumes nothing.
 use mathlib.Core.Path.{_≡_, refl, sym}
 use mathlib.Core.Bool.{Bool, true, false, cond, false≢true}
 use mathlib.Core.List.{List}
@@ -8,11 +8,8 @@ use borrow.Author.Tests.{ne-eqb}
 use lib.Dec.{ltb, eqb}
 use lib.ListN.{length}
 use Rattle.kernel.specs.Definition.Calls.{Call, isStart}
-use Rattle.kernel.specs.Definition.Good.{Good}
 use Rattle.kernel.specs.Laws.Fields.{U8, U16, Fields}
-use Rattle.kernel.specs.Laws.Keeps.{step-keeps}
-use Rattle.kernel.specs.declared.Tables.{Tables}
-use Rattle.events.specs.Records.{u8At, u16At, startIn, resetIn, openIn, closeIn, readIn, writeIn, defaultIn, statusIn, linkIn, boundaryIn, setUserBoundaryIn, allocateIn, freeIn, storeIn, loadIn, decode, stepOf}
+use Rattle.events.specs.Records.{u8At, u16At, startIn, resetIn, openIn, closeIn, readIn, writeIn, defaultIn, statusIn, linkIn, boundaryIn, setUserBoundaryIn, allocateIn, freeIn, storeIn, loadIn, decode}
 
 -- every byte is below 256, as in a slice of u8
 abbrev pub Bytes : List ℕ → Type 0
@@ -74,7 +71,3 @@ no-start kind body h =
     (plain (eqb kind 257) _ _ (plain (ltb (length body) 3) _ _ refl refl)
     (plain (eqb kind 258) _ _ (plain (eqb (length body) 5) _ _ refl refl)
     refl))))))))))))))
-
--- an event record on good tables leaves good tables, whatever its kind and its body
-pub record-keeps : (t : Tables) (ram : List ℕ) (kind : ℕ) (body out : List ℕ) → Good t → Bytes body → Good (stepOf t ram kind body out .tables)
-record-keeps t ram kind body out g h = step-keeps t ram (decode kind body) out g (decode-fields kind body h)

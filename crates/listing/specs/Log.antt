@@ -35,7 +35,7 @@ onRest ram n r = record { answer = r .answer; tables = r .tables; ram = r .ram +
 unfoldable pub logStep : Tables → (ram out : List ℕ) (kind : ℕ) (body : List ℕ) → Result
 logStep t ram out kind body = let n = lentTo (t .segments) kind (length body) in onRest ram n (stepOf t (take n ram) kind body out)
 
--- what stands at the front of the input: nothing, "a bad length or cut record", or a record and the rest
+-- what stands at the front of the input: nothing, "A bad length or cut record", or a record and the rest
 pub data Next : Type 0 where
   finished : Next
   broken : Next
@@ -68,7 +68,7 @@ unfoldable pub run : (k : ℕ) → Tables → (ram out xs : List ℕ) → List �
 run zero t ram out xs = []
 run (suc k) t ram out xs = turn (run k) t ram out (next xs)
 
--- the text of a log, from tables, RAM and output as they stand; a record takes a byte at least
+-- the text of a log, from tables, RAM and output as they stand; a record takes four bytes, so that there are turns enough
 unfoldable pub textFrom : Tables → (ram out xs : List ℕ) → List ℕ
 textFrom t ram out xs = run (length xs) t ram out xs
 

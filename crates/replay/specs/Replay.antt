@@ -33,7 +33,7 @@ unfolding sizeOf
 recordsIn zero xs = []
 recordsIn (suc k) xs = cond (eqb (sizeOf xs) 0) [] (front xs ∷ recordsIn k (drop (sizeOf xs) xs))
 
--- the records of a buffer; each takes a byte at least
+-- the records of a buffer; each takes four bytes, so that there are turns enough
 unfoldable pub records : List ℕ → List EventRecord
 unfolding recordsIn
 records xs = recordsIn (length xs) xs

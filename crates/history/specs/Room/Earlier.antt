@@ -1,4 +1,4 @@
--- "Passes every earlier check": what is left of an open and a link of which no row of the refusal table before ROOM holds.
+-- "passes every earlier check": what is left of an open and a link of which no row of the refusal table before ROOM holds.
 use mathlib.Core.Path.{_≡_, refl, ap, sym, _∙_}
 use mathlib.Core.Bool.{Bool, true, false, cond, not, _||_, false≢true}
 use mathlib.Core.Logic.{_↔_}

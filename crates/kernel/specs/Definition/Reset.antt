@@ -75,7 +75,7 @@ started room list =
       unit = 0;
     }
 
--- the tables "before an accepted start": zero throughout, and not good
+-- the tables "Before an accepted start": zero throughout, and not good
 unfoldable pub noTables : Tables
 noTables =
     record {

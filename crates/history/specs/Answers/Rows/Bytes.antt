@@ -84,7 +84,7 @@ touched offset n (k, p, q, h) =
     ]
 
 module _ (t : Tables) (g : Good t) (ram output : ℕ) where
-  -- 11 OWNER: "segment not the caller's to store or load"
+  -- 11 OWNER: "segment not the caller's to free, store or load"
   reach-says : (segment : ℕ) → Says (mayReach t (rowOf t segment)) (Reaches t segment)
   reach-says segment =
       let class = classAt t (rowOf t segment) in
