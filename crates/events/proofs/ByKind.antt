@@ -1,4 +1,4 @@
--- From a record's kind to the call in its body. Assumes nothing.
+-- From a record's kind to the call in its body.
 use mathlib.Core.Path.{_≡_}
 use mathlib.Core.Bool.{Bool, true, not}
 use mathlib.Core.List.{List}
@@ -14,8 +14,8 @@ use Rattle.kernel.specs.declared.Tables.{Tables}
 use Rattle.kernel.specs.declared.Outcome.{Outcome}
 use Rattle.kernel.specs.declared.Answer.the-variants.{BadTables, BadCall}
 use Rattle.kernel.proofs.Calls.{call-refused}
-use Rattle.events.specs.Records.{decode, stepOf}
-use Rattle.events.specs.Bodies.{no-start}
+use Rattle.events.specs.Definition.Records.{decode, stepOf}
+use Rattle.events.specs.Laws.Bodies.{no-start}
 use Rattle.events.proofs.Laws.{no-call}
 
 -- a kind of no call

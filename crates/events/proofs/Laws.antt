@@ -1,4 +1,4 @@
--- A body taken apart, and what the call in it leaves. Assumes nothing.
+-- A body taken apart, and what the call in it leaves.
 use mathlib.Core.Path.{_≡_, refl, sym, ap, _∙_}
 use mathlib.Core.Bool.{Bool, true, false, cond}
 use mathlib.Core.List.{List}
@@ -16,7 +16,7 @@ use Rattle.kernel.specs.Laws.Ready.{ready-heard}
 use Rattle.kernel.specs.declared.Tables.{Tables}
 use Rattle.kernel.specs.declared.Outcome.{Outcome}
 use Rattle.kernel.specs.declared.Answer.the-variants.{BadCall}
-use Rattle.events.specs.Records.{startIn}
+use Rattle.events.specs.Definition.Records.{startIn}
 
 -- the rest of a body, as a part of it
 pub rest-of : (n : ℕ) (xs : List ℕ) → take (length xs - n) (drop n xs) ≡ drop n xs

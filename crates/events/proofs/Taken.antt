@@ -1,11 +1,11 @@
--- Each kind: no call in a body of another length, and the call in a body that has its fields. Assumes nothing.
+-- Each kind: no call in a body of another length, and the call in a body that has its fields.
 use mathlib.Core.Path.{_≡_}
 use mathlib.Core.List.{List}
 use Prim.Native.Nat.{ℕ, _-_, _<_, _≤_}
 use lib.ListN.{length, take, drop}
 use borrow.Author.Tests.{lt-ltb, le-ltb, eq-eqb, ne-eqb}
 use Rattle.kernel.specs.Definition.Calls.{start, reset, «open», close, read, write, default, status, link, boundary, set-user-boundary, allocate, free, store, load, unknown}
-use Rattle.events.specs.Records.{u8At, u16At, startIn, resetIn, openIn, closeIn, readIn, writeIn, defaultIn, statusIn, linkIn, boundaryIn, setUserBoundaryIn, allocateIn, freeIn, storeIn, loadIn}
+use Rattle.events.specs.Definition.Records.{u8At, u16At, startIn, resetIn, openIn, closeIn, readIn, writeIn, defaultIn, statusIn, linkIn, boundaryIn, setUserBoundaryIn, allocateIn, freeIn, storeIn, loadIn}
 use Rattle.events.proofs.Laws.{rest-of}
 
 pub start-taken : (body : List ℕ) (room : ℕ) → 2 ≤ length body → room ≡ u16At body 0 → startIn body ≡ start room (take (length body - 2) (drop 2 body))

@@ -1,3 +1,3 @@
--- The definition of event records, and its laws.
-pub mod Records
-pub mod Bodies
+-- Event records: the definition, and the laws about it.
+pub mod Definition
+pub mod Laws

@@ -2,7 +2,7 @@
 ghost use mathlib.Core.Path.{_≡_};
 ghost use Prim.Native.Nat.{_+_, _<_};
 ghost use lib.ListN.{length};
-ghost use Rattle.events.specs.Records.{u16At};
+ghost use Rattle.events.specs.Definition.Records.{u16At};
 
 pub fn u16_at(body: &[u8], i: usize) -> u16
     requires { ⌜ i + 1 < length (now body) ⌝ }

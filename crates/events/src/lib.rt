@@ -4,7 +4,7 @@ ghost use lib.ListN.{length};
 ghost use Rattle.kernel.specs.Definition.Tables.{ramSize};
 ghost use Rattle.kernel.specs.Definition.Good.{Good};
 ghost use Rattle.kernel.specs.Definition.Step.{result};
-ghost use Rattle.events.specs.Records.{stepOf};
+ghost use Rattle.events.specs.Definition.Records.{stepOf};
 use channels::close_event;
 use channels::open_event;
 use channels::read_event;

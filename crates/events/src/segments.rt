@@ -6,7 +6,7 @@ ghost use lib.ListN.{length};
 ghost use Rattle.kernel.specs.Definition.Tables.{ramSize};
 ghost use Rattle.kernel.specs.Definition.Good.{Good};
 ghost use Rattle.kernel.specs.Definition.Step.{step, result};
-ghost use Rattle.events.specs.Records.{statusIn, boundaryIn, setUserBoundaryIn, allocateIn, freeIn, storeIn, loadIn};
+ghost use Rattle.events.specs.Definition.Records.{statusIn, boundaryIn, setUserBoundaryIn, allocateIn, freeIn, storeIn, loadIn};
 use super::fields::u16_at;
 use kernel::Answer;
 use kernel::Outcome;

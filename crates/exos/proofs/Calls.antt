@@ -1,4 +1,4 @@
--- Laws of a call over bytes: the lengths that it takes, and what it leaves. Assumes nothing.
+-- Laws of a call over bytes: the lengths that it takes, and what it leaves.
 use mathlib.Core.Path.{_≡_, ap, _∙_}
 use mathlib.Core.Bool.{true, false}
 use mathlib.Core.List.{List}
@@ -8,8 +8,8 @@ use lib.ListN.{length, take, drop}
 use Rattle.kernel.specs.Definition.Step.{Result, result}
 use Rattle.kernel.specs.declared.Tables.{Tables}
 use Rattle.kernel.specs.declared.Outcome.{Outcome}
-use Rattle.events.specs.Records.{u16At, stepOf}
-use Rattle.image.specs.Image.{SIZE, imageOf, tablesOf, answerBytes}
+use Rattle.events.specs.Definition.Records.{u16At, stepOf}
+use Rattle.image.specs.Definition.Image.{SIZE, imageOf, tablesOf, answerBytes}
 use Rattle.image.proofs.Laws.{body-is}
 use Rattle.exos.specs.Call.{fits, stepOn, Done}
 

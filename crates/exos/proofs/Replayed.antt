@@ -1,4 +1,4 @@
--- Laws of a log replayed over bytes. Assumes nothing.
+-- Laws of a log replayed over bytes.
 use mathlib.Core.Path.{_≡_, refl, sym, ap, _∙_}
 use mathlib.Core.List.{List}
 use Prim.Native.Nat.{ℕ}
@@ -8,8 +8,8 @@ use Rattle.kernel.specs.Definition.Reset.{noTables}
 use Rattle.kernel.specs.Definition.Step.{Result, result}
 use Rattle.kernel.specs.declared.Tables.{Tables}
 use Rattle.kernel.specs.declared.Outcome.{Outcome}
-use Rattle.image.specs.Image.{answerBytes}
-use Rattle.replay.specs.Replay.{records, bytesOf, replayed, before}
+use Rattle.image.specs.Definition.Image.{answerBytes}
+use Rattle.replay.specs.Definition.Replay.{records, bytesOf, replayed, before}
 use Rattle.exos.specs.Replays.{replayOf, Replays}
 
 pub none : (ram out log reply : List ℕ) → (length reply ≡ 6 → ⊥) → Replays ram out log reply ram out reply 0

@@ -1,4 +1,4 @@
--- A call over bytes: the tables as their image, the event record's kind and body, and six bytes of reply. Assumes nothing.
+-- A call over bytes: the tables as their image, the event record's kind and body, and six bytes of reply.
 use mathlib.Core.Path.{_≡_}
 use mathlib.Core.Bool.{Bool, true, false, not, _&&_}
 use mathlib.Core.List.{List}
@@ -6,8 +6,8 @@ use Prim.Native.Nat.{ℕ}
 use lib.Dec.{eqb, ltb}
 use lib.ListN.{length, drop}
 use Rattle.kernel.specs.Definition.Step.{Result}
-use Rattle.events.specs.Records.{u16At, stepOf}
-use Rattle.image.specs.Image.{SIZE, imageOf, tablesOf, answerBytes}
+use Rattle.events.specs.Definition.Records.{u16At, stepOf}
+use Rattle.image.specs.Definition.Image.{SIZE, imageOf, tablesOf, answerBytes}
 
 -- the lengths that a call over bytes takes
 unfoldable pub fits : (image event reply : List ℕ) → Bool

@@ -1,4 +1,4 @@
--- A log replayed over bytes: RAM, output and six bytes of reply, from no tables. Assumes nothing.
+-- A log replayed over bytes: RAM, output and six bytes of reply, from no tables.
 use mathlib.Core.Path.{_≡_}
 use mathlib.Core.Bool.{Bool, true, false}
 use mathlib.Core.List.{List}
@@ -7,8 +7,8 @@ use lib.Dec.{eqb}
 use lib.ListN.{length}
 use Rattle.kernel.specs.Definition.Reset.{noTables}
 use Rattle.kernel.specs.Definition.Step.{Result}
-use Rattle.image.specs.Image.{answerBytes}
-use Rattle.replay.specs.Replay.{records, bytesOf, replayed, before}
+use Rattle.image.specs.Definition.Image.{answerBytes}
+use Rattle.replay.specs.Definition.Replay.{records, bytesOf, replayed, before}
 
 -- every whole record at the front of the log, asked in its order from no tables
 abbrev pub replayOf : (ram out log : List ℕ) → Result

@@ -1,4 +1,4 @@
--- Where a request ends in the buffer. Assumes nothing.
+-- Where a request ends in the buffer.
 use mathlib.Core.Path.{_≡_}
 use mathlib.Core.List.{List}
 use Prim.Native.Nat.{ℕ, _+_, _-_, _≤_}

@@ -1,4 +1,4 @@
--- What holds of the state between two turns. Assumes nothing.
+-- What holds of the state between two turns.
 use Prim.Native.Nat.{ℕ, _≤_}
 use Rattle.exos_answer.specs.declared.State as declared
 

@@ -1,11 +1,11 @@
--- What is left of the buffer where a record is not whole. Assumes nothing.
+-- What is left of the buffer where a record is not whole.
 use Prim.Native.Nat.{ℕ, _+_, _-_, _<_, _≤_}
 use mathlib.Core.Path.{_≡_}
 use mathlib.Core.List.{List}
 use native.Mathlib.Omega.{arith}
 use lib.ListN.{length, take, drop, length-drop}
 use lib.Seq.{length-take-le}
-use Rattle.listing.specs.Pieces.{Short}
+use Rattle.listing.specs.Laws.Pieces.{Short}
 
 module _ (buf : List ℕ) (from filled taken : ℕ) (h : from ≤ filled) (l : filled ≤ length buf) where
   part-length : length (take (filled - from) (drop from buf)) ≡ filled - from

@@ -2,7 +2,7 @@
 ghost use mathlib.Core.Path.{_≡_};
 ghost use Prim.Native.Nat.{_+_, _≤_, _<_};
 ghost use lib.ListN.{length};
-ghost use Rattle.listing.specs.Held.{Held};
+ghost use Rattle.listing.specs.Laws.Held.{Held};
 use kernel::Tables;
 use libc::STDIN_FILENO;
 use libc::STDOUT_FILENO;

@@ -8,13 +8,14 @@ use borrow.Author.Needs.{needs}
 use borrow.Author.Tests.{ltb-true, eqb-true}
 use lib.Dec.{ltb, eqb}
 use lib.ListN.{length, getD}
-use Rattle.names.specs.Tests.{nameTest}
-use Rattle.line.specs.Line.{chainIndexOf, offsetOf, placeOf}
-use Rattle.line.specs.Lent.{lentAt}
+use Rattle.names.specs.Definition.Tests.{nameTest}
+use Rattle.line.specs.Definition.Line.{chainIndexOf, offsetOf, placeOf}
+use Rattle.line.specs.Definition.Lent.{lentAt}
 use Rattle.line.specs.declared.Lent.the-variants.{Part}
-use Rattle.rows.specs.Lists.{upTo, and-left, and-right}
-use Rattle.rows.specs.Classes.{SHARED}
-use Rattle.rows.specs.Sizes.{chainLength, boundaryAt}
+use Rattle.rows.specs.Definition.Lists.{upTo}
+use Rattle.rows.specs.Laws.Lists.{and-left, and-right}
+use Rattle.rows.specs.Definition.Classes.{SHARED}
+use Rattle.rows.specs.Definition.Sizes.{chainLength, boundaryAt}
 use Rattle.kernel.specs.Cases.{opens}
 use Rattle.kernel.specs.Definition.Tables.{ramSize, classAt, rowOf}
 use Rattle.kernel.specs.Definition.Line.{grown, shrunk}

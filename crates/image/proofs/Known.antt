@@ -1,4 +1,4 @@
--- What owning tables and devices tells: the length of a name. Assumes nothing.
+-- What owning tables and devices tells: the length of a name.
 use mathlib.Core.Path.{_≡_, sym, _∙_}
 use mathlib.Core.List.{List, map}
 use Prim.Native.Nat.{ℕ}

@@ -1,4 +1,4 @@
--- Laws of bytes put and read: a run, rows, and the tables put together. Assumes nothing.
+-- Laws of bytes put and read: a run, rows, and the tables put together.
 use mathlib.Core.Path.{_≡_, refl, sym, ap, _∙_}
 use mathlib.Core.List.{List, [], _∷_, _++_, append-assoc, append-nil}
 use Prim.Native.Nat.{ℕ, zero, suc, _+_, _*_, _-_, _<_, _≤_}
@@ -6,9 +6,9 @@ use native.Mathlib.Omega.{arith}
 use native.Mathlib.Numerals.{add-one}
 use lib.ListN.{length, getD, take, drop, set, length-drop}
 use lib.Seq.{take-suc-set, take-suc, take-all, getD-drop, drop-drop}
-use Rattle.text.specs.Text.{Put}
+use Rattle.text.specs.Definition.Text.{Put}
 use Rattle.text.proofs.Laws.{put-then}
-use Rattle.image.specs.Image.{bytesOf, rowsOf}
+use Rattle.image.specs.Definition.Image.{bytesOf, rowsOf}
 
 pub put-same : {d e : List ℕ} {at r : ℕ} {xs ys : List ℕ} → xs ≡ ys → Put d e at r xs → Put d e at r ys
 put-same h p = rw h at p

@@ -1,16 +1,16 @@
--- The tables that an image holds, put together from their fields. Assumes nothing.
+-- The tables that an image holds, put together from their fields.
 use mathlib.Core.Path.{_≡_, _∙_}
 use mathlib.Core.List.{List, append-nil}
 use Prim.Native.Nat.{ℕ, _+_, _-_, _≤_}
 use native.Mathlib.Omega.{arith}
 use lib.ListN.{length, take, drop, length-drop}
 use lib.Seq.{length-take-le, take-all}
-use Rattle.rows.specs.Lists.{padded}
+use Rattle.rows.specs.Definition.Lists.{padded}
 use Rattle.rows.specs.declared.Channel.{Channel}
 use Rattle.rows.specs.declared.Device.{Device}
 use Rattle.kernel.specs.declared.Tables.{Tables}
-use Rattle.events.specs.Records.{u8At, u16At}
-use Rattle.image.specs.Image.{runAt, rowsOf, channelOf, deviceOf, tablesOf}
+use Rattle.events.specs.Definition.Records.{u8At, u16At}
+use Rattle.image.specs.Definition.Image.{runAt, rowsOf, channelOf, deviceOf, tablesOf}
 
 -- a run of 32 has no zeros behind it
 pub run-laid : (xs : List ℕ) (at : ℕ) (run : List ℕ) → at + 32 ≤ length xs → run ≡ padded 32 (take 32 (take 32 (drop at xs))) → run ≡ runAt xs at 32

@@ -1,4 +1,4 @@
--- Laws of the rows: what their bytes tell. Assumes nothing.
+-- Laws of the rows: what their bytes tell.
 use mathlib.Core.Path.{_≡_, refl, sym, ap, _∙_}
 use mathlib.Core.Bool.{not}
 use mathlib.Core.List.{List}
@@ -9,8 +9,8 @@ use lib.ListN.{getD, take, drop}
 use lib.Seq.{getD-drop}
 use Rattle.rows.specs.declared.Channel.{Channel}
 use Rattle.rows.specs.declared.Device.{Device}
-use Rattle.events.specs.Records.{u8At, u16At}
-use Rattle.image.specs.Image.{channelOf, deviceOf}
+use Rattle.events.specs.Definition.Records.{u8At, u16At}
+use Rattle.image.specs.Definition.Image.{channelOf, deviceOf}
 
 pub channel-read : (xs : List ℕ) (at n : ℕ) → n ≡ u16At xs (at + 3) → _≡_ {A = Channel} (record { number = u8At xs at; device = u8At xs (at + 1); unit = u8At xs (at + 2); n = n }) (channelOf (drop at xs))
 channel-read xs at n e =

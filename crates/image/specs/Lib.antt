@@ -1,3 +1,3 @@
--- The image of the tables and its laws.
-pub mod Image
-pub mod Round
+-- The image of the tables: the definition, and the laws about it.
+pub mod Definition
+pub mod Laws

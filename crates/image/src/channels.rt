@@ -2,8 +2,8 @@
 ghost use mathlib.Core.Path.{_≡_};
 ghost use Prim.Native.Nat.{_+_, _≤_};
 ghost use lib.ListN.{length, drop};
-ghost use Rattle.text.specs.Text.{Put};
-ghost use Rattle.image.specs.Image.{channelBytes, channelOf, bytesOf, rowsOf};
+ghost use Rattle.text.specs.Definition.Text.{Put};
+ghost use Rattle.image.specs.Definition.Image.{channelBytes, channelOf, bytesOf, rowsOf};
 use super::fields::put_u16;
 use events::fields::u16_at;
 use rows::Channel;

@@ -2,8 +2,8 @@
 ghost use mathlib.Core.Path.{_≡_};
 ghost use Prim.Native.Nat.{_+_, _≤_};
 ghost use lib.ListN.{length, take, drop};
-ghost use Rattle.text.specs.Text.{Put};
-ghost use Rattle.image.specs.Image.{u16Bytes};
+ghost use Rattle.text.specs.Definition.Text.{Put};
+ghost use Rattle.image.specs.Definition.Image.{u16Bytes};
 use text::put;
 
 pub fn put_u16(x: u16, to: &mut [u8], at: usize) -> usize

@@ -2,8 +2,8 @@
 ghost use mathlib.Core.Path.{_≡_};
 ghost use Prim.Native.Nat.{_+_, _≤_};
 ghost use lib.ListN.{length};
-ghost use Rattle.text.specs.Text.{Put};
-ghost use Rattle.image.specs.Image.{answerBytes};
+ghost use Rattle.text.specs.Definition.Text.{Put};
+ghost use Rattle.image.specs.Definition.Image.{answerBytes};
 use fields::put_u16;
 use kernel::Answer;
 

@@ -2,8 +2,8 @@
 ghost use mathlib.Core.Path.{_≡_};
 ghost use Prim.Native.Nat.{_+_, _≤_};
 ghost use lib.ListN.{length};
-ghost use Rattle.text.specs.Text.{Put};
-ghost use Rattle.image.specs.Image.{SIZE, segmentBytes, boundaryBytes, rowBytes, defaultBytes, imageOf, tablesOf};
+ghost use Rattle.text.specs.Definition.Text.{Put};
+ghost use Rattle.image.specs.Definition.Image.{SIZE, segmentBytes, boundaryBytes, rowBytes, defaultBytes, imageOf, tablesOf};
 use super::channels::channels_at;
 use super::channels::put_channels;
 use super::devices::devices_at;

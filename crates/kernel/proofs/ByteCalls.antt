@@ -1,4 +1,4 @@
--- The branches of the calls that read and write bytes, as the code takes them. Assumes nothing.
+-- The branches of the calls that read and write bytes, as the code takes them.
 use mathlib.Core.Path.{_≡_, refl, sym, _∙_}
 use mathlib.Core.Bool.{Bool, true, false, _||_, not}
 use mathlib.Core.List.{List, []}
@@ -6,12 +6,12 @@ use Prim.Native.Nat.{ℕ, _+_, _*_, _≤_}
 use borrow.Author.Tests.{lt-ltb, le-ltb, le-leb, not-true}
 use lib.Dec.{ltb}
 use lib.ListN.{length, take, drop}
-use Rattle.line.specs.Line.{lineFrom, putLine}
-use Rattle.line.specs.Ram.{putAt, taken}
-use Rattle.line.specs.Lent.{lentAt, partOf}
+use Rattle.line.specs.Definition.Line.{lineFrom, putLine}
+use Rattle.line.specs.Definition.Ram.{putAt, taken}
+use Rattle.line.specs.Definition.Lent.{lentAt, partOf}
 use Rattle.line.specs.declared.Lent.{Lent}
 use Rattle.line.specs.declared.Lent.the-variants.{Nothing}
-use Rattle.rows.specs.Lists.{firstOf}
+use Rattle.rows.specs.Definition.Lists.{firstOf}
 use Rattle.kernel.specs.Definition.Tables.{rowOf, channelAt}
 use Rattle.kernel.specs.Definition.Line.{sizeAt, bufferAt}
 use Rattle.kernel.specs.Definition.Segments.{mayReach, reachOf, guarded}

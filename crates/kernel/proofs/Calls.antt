@@ -1,4 +1,4 @@
--- A public call: refused for its tables, or what the call does on good ones. Assumes nothing.
+-- A public call: refused for its tables, or what the call does on good ones.
 use mathlib.Core.Path.{_≡_, refl, sym, _∙_}
 use mathlib.Core.Bool.{Bool, true, false, cond, not, _||_}
 use mathlib.Core.List.{List}
@@ -6,7 +6,7 @@ use Prim.Native.Nat.{ℕ}
 use borrow.Author.Tests.{not-true, not-false, eqb-true}
 use lib.Dec.{eqb}
 use lib.ListN.{length}
-use Rattle.rows.specs.Lists.{and-right}
+use Rattle.rows.specs.Laws.Lists.{and-right}
 use Rattle.kernel.specs.Definition.Tables.{ramSize}
 use Rattle.kernel.specs.Definition.Good.{Good, goodTest}
 use Rattle.kernel.specs.Definition.Answers.{gives, granted}

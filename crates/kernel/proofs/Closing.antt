@@ -1,15 +1,16 @@
--- The branches of close, as the code takes them. Assumes nothing.
+-- The branches of close, as the code takes them.
 use mathlib.Core.Path.{_≡_}
 use mathlib.Core.List.{List}
 use Prim.Native.Nat.{ℕ, _+_, _-_, _≤_, _<_}
 use native.Mathlib.Omega.{arith}
 use borrow.Author.Tests.{le-leb, lt-leb}
 use lib.ListN.{take}
-use Rattle.rows.specs.Lists.{without}
-use Rattle.rows.specs.Channels.{noChannel, sumOf}
-use Rattle.rows.specs.Sizes.{chainLength, length-some}
+use Rattle.rows.specs.Definition.Lists.{without}
+use Rattle.rows.specs.Definition.Channels.{noChannel, sumOf}
+use Rattle.rows.specs.Definition.Sizes.{chainLength}
+use Rattle.rows.specs.Laws.Sizes.{length-some}
 use Rattle.rows.specs.declared.Channel.{Channel}
-use Rattle.line.specs.Line.{Chain, closed}
+use Rattle.line.specs.Definition.Line.{Chain, closed}
 use Rattle.kernel.specs.Definition.Tables.{channelAt, ramSize, withChannels}
 use Rattle.kernel.specs.Definition.Good.{Good}
 use Rattle.kernel.specs.Definition.Line.{recordAt, sizeAt, shrunk, closing}

@@ -1,4 +1,4 @@
--- How the chain grows, and the room rule, as the code takes them. Assumes nothing.
+-- How the chain grows, and the room rule, as the code takes them.
 use mathlib.Core.Path.{_≡_, refl}
 use mathlib.Core.Bool.{_&&_}
 use Prim.Native.Nat.{ℕ, suc, _+_, _-_, _*_, _%_, _≤_, _<_}
@@ -6,10 +6,10 @@ use native.Mathlib.Omega.{arith}
 use borrow.Author.Tests.{lt-ltb, le-ltb}
 use lib.Dec.{leb, eqb}
 use lib.ListN.{take, set}
-use Rattle.rows.specs.Lists.{firstOf, lastOf, tally}
-use Rattle.rows.specs.Classes.{FREE, SYSTEM, SHARED}
-use Rattle.rows.specs.Channels.{sumOf}
-use Rattle.rows.specs.Sizes.{chainLength, boundaryAt}
+use Rattle.rows.specs.Definition.Lists.{firstOf, lastOf, tally}
+use Rattle.rows.specs.Definition.Classes.{FREE, SYSTEM, SHARED}
+use Rattle.rows.specs.Definition.Channels.{sumOf}
+use Rattle.rows.specs.Definition.Sizes.{chainLength, boundaryAt}
 use Rattle.kernel.specs.Definition.Tables.{SEGMENT, withSegments}
 use Rattle.kernel.specs.Definition.Line.{totalOf, oneMore, grown, roomFor}
 use Rattle.kernel.specs.declared.Tables.{Tables}

@@ -1,4 +1,4 @@
--- What owning the tables tells: the lengths of their arrays. Assumes nothing.
+-- What owning the tables tells: the lengths of their arrays.
 use mathlib.Core.Path.{_≡_, sym, _∙_}
 use mathlib.Core.List.{List, map}
 use Prim.Native.Nat.{ℕ}

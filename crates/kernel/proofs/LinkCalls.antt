@@ -1,4 +1,4 @@
--- The branches of link, as the code takes them. Assumes nothing.
+-- The branches of link, as the code takes them.
 use mathlib.Core.Path.{_≡_, refl, sym, _∙_}
 use mathlib.Core.Bool.{Bool, true, false, not, _||_, true≢false}
 use mathlib.Core.List.{List, map}
@@ -8,14 +8,14 @@ use borrow.Author.Tests.{lt-ltb, le-ltb, le-leb, lt-leb, ltb-false, not-true, no
 use lib.Dec.{ltb}
 use lib.ListN.{length, take, set}
 use lib.Seq.{take-all}
-use Rattle.rows.specs.Channels.{sumOf}
-use Rattle.rows.specs.Devices.{disabledBy}
-use Rattle.rows.specs.Sizes.{chainLength}
+use Rattle.rows.specs.Definition.Channels.{sumOf}
+use Rattle.rows.specs.Definition.Devices.{disabledBy}
+use Rattle.rows.specs.Definition.Sizes.{chainLength}
 use Rattle.rows.specs.declared.Device.{Device}
-use Rattle.names.specs.Runs.{link-right}
-use Rattle.names.specs.Tests.{linkTest}
-use Rattle.names.specs.Words.{wordOf}
-use Rattle.line.specs.Line.{Chain, linked}
+use Rattle.names.specs.Laws.Runs.{link-right}
+use Rattle.names.specs.Definition.Tests.{linkTest}
+use Rattle.names.specs.Definition.Words.{wordOf}
+use Rattle.line.specs.Definition.Line.{Chain, linked}
 use Rattle.kernel.specs.Definition.Tables.{ramSize, withDevices}
 use Rattle.kernel.specs.Definition.Good.{Good}
 use Rattle.kernel.specs.Definition.Line.{totalOf, grown, roomFor}

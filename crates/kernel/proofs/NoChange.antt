@@ -1,4 +1,4 @@
--- A chain that neither grows nor shrinks. Assumes nothing.
+-- A chain that neither grows nor shrinks.
 use mathlib.Core.Path.{_≡_}
 use Prim.Native.Nat.{ℕ}
 use Rattle.kernel.specs.Definition.Line.{grown, shrunk}

@@ -1,4 +1,4 @@
--- The branches of open, as the code takes them. Assumes nothing.
+-- The branches of open, as the code takes them.
 use mathlib.Core.Path.{_≡_, refl, sym, ap, _∙_}
 use mathlib.Core.Bool.{Bool, true, false, not}
 use mathlib.Core.List.{List, [], _∷_}
@@ -7,21 +7,22 @@ use native.Mathlib.Omega.{arith}
 use borrow.Author.Tests.{lt-ltb, le-ltb, le-leb, lt-leb, ne-eqb, ltb-false, not-false}
 use lib.Dec.{ltb}
 use lib.ListN.{length, take, set, length-take}
-use Rattle.rows.specs.Channels.{sumOf, rowIn, foundAt, found-at, found-nowhere}
-use Rattle.rows.specs.Devices.{deviceIn}
-use Rattle.rows.specs.Sizes.{chainLength}
+use Rattle.rows.specs.Definition.Channels.{sumOf, rowIn, foundAt}
+use Rattle.rows.specs.Laws.Channels.{found-at, found-nowhere}
+use Rattle.rows.specs.Definition.Devices.{deviceIn}
+use Rattle.rows.specs.Definition.Sizes.{chainLength}
 use Rattle.rows.specs.declared.Channel.{Channel}
 use Rattle.rows.specs.declared.Lookup.{Lookup}
 use Rattle.rows.specs.declared.Lookup.the-variants.{At, Nowhere}
-use Rattle.names.specs.Read.{reading}
-use Rattle.names.specs.Parts.{partsOf}
-use Rattle.names.specs.Places.{parts-refused}
-use Rattle.names.specs.Words.{wordOf}
+use Rattle.names.specs.Definition.Read.{reading}
+use Rattle.names.specs.Definition.Parts.{partsOf}
+use Rattle.names.specs.Laws.Places.{parts-refused}
+use Rattle.names.specs.Definition.Words.{wordOf}
 use Rattle.names.specs.declared.UnitNumber.{UnitNumber}
 use Rattle.names.specs.declared.UnitNumber.the-variants.{Given, Absent}
 use Rattle.names.specs.declared.Parts.{Parts}
 use Rattle.names.specs.declared.Parts.the-variants.{Refused, Read}
-use Rattle.line.specs.Line.{Chain, opened}
+use Rattle.line.specs.Definition.Line.{Chain, opened}
 use Rattle.kernel.specs.Definition.Tables.{ramSize, channelAt, withChannels}
 use Rattle.kernel.specs.Definition.Good.{Good}
 use Rattle.kernel.specs.Definition.Line.{totalOf, grown, roomFor, opening}

@@ -1,4 +1,4 @@
--- What a refused call leaves. Assumes nothing.
+-- What a refused call leaves.
 use mathlib.Core.Path.{_≡_}
 use mathlib.Core.Bool.{false}
 use mathlib.Core.List.{List}

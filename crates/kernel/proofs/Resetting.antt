@@ -1,16 +1,16 @@
--- The branches of reset, as the code takes them. Assumes nothing.
+-- The branches of reset, as the code takes them.
 use mathlib.Core.Path.{_≡_, refl, sym, _∙_}
 use mathlib.Core.Bool.{Bool, true, false, cond}
 use mathlib.Core.List.{List, map}
 use Prim.Native.Nat.{ℕ, _-_, _≤_, _<_}
 use native.Mathlib.Omega.{arith}
 use lib.ListN.{length, getD, take, replicate}
-use Rattle.rows.specs.Classes.{released}
-use Rattle.rows.specs.Channels.{noChannel, sumOf}
-use Rattle.rows.specs.Devices.{builtIn}
+use Rattle.rows.specs.Definition.Classes.{released}
+use Rattle.rows.specs.Definition.Channels.{noChannel, sumOf}
+use Rattle.rows.specs.Definition.Devices.{builtIn}
 use Rattle.rows.specs.declared.Channel.{Channel}
 use Rattle.rows.specs.declared.Device.{Device}
-use Rattle.line.specs.Line.{placeOf, putLine, Chain}
+use Rattle.line.specs.Definition.Line.{placeOf, putLine, Chain}
 use Rattle.line.proofs.Walks.{length-put}
 use Rattle.kernel.specs.Definition.Tables.{ramSize, withSegments, withChannels, withDevices}
 use Rattle.kernel.specs.Definition.Good.{Good}

@@ -1,4 +1,4 @@
--- The branches of the calls on segments, as the code takes them. Assumes nothing.
+-- The branches of the calls on segments, as the code takes them.
 use mathlib.Core.Path.{_≡_, refl, sym, _∙_}
 use mathlib.Core.Bool.{Bool, true, false, cond, _&&_}
 use mathlib.Core.List.{List}
@@ -6,12 +6,13 @@ use Prim.Native.Nat.{ℕ, _-_, _%_, _≤_, _<_}
 use native.Mathlib.Omega.{arith}
 use borrow.Author.Tests.{lt-ltb, le-ltb, eq-eqb, ne-eqb, eqb-true}
 use lib.ListN.{length, take, drop, set}
-use Rattle.line.specs.Ram.{taken}
+use Rattle.line.specs.Definition.Ram.{taken}
 use lib.Dec.{eqb}
-use Rattle.rows.specs.Lists.{at, firstOf, tally, and-left, and-right}
-use Rattle.rows.specs.Classes.{FREE, USER, SYSTEM, DEVICE, SHARED}
-use Rattle.rows.specs.Channels.{sumOf}
-use Rattle.rows.specs.Sizes.{boundaryAt}
+use Rattle.rows.specs.Definition.Lists.{at, firstOf, tally}
+use Rattle.rows.specs.Laws.Lists.{and-left, and-right}
+use Rattle.rows.specs.Definition.Classes.{FREE, USER, SYSTEM, DEVICE, SHARED}
+use Rattle.rows.specs.Definition.Channels.{sumOf}
+use Rattle.rows.specs.Definition.Sizes.{boundaryAt}
 use Rattle.kernel.specs.Definition.Tables.{SEGMENT, numberAt, rowOf, lastRow, countOf, withSegments}
 use Rattle.kernel.specs.Definition.Good.{Good}
 use Rattle.kernel.specs.Definition.Line.{boundaryOf}

@@ -1,12 +1,12 @@
--- The chain gives segments up, as the code goes about it. Assumes nothing.
+-- The chain gives segments up, as the code goes about it.
 use mathlib.Core.Path.{_≡_, refl}
 use Prim.Native.Nat.{ℕ, suc, _+_, _-_, _<_}
 use native.Mathlib.Omega.{arith}
 use borrow.Author.Tests.{eq-eqb, ne-eqb}
 use lib.ListN.{set}
 use lib.Seq.{getD-set-other}
-use Rattle.rows.specs.Lists.{at}
-use Rattle.rows.specs.Classes.{FREE, USER, SHARED}
+use Rattle.rows.specs.Definition.Lists.{at}
+use Rattle.rows.specs.Definition.Classes.{FREE, USER, SHARED}
 use Rattle.kernel.specs.Definition.Tables.{withSegments}
 use Rattle.kernel.specs.Definition.Line.{oneLess, shrunk}
 use Rattle.kernel.specs.Laws.Facts.{Fit}

@@ -1,4 +1,4 @@
--- Where the bytes of a call lie: in the buffer of an open channel, or in a segment that the user reaches. Assumes nothing.
+-- Where the bytes of a call lie: in the buffer of an open channel, or in a segment that the user reaches.
 use mathlib.Core.Path.{_≡_, refl, sym, _∙_}
 use mathlib.Core.Bool.{Bool, true, false, cond, _||_, not}
 use Prim.Native.Nat.{ℕ, _+_, _-_, _*_, _≤_, _<_}
@@ -7,12 +7,15 @@ use native.Mathlib.Omega.{arith}
 use borrow.Author.Tests.{lt-ltb, le-ltb, lt-leb, ne-eqb, ltb-true, ltb-false, not-false}
 use lib.Dec.{eqb, ltb, leb}
 use lib.ListN.{take}
-use Rattle.line.specs.Line.{Chain}
+use Rattle.line.specs.Definition.Line.{Chain}
 use Rattle.line.proofs.Places.{chain-less}
-use Rattle.rows.specs.Lists.{firstOf, and-left}
-use Rattle.rows.specs.Classes.{USER, SHARED}
-use Rattle.rows.specs.Channels.{rowIn, foundAt, found-at, found-nowhere}
-use Rattle.rows.specs.Sizes.{boundaryAt, edge-low, edge-high}
+use Rattle.rows.specs.Definition.Lists.{firstOf}
+use Rattle.rows.specs.Laws.Lists.{and-left}
+use Rattle.rows.specs.Definition.Classes.{USER, SHARED}
+use Rattle.rows.specs.Definition.Channels.{rowIn, foundAt}
+use Rattle.rows.specs.Laws.Channels.{found-at, found-nowhere}
+use Rattle.rows.specs.Definition.Sizes.{boundaryAt}
+use Rattle.rows.specs.Laws.Sizes.{edge-low, edge-high}
 use Rattle.rows.specs.declared.Lookup.{Lookup}
 use Rattle.rows.specs.declared.Lookup.the-variants.{At, Nowhere}
 use Rattle.kernel.specs.Definition.Tables.{SEGMENT, ramSize, classAt, rowOf, channelAt}

@@ -1,4 +1,4 @@
--- Start and default, as the code takes them. Assumes nothing.
+-- Start and default, as the code takes them.
 use mathlib.Core.Path.{_≡_, sym, _∙_}
 use mathlib.Core.Bool.{Bool, true, false, _&&_}
 use mathlib.Core.List.{List}
@@ -8,15 +8,16 @@ use borrow.Author.Tests.{le-leb, lt-leb, not-true, not-false}
 use lib.Dec.{leb, eqb}
 use lib.ListN.{length, take, set, replicate}
 use lib.Seq.{take-all}
-use Rattle.names.specs.Words.{wordOf}
-use Rattle.names.specs.Tests.{defaultTest}
-use Rattle.names.specs.Runs.{default-right}
-use Rattle.rows.specs.Lists.{padded, and-left}
-use Rattle.rows.specs.Classes.{fresh}
-use Rattle.rows.specs.Channels.{noChannel}
-use Rattle.rows.specs.Devices.{builtIn}
-use Rattle.rows.specs.Tests.{listTest}
-use Rattle.rows.specs.Join.{list-says}
+use Rattle.names.specs.Definition.Words.{wordOf}
+use Rattle.names.specs.Definition.Tests.{defaultTest}
+use Rattle.names.specs.Laws.Runs.{default-right}
+use Rattle.rows.specs.Definition.Lists.{padded}
+use Rattle.rows.specs.Laws.Lists.{and-left}
+use Rattle.rows.specs.Definition.Classes.{fresh}
+use Rattle.rows.specs.Definition.Channels.{noChannel}
+use Rattle.rows.specs.Definition.Devices.{builtIn}
+use Rattle.rows.specs.Definition.Tests.{listTest}
+use Rattle.rows.specs.Laws.Good.{list-says}
 use Rattle.rows.specs.declared.Device.{Device}
 use Rattle.kernel.specs.Definition.Tables.{withDefault}
 use Rattle.kernel.specs.Definition.Reset.{startTest, started}

@@ -1,4 +1,4 @@
--- The values of the refusals. Assumes nothing.
+-- The values of the refusals.
 use mathlib.Core.Path.{_≡_, refl}
 use mathlib.Core.List.{List, [], _∷_}
 use Prim.Native.Nat.{ℕ}

@@ -6,8 +6,9 @@ use Prim.Native.Nat.{ℕ, _<_}
 use lib.ListN.{length, getD}
 use lib.Dec.{eqb}
 use borrow.Author.Tests.{eqb-true}
-use Rattle.rows.specs.Lists.{every, every-at, and-left, and-right, upTo}
-use Rattle.rows.specs.Sizes.{chainLength, boundaryAt}
+use Rattle.rows.specs.Definition.Lists.{every, upTo}
+use Rattle.rows.specs.Laws.Lists.{every-at, and-left, and-right}
+use Rattle.rows.specs.Definition.Sizes.{chainLength, boundaryAt}
 use Rattle.kernel.specs.Definition.Line.{grown, shrunk}
 use Rattle.kernel.specs.Definition.Reset.{noTables}
 use Rattle.kernel.specs.Definition.Answers.{numberOf, aOf, bOf}

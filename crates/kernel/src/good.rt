@@ -2,7 +2,7 @@
 ghost use mathlib.Core.Path.{_≡_};
 ghost use mathlib.Core.Bool.{true};
 ghost use Prim.Native.Nat.{_≤_};
-ghost use Rattle.rows.specs.Lists.{at};
+ghost use Rattle.rows.specs.Definition.Lists.{at};
 ghost use Rattle.kernel.specs.Definition.Good.{Good, sizesTest, goodTest};
 ghost use Rattle.kernel.specs.Definition.Line.{boundaryOf};
 ghost use Rattle.kernel.specs.Definition.Answers.{gives};

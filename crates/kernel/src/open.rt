@@ -4,7 +4,7 @@ ghost use mathlib.Core.List.{List, []};
 ghost use Prim.Native.Nat.{ℕ, _≤_, _<_};
 ghost use lib.Dec.{ltb};
 ghost use lib.ListN.{length, take};
-ghost use Rattle.names.specs.Read.{reading};
+ghost use Rattle.names.specs.Definition.Read.{reading};
 ghost use Rattle.kernel.specs.Definition.Tables.{ramSize, channelAt};
 ghost use Rattle.kernel.specs.Definition.Good.{Good};
 ghost use Rattle.kernel.specs.Definition.Line.{opening};

@@ -3,7 +3,7 @@ ghost use mathlib.Core.Path.{_≡_};
 ghost use mathlib.Core.List.{List};
 ghost use Prim.Native.Nat.{ℕ, _-_};
 ghost use lib.ListN.{length, replicate};
-ghost use Rattle.line.specs.Line.{putLine};
+ghost use Rattle.line.specs.Definition.Line.{putLine};
 ghost use Rattle.kernel.specs.Definition.Tables.{ramSize};
 ghost use Rattle.kernel.specs.Definition.Good.{Good};
 ghost use Rattle.kernel.specs.Definition.Line.{totalOf};

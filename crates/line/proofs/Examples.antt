@@ -1,10 +1,10 @@
--- A chain that holds a line exists, and places are what 01 says they are. Assumes nothing.
+-- A chain that holds a line exists, and places are what 01 says they are.
 use mathlib.Core.Path.{_≡_, refl}
 use mathlib.Core.List.{List, [], _∷_}
 use Prim.Native.Nat.{ℕ, zero, suc, _+_, _*_, _<_, _≤_}
 use native.Mathlib.Omega.{arith}
 use lib.ListN.{getD}
-use Rattle.line.specs.Line.{chainIndexOf, offsetOf, placeOf, headingOf, Chain}
+use Rattle.line.specs.Definition.Line.{chainIndexOf, offsetOf, placeOf, headingOf, Chain}
 
 two : List ℕ
 two = 1 ∷ 0 ∷ []

@@ -1,11 +1,11 @@
--- What is put on a line that its chain holds, and what is read there afterwards. Assumes nothing.
+-- What is put on a line that its chain holds, and what is read there afterwards.
 use mathlib.Core.Path.{_≡_, ap, _∙_}
 use mathlib.Core.List.{List}
 use Prim.Native.Nat.{ℕ, _+_, _-_, _<_, _≤_}
 use native.Mathlib.Omega.{arith}
 use lib.ListN.{length, getD}
 use lib.Seq.{ext-getD}
-use Rattle.line.specs.Line.{placeOf, lineFrom, putLine, Chain}
+use Rattle.line.specs.Definition.Line.{placeOf, lineFrom, putLine, Chain}
 use Rattle.line.proofs.Walks.{length-bytes, bytes-at, bytes-kept, put-at, put-same}
 use Rattle.line.proofs.Places.{place-inside, place-apart, place-shift}
 

@@ -1,10 +1,10 @@
--- What the line holds after an open, a close and a link: every record that stays has all its bytes. Assumes nothing.
+-- What the line holds after an open, a close and a link: every record that stays has all its bytes.
 use mathlib.Core.Path.{_≡_, ap, _∙_}
 use mathlib.Core.List.{List, _++_}
 use Prim.Native.Nat.{ℕ, _+_, _-_, _≤_}
 use native.Mathlib.Omega.{arith}
 use lib.ListN.{length, getD, replicate, length-append, length-replicate}
-use Rattle.line.specs.Line.{placeOf, lineFrom, headingOf, closed, opened, linked, Chain}
+use Rattle.line.specs.Definition.Line.{placeOf, lineFrom, headingOf, closed, opened, linked, Chain}
 use Rattle.line.proofs.Walks.{bytes-agree, length-bytes}
 use Rattle.line.proofs.Held.{held-put, held-other}
 use Rattle.line.proofs.Makes.{length-heading}

@@ -1,4 +1,4 @@
--- What is lent on of a buffer: its bytes, the last of them first. Assumes nothing.
+-- What is lent on of a buffer: its bytes, the last of them first.
 use mathlib.Core.Path.{_≡_, refl, sym, ap, _∙_}
 use mathlib.Core.Logic.{by-cases}
 use mathlib.Core.List.{List, []}
@@ -9,8 +9,8 @@ use lib.ListN.{length, getD, take, drop, length-drop}
 use lib.Seq.{getD-take, getD-drop, length-take-le}
 use borrow.Author.Tests.{lt-ltb, eq-eqb, ne-eqb}
 use Rattle.line.specs.declared.Lent.the-variants.{Part, Nothing}
-use Rattle.line.specs.Line.{chainIndexOf, offsetOf, placeOf, lineFrom, Chain}
-use Rattle.line.specs.Lent.{lentAt, partOf}
+use Rattle.line.specs.Definition.Line.{chainIndexOf, offsetOf, placeOf, lineFrom, Chain}
+use Rattle.line.specs.Definition.Lent.{lentAt, partOf}
 use Rattle.line.proofs.Walks.{bytes-at}
 use Rattle.line.proofs.Places.{link-low, link-high, offset-low, offset-high, place-inside, place-fall, place-offset}
 

@@ -1,4 +1,4 @@
--- A turn of each loop that puts bytes along a walk, whatever the walk. Assumes nothing.
+-- A turn of each loop that puts bytes along a walk, whatever the walk.
 use mathlib.Core.Path.{_≡_, refl, sym, ap, _∙_}
 use mathlib.Core.List.{List, [], _++_}
 use Prim.Native.Nat.{ℕ, zero, suc, _+_, _-_, _<_}
@@ -6,8 +6,8 @@ use native.Mathlib.Nat.{zero-add}
 use native.Mathlib.Numerals.{add-one}
 use native.Mathlib.Omega.{arith}
 use lib.ListN.{length, getD, set, replicate, length-replicate, replicate-append-replicate}
-use Rattle.line.specs.Ram.{bytesFrom, putFrom}
-use Rattle.line.specs.Runs.{Ahead}
+use Rattle.line.specs.Definition.Ram.{bytesFrom, putFrom}
+use Rattle.line.specs.Laws.Runs.{Ahead}
 use Rattle.line.proofs.Walks.{length-bytes, bytes-append, bytes-same, put-append, put-set, put-same, bytes-kept}
 
 -- some bytes are put already, and a turn puts those that follow

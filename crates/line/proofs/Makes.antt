@@ -1,10 +1,10 @@
--- What the calls of an open, a close and a link make together, and the size of it. Assumes nothing.
+-- What the calls of an open, a close and a link make together, and the size of it.
 use mathlib.Core.Path.{_≡_, refl, sym, _∙_}
 use mathlib.Core.List.{List, _++_}
 use Prim.Native.Nat.{ℕ, _+_, _-_, _≤_}
 use native.Mathlib.Omega.{arith}
 use lib.ListN.{length, replicate}
-use Rattle.line.specs.Line.{placeOf, lineFrom, putLine, headingOf, opened, closed, linked}
+use Rattle.line.specs.Definition.Line.{placeOf, lineFrom, putLine, headingOf, opened, closed, linked}
 use Rattle.line.proofs.Walks.{length-put, length-bytes, put-append}
 use Rattle.line.proofs.Held.{put-lower}
 

@@ -1,12 +1,12 @@
--- A turn of each loop that moves a run of the line, up or down, in place. Assumes nothing.
+-- A turn of each loop that moves a run of the line, up or down, in place.
 use mathlib.Core.Path.{_≡_, sym, ap, _∙_}
 use mathlib.Core.List.{List}
 use Prim.Native.Nat.{ℕ, _+_, _-_, _<_, _≤_, _%_}
 use native.Mathlib.Nat.{add-zero, zero-add}
 use native.Mathlib.Omega.{arith}
-use Rattle.line.specs.Ram.{bytesFrom, putFrom}
-use Rattle.line.specs.Runs.{rise, Ahead, fall, reachOf}
-use Rattle.line.specs.Line.{placeOf, lineFrom, putLine, Chain}
+use Rattle.line.specs.Definition.Ram.{bytesFrom, putFrom}
+use Rattle.line.specs.Laws.Runs.{rise, Ahead, fall, reachOf}
+use Rattle.line.specs.Definition.Line.{placeOf, lineFrom, putLine, Chain}
 use Rattle.line.proofs.Walks.{length-bytes, bytes-same, put-same}
 use Rattle.line.proofs.Loops.{move-next, copy-back}
 use Rattle.line.proofs.Places.{place-inside, place-apart, place-rise, fall-run}

@@ -1,4 +1,4 @@
--- Laws of the places of the line's positions. Assumes nothing.
+-- Laws of the places of the line's positions.
 use mathlib.Core.Path.{_≡_, sym, _∙_}
 use mathlib.Core.Logic.{by-cases}
 use mathlib.Core.List.{List}
@@ -7,8 +7,8 @@ use native.Mathlib.Decide.{decLt}
 use native.Mathlib.Omega.{arith}
 use lib.ListN.{getD}
 use borrow.Author.Tests.{lt-ltb, le-ltb}
-use Rattle.line.specs.Line.{chainIndexOf, offsetOf, placeOf, Chain}
-use Rattle.line.specs.Runs.{reachOf}
+use Rattle.line.specs.Definition.Line.{chainIndexOf, offsetOf, placeOf, Chain}
+use Rattle.line.specs.Laws.Runs.{reachOf}
 
 -- the two cases of a position: in the room of the chain's first segment, or past it
 

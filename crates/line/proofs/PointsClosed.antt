@@ -1,4 +1,4 @@
--- `closed` is the one RAM that `Closed` says byte by byte. Assumes nothing.
+-- `closed` is the one RAM that `Closed` says byte by byte.
 use mathlib.Core.Path.{_≡_, sym, ap, _∙_}
 use mathlib.Core.List.{List, _++_}
 use mathlib.Core.Logic.{by-cases}
@@ -6,8 +6,8 @@ use Prim.Native.Nat.{ℕ, _+_, _-_, _<_, _≤_}
 use native.Mathlib.Omega.{arith}
 use native.Mathlib.Decide.{decLt}
 use lib.ListN.{length, replicate, length-replicate, length-append, List·getD-append}
-use Rattle.line.specs.Line.{placeOf, lineFrom, closed, Chain}
-use Rattle.line.specs.Points.{Closed}
+use Rattle.line.specs.Definition.Line.{placeOf, lineFrom, closed, Chain}
+use Rattle.line.specs.Laws.Points.{Closed}
 use Rattle.line.proofs.Walks.{length-bytes, bytes-at, length-put, put-elsewhere}
 use Rattle.line.proofs.Held.{held-at}
 use Rattle.line.proofs.Points.{one-ram, zero-after}

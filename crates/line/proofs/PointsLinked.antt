@@ -1,4 +1,4 @@
--- `linked` is the one RAM that `Linked` says byte by byte. Assumes nothing.
+-- `linked` is the one RAM that `Linked` says byte by byte.
 use mathlib.Core.Path.{_≡_, sym, ap, _∙_}
 use mathlib.Core.List.{List}
 use mathlib.Core.Logic.{by-cases}
@@ -7,8 +7,8 @@ use native.Mathlib.Nat.{zero-add}
 use native.Mathlib.Omega.{arith}
 use native.Mathlib.Decide.{decLt}
 use lib.ListN.{length, getD, replicate, length-replicate, getD-replicate}
-use Rattle.line.specs.Line.{placeOf, lineFrom, putLine, linked, Chain}
-use Rattle.line.specs.Points.{Linked}
+use Rattle.line.specs.Definition.Line.{placeOf, lineFrom, putLine, linked, Chain}
+use Rattle.line.specs.Laws.Points.{Linked}
 use Rattle.line.proofs.Walks.{length-bytes, bytes-at, length-put, put-elsewhere}
 use Rattle.line.proofs.Places.{place-low, place-apart, chain-less, place-shift}
 use Rattle.line.proofs.Held.{held-at, put-lower}

@@ -1,4 +1,4 @@
--- `opened` is the one RAM that `Opened` says byte by byte. Assumes nothing.
+-- `opened` is the one RAM that `Opened` says byte by byte.
 use mathlib.Core.Path.{_≡_, sym, _∙_}
 use mathlib.Core.List.{List, _++_}
 use mathlib.Core.Logic.{by-cases}
@@ -6,8 +6,8 @@ use Prim.Native.Nat.{ℕ, _+_, _-_}
 use native.Mathlib.Omega.{arith}
 use native.Mathlib.Decide.{decLt}
 use lib.ListN.{length, replicate, length-replicate, length-append, List·getD-append}
-use Rattle.line.specs.Line.{placeOf, headingOf, opened, Chain}
-use Rattle.line.specs.Points.{Opened}
+use Rattle.line.specs.Definition.Line.{placeOf, headingOf, opened, Chain}
+use Rattle.line.specs.Laws.Points.{Opened}
 use Rattle.line.proofs.Walks.{length-put, put-elsewhere}
 use Rattle.line.proofs.Held.{held-at}
 use Rattle.line.proofs.Makes.{length-heading}

@@ -1,4 +1,4 @@
--- Walks up from an index: bytes that lie side by side, as parts of lists. Assumes nothing.
+-- Walks up from an index: bytes that lie side by side, as parts of lists.
 use mathlib.Core.Path.{_≡_, refl, sym, ap, _∙_}
 use mathlib.Core.List.{List, [], _∷_, append-assoc, append-nil}
 use Prim.Native.Nat.{ℕ, zero, suc, _+_, _≤_}
@@ -6,8 +6,8 @@ use native.Mathlib.Nat.{add-zero, zero-add}
 use native.Mathlib.Omega.{arith}
 use lib.ListN.{length, getD, set, take, drop, replicate, length-replicate}
 use lib.Seq.{sets, sets-eq, drop-cons, take-length, drop-length}
-use Rattle.line.specs.Ram.{bytesFrom, putFrom, putAt, taken}
-use Rattle.line.specs.Runs.{rise}
+use Rattle.line.specs.Definition.Ram.{bytesFrom, putFrom, putAt, taken}
+use Rattle.line.specs.Laws.Runs.{rise}
 use Rattle.line.proofs.Walks.{length-bytes}
 
 rise-bytes-from : (at p : ℕ) (ram : List ℕ) (n : ℕ) → at + p + n ≤ length ram → bytesFrom (rise at) ram p n ≡ take n (drop (at + p) ram)

@@ -1,13 +1,13 @@
--- A turn of each loop that clears, puts or gets a run of the line. Assumes nothing.
+-- A turn of each loop that clears, puts or gets a run of the line.
 use mathlib.Core.Path.{_≡_, _∙_}
 use mathlib.Core.List.{List}
 use Prim.Native.Nat.{ℕ, _+_, _-_, _<_, _≤_, _%_}
 use native.Mathlib.Nat.{zero-add}
 use native.Mathlib.Omega.{arith}
 use lib.ListN.{length, replicate, length-replicate}
-use Rattle.line.specs.Ram.{bytesFrom, putFrom, taken}
-use Rattle.line.specs.Runs.{rise, fall}
-use Rattle.line.specs.Line.{placeOf, lineFrom, putLine}
+use Rattle.line.specs.Definition.Ram.{bytesFrom, putFrom, taken}
+use Rattle.line.specs.Laws.Runs.{rise, fall}
+use Rattle.line.specs.Definition.Line.{placeOf, lineFrom, putLine}
 use Rattle.line.proofs.Walks.{length-bytes, bytes-same, put-same}
 use Rattle.line.proofs.Loops.{zero-next, copy-next, put-none, copy-none}
 use Rattle.line.proofs.Sides.{rise-taken}

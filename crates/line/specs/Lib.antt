@@ -1,6 +1,3 @@
--- The definition of the line of channel RAM.
-pub mod Ram
-pub mod Line
-pub mod Lent
-pub mod Points
-pub mod Runs
+-- The line of channel RAM: the definition, and how it is said of bytes and of runs.
+pub mod Definition
+pub mod Laws

@@ -2,10 +2,10 @@
 ghost use mathlib.Core.Path.{_≡_};
 ghost use Prim.Native.Nat.{_+_, _-_, _*_, _<_, _≤_};
 ghost use lib.ListN.{length, replicate};
-ghost use Rattle.line.specs.Ram.{taken};
-ghost use Rattle.line.specs.Line.{placeOf, lineFrom, putLine, headingOf, closed, linked, opened, Chain};
-ghost use Rattle.line.specs.Runs.{reachOf};
-ghost use Rattle.line.specs.Lent.{lentAt, partOf};
+ghost use Rattle.line.specs.Definition.Ram.{taken};
+ghost use Rattle.line.specs.Definition.Line.{placeOf, lineFrom, putLine, headingOf, closed, linked, opened, Chain};
+ghost use Rattle.line.specs.Laws.Runs.{reachOf};
+ghost use Rattle.line.specs.Definition.Lent.{lentAt, partOf};
 
 pub mod ram;
 mod runs;

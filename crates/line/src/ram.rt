@@ -2,7 +2,7 @@
 ghost use mathlib.Core.Path.{_≡_};
 ghost use Prim.Native.Nat.{_+_, _≤_};
 ghost use lib.ListN.{length, replicate, take, drop};
-ghost use Rattle.line.specs.Ram.{putAt, taken};
+ghost use Rattle.line.specs.Definition.Ram.{putAt, taken};
 
 // Every byte becomes zero.
 pub fn zero_all(ram: &mut [u8])

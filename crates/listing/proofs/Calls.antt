@@ -1,4 +1,4 @@
--- A record's call: how much RAM it is lent, what it answers before an accepted start, and what the record leaves. Assumes nothing.
+-- A record's call: how much RAM it is lent, what it answers before an accepted start, and what the record leaves.
 use mathlib.Core.Path.{_≡_, refl, ap, _∙_}
 use mathlib.Core.Bool.{false}
 use mathlib.Core.List.{List, _++_}
@@ -13,13 +13,13 @@ use Rattle.kernel.specs.Definition.Step.{Result, accepted, result}
 use Rattle.kernel.specs.declared.Tables.{Tables}
 use Rattle.kernel.specs.declared.Outcome.{Outcome}
 use Rattle.kernel.specs.declared.Answer.the-variants.{BadTables}
-use Rattle.events.specs.Records.{stepOf}
-use Rattle.events.specs.Bodies.{Bytes}
+use Rattle.events.specs.Definition.Records.{stepOf}
+use Rattle.events.specs.Laws.Bodies.{Bytes}
 use Rattle.events.proofs.ByKind.{bad-tables}
-use Rattle.text.specs.Text.{Put}
-use Rattle.listing.specs.Log.{lineOf, lentTo, onRest, logStep}
-use Rattle.listing.specs.Held.{Held, held-step}
-use Rattle.listing.specs.Pieces.{Stepped}
+use Rattle.text.specs.Definition.Text.{Put}
+use Rattle.listing.specs.Definition.Log.{lineOf, lentTo, onRest, logStep}
+use Rattle.listing.specs.Laws.Held.{Held, held-step}
+use Rattle.listing.specs.Laws.Pieces.{Stepped}
 
 pub lent-other : (segments kind size n : ℕ) → (kind ≡ 256 → ⊥) → n ≡ min 4 segments → 16384 * n ≡ lentTo segments kind size
 unfolding lentTo

@@ -1,4 +1,4 @@
--- What carries over from record to record. Assumes nothing.
+-- What carries over from record to record.
 use mathlib.Core.Path.{_≡_, refl, sym, ap, _∙_}
 use mathlib.Core.List.{List, append-assoc, _++_}
 use Prim.Native.Nat.{ℕ, suc, _+_, _-_, _<_}
@@ -8,11 +8,11 @@ use lib.ListN.{length, getD, take, drop, set, length-drop}
 use lib.Seq.{drop-drop, getD-drop, take-suc-set, take-suc, drop-set-lt}
 use borrow.Author.Tests.{eq-eqb, ne-eqb}
 use Rattle.kernel.specs.declared.Tables.{Tables}
-use Rattle.text.specs.Text.{Put}
+use Rattle.text.specs.Definition.Text.{Put}
 use Rattle.text.proofs.Laws.{put-none}
-use Rattle.listing.specs.Log.{broken, next, textFrom, badText}
-use Rattle.listing.specs.Laws.{text-found, text-broken}
-use Rattle.listing.specs.Pieces.{Stepped, Whole, Carry, ending}
+use Rattle.listing.specs.Definition.Log.{broken, next, textFrom, badText}
+use Rattle.listing.specs.Laws.Log.{text-found, text-broken}
+use Rattle.listing.specs.Laws.Pieces.{Stepped, Whole, Carry, ending}
 
 pub carry-none : (t : Tables) (ram out xs text : List ℕ) → Carry t ram out xs t ram out (drop 0 xs) (take 0 text)
 carry-none t ram out xs text = record { holds = λ ys. refl }

@@ -1,4 +1,4 @@
--- What stands at the front of the input, by its length. Assumes nothing.
+-- What stands at the front of the input, by its length.
 use mathlib.Core.Path.{_≡_, _∙_, sym}
 use mathlib.Core.List.{List, _++_}
 use Prim.Native.Nat.{ℕ, _+_, _-_, _<_, _≤_}
@@ -6,12 +6,12 @@ use native.Mathlib.Omega.{arith}
 use lib.ListN.{length, take, drop, length-append, length-drop, List·getD-append}
 use lib.Seq.{take-append-le, drop-append-le}
 use borrow.Author.Tests.{ne-eqb, lt-ltb, le-ltb}
-use Rattle.events.specs.Records.{u16At}
+use Rattle.events.specs.Definition.Records.{u16At}
 use Rattle.events.proofs.Laws.{rest-of}
 use Rattle.listing.specs.declared.Front.{Front}
 use Rattle.listing.specs.declared.Front.the-variants.{Record, Cut, Bad}
-use Rattle.listing.specs.Log.{broken, found, next}
-use Rattle.listing.specs.Pieces.{Short, Whole, Stands}
+use Rattle.listing.specs.Definition.Log.{broken, found, next}
+use Rattle.listing.specs.Laws.Pieces.{Short, Whole, Stands}
 
 -- less than a length
 pub short-two : (xs : List ℕ) → length xs < 2 → Short xs

@@ -1,4 +1,4 @@
--- A line, from its parts. Assumes nothing.
+-- A line, from its parts.
 use mathlib.Core.Path.{_≡_, refl, sym, _∙_}
 use mathlib.Core.Bool.{Bool, true, false, _&&_}
 use mathlib.Core.List.{List, [], _∷_, append-nil}
@@ -8,9 +8,9 @@ use lib.ListN.{length, take}
 use lib.Seq.{take-all}
 use lib.Dec.{ltb}
 use borrow.Author.Tests.{eq-eqb, ne-eqb}
-use Rattle.text.specs.Text.{Put, fieldsOf, hexOf}
+use Rattle.text.specs.Definition.Text.{Put, fieldsOf, hexOf}
 use Rattle.text.proofs.Laws.{put-then}
-use Rattle.listing.specs.Log.{showsOf, lineOf}
+use Rattle.listing.specs.Definition.Log.{showsOf, lineOf}
 
 pub beyond : (n b : ℕ) → n ≤ b → (xs : List ℕ) → length xs ≡ n → take n xs ≡ take b xs
 beyond n b h xs e = take-all n xs (omega arith) ∙ sym (take-all b xs (omega arith))

@@ -1,4 +1,4 @@
--- The text of a whole log, from the lines of its buffer. Assumes nothing.
+-- The text of a whole log, from the lines of its buffer.
 use mathlib.Core.Path.{_≡_, sym, _∙_}
 use mathlib.Core.List.{List, [], _++_, append-nil}
 use Prim.Native.Nat.{ℕ, _+_, _≤_, _<_}
@@ -7,12 +7,12 @@ use lib.ListN.{length, take, replicate, length-append}
 use lib.Seq.{length-take-le}
 use Rattle.kernel.specs.Definition.Reset.{noTables}
 use Rattle.kernel.specs.declared.Tables.{Tables}
-use Rattle.text.specs.Text.{Put}
+use Rattle.text.specs.Definition.Text.{Put}
 use Rattle.listing.specs.declared.Stop.{Stop}
 use Rattle.listing.specs.declared.Stop.the-variants.{More, Full, Bad}
-use Rattle.listing.specs.Log.{textFrom, listing}
-use Rattle.listing.specs.Pieces.{Short, Carry, Drains, ending}
-use Rattle.listing.specs.Reading.{text-short}
+use Rattle.listing.specs.Definition.Log.{textFrom, listing}
+use Rattle.listing.specs.Laws.Pieces.{Short, Carry, Drains, ending}
+use Rattle.listing.specs.Laws.Reading.{text-short}
 
 pub room-left : (t : Tables) (ram out log : List ℕ) (t′ : Tables) (ram′ out′ left text : List ℕ) (used : ℕ) (stop : Stop) → stop ≡ More
     → Drains t ram out log t′ ram′ out′ left text used stop → Short left × (used + 8217 ≤ length text)

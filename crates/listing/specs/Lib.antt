@@ -1,8 +1,3 @@
--- The definition of the listing, its laws, and 01's example.
-pub mod Log
+-- The listing: the definition, and the laws about it.
+pub mod Definition
 pub mod Laws
-pub mod Starts
-pub mod Example
-pub mod Held
-pub mod Pieces
-pub mod Reading

@@ -2,8 +2,8 @@
 ghost use mathlib.Core.Path.{_≡_};
 ghost use Prim.Native.Nat.{ℕ, _+_, _≤_, _<_};
 ghost use lib.ListN.{length, take, drop};
-ghost use Rattle.listing.specs.Held.{Held};
-ghost use Rattle.listing.specs.Pieces.{Stands, Drains};
+ghost use Rattle.listing.specs.Laws.Held.{Held};
+ghost use Rattle.listing.specs.Laws.Pieces.{Stands, Drains};
 use super::Drained;
 use super::Front;
 use super::Stop;

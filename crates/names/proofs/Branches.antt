@@ -7,11 +7,11 @@ use lib.ListN.{length, getD, take, drop, length-drop}
 use lib.Seq.{take-all}
 use borrow.Author.Tests.{le-leb, lt-leb, eq-eqb, ne-eqb}
 use native.Mathlib.Omega.{arith}
-use Rattle.names.specs.Grammar.{UnitPart, plain, dashed, unit-text, value}
-use Rattle.names.specs.Tests.{runOf, fileTest}
-use Rattle.names.specs.Read.{numberOf, withDigits, withUnit, withHead, withColon, withoutColon, reading}
-use Rattle.names.specs.Parts.{unitNumber, partsOf}
-use Rattle.names.specs.Numbers.{number-right, number-finds}
+use Rattle.names.specs.Definition.Grammar.{UnitPart, plain, dashed, unit-text, value}
+use Rattle.names.specs.Definition.Tests.{runOf, fileTest}
+use Rattle.names.specs.Definition.Read.{numberOf, withDigits, withUnit, withHead, withColon, withoutColon, reading}
+use Rattle.names.specs.Definition.Parts.{unitNumber, partsOf}
+use Rattle.names.specs.Laws.Numbers.{number-right, number-finds}
 use Rattle.names.specs.declared.Kind.the-variants.{Letter, BeforeColon}
 use Rattle.names.specs.declared.UnitNumber.the-variants.{Given, Absent}
 use Rattle.names.specs.declared.Parts.{Parts}

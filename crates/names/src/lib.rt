@@ -2,12 +2,12 @@
 ghost use mathlib.Core.Path.{_≡_};
 ghost use Prim.Native.Nat.{_+_, _*_, _-_, _≤_, _<_, min};
 ghost use lib.ListN.{take};
-ghost use Rattle.names.specs.Grammar.{All, Digit, value};
-ghost use Rattle.names.specs.Words.{upper, wordOf};
-ghost use Rattle.names.specs.Tests.{ofKind, runOf, fileTest, nameTest, linkTest, defaultTest};
-ghost use Rattle.names.specs.Read.{capped, numberOf, withoutColon, reading};
-ghost use Rattle.names.specs.Parts.{partsOf};
-ghost use Rattle.names.specs.Steps.{OfDigits, OfRest, OfHead};
+ghost use Rattle.names.specs.Definition.Grammar.{All, Digit, value};
+ghost use Rattle.names.specs.Definition.Words.{upper, wordOf};
+ghost use Rattle.names.specs.Definition.Tests.{ofKind, runOf, fileTest, nameTest, linkTest, defaultTest};
+ghost use Rattle.names.specs.Definition.Read.{capped, numberOf, withoutColon, reading};
+ghost use Rattle.names.specs.Definition.Parts.{partsOf};
+ghost use Rattle.names.specs.Laws.Steps.{OfDigits, OfRest, OfHead};
 
 // A kind of byte, of which a part of a name is a run.
 enum Kind {

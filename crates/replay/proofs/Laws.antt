@@ -1,4 +1,4 @@
--- What is carried from record to record: good tables with RAM of their size. Assumes nothing.
+-- What is carried from record to record: good tables with RAM of their size.
 use mathlib.Core.Path.{_≡_, refl, sym, ap, _∙_}
 use mathlib.Core.Bool.{Bool, true}
 use mathlib.Core.List.{List, _∷_}
@@ -8,17 +8,17 @@ use borrow.Author.Tests.{eqb-true}
 use lib.Dec.{eqb}
 use lib.ListN.{length, take, drop, length-take, length-drop}
 use lib.Seq.{drop-drop}
-use Rattle.rows.specs.Lists.{and-right}
+use Rattle.rows.specs.Laws.Lists.{and-right}
 use Rattle.kernel.specs.Definition.Tables.{ramSize}
 use Rattle.kernel.specs.Definition.Good.{Good, goodTest}
 use Rattle.kernel.specs.Definition.Step.{Result, accepted, result, completed, step}
 use Rattle.kernel.specs.Laws.Ready.{Ready, decided-ready}
 use Rattle.kernel.specs.declared.Tables.{Tables}
 use Rattle.kernel.specs.declared.Outcome.{Outcome}
-use Rattle.events.specs.Records.{u16At, decode, stepOf}
-use Rattle.events.specs.Bodies.{Bytes, decode-fields}
-use Rattle.replay.specs.Replay.{sizeOf, front, records, bytesOf, asked, replayed}
-use Rattle.replay.specs.Laws.{whole-size, records-none, records-more, at-front}
+use Rattle.events.specs.Definition.Records.{u16At, decode, stepOf}
+use Rattle.events.specs.Laws.Bodies.{Bytes, decode-fields}
+use Rattle.replay.specs.Definition.Replay.{sizeOf, front, records, bytesOf, asked, replayed}
+use Rattle.replay.specs.Laws.Records.{whole-size, records-none, records-more, at-front}
 
 pub accepted-ready : (t : Tables) (ram : ℕ) (b : Bool) → b ≡ accepted t ram → (b ≡ true → Good t) → b ≡ true → Ready t ram
 accepted-ready t ram b e g h = record { good = g h; size = eqb-true ram (ramSize t) (and-right (goodTest t) (eqb ram (ramSize t)) (sym e ∙ h)) }

@@ -1,5 +1,3 @@
--- The run of the definition over a buffer of event records, its laws, and that it is a run of history.
-pub mod Replay
+-- A replay: the definition, and the laws about it.
+pub mod Definition
 pub mod Laws
-pub mod Runs
-mod Example

@@ -1,4 +1,4 @@
--- The devices that are built in have names, so their rows need no test for one. Assumes nothing.
+-- The devices that are built in have names, so their rows need no test for one.
 use mathlib.Core.Path.{_≡_, refl, _∙_}
 use mathlib.Core.Bool.{Bool, true, false, _&&_, _||_}
 use mathlib.Core.List.{List}
@@ -8,10 +8,11 @@ use native.Mathlib.Decide.{decLt}
 use borrow.Author.Tests.{lt-ltb, le-ltb}
 use lib.Dec.{leb, ltb}
 use lib.ListN.{length, getD}
-use Rattle.rows.specs.Lists.{padded, below, upTo, below-same, and-left, and-right}
-use Rattle.rows.specs.Devices.{noDevice, sameName, VIDEO, NET, KEYBOARD}
-use Rattle.rows.specs.Tests.{letterRow, nameTest, aliasRow, agree, deviceRow, namedRow, builtTest}
-use Rattle.rows.specs.Join.{same-says}
+use Rattle.rows.specs.Definition.Lists.{padded, below, upTo}
+use Rattle.rows.specs.Laws.Lists.{below-same, and-left, and-right}
+use Rattle.rows.specs.Definition.Devices.{noDevice, sameName, VIDEO, NET, KEYBOARD}
+use Rattle.rows.specs.Definition.Tests.{letterRow, nameTest, aliasRow, agree, deviceRow, namedRow, builtTest}
+use Rattle.rows.specs.Laws.Good.{same-says}
 use Rattle.rows.specs.declared.Device.{Device}
 
 abbrev someName : List ℕ → ℕ → Bool

@@ -1,10 +1,10 @@
--- A device once one of some name is linked: disabled if it has the name, else as it was. Assumes nothing.
+-- A device once one of some name is linked: disabled if it has the name, else as it was.
 use mathlib.Core.Path.{_≡_, sym, ap}
 use mathlib.Core.Bool.{Bool, true, false, not, _&&_, and-false}
 use mathlib.Core.List.{List}
 use Prim.Native.Nat.{ℕ}
-use Rattle.rows.specs.Lists.{and-yes}
-use Rattle.rows.specs.Devices.{sameName, disabledBy}
+use Rattle.rows.specs.Laws.Lists.{and-yes}
+use Rattle.rows.specs.Definition.Devices.{sameName, disabledBy}
 use Rattle.rows.specs.declared.Device.{Device}
 
 module _ (s : List ℕ) (n : ℕ) (d : Device) (same : Bool) (e : same ≡ sameName (d .name) (d .length) s n) where

@@ -1,4 +1,4 @@
--- Elements moved up by one, one store a turn: the loop's invariant and its laws, for any element type. Assumes nothing.
+-- Elements moved up by one, one store a turn: the loop's invariant and its laws, for any element type.
 use mathlib.Core.Path.{_≡_, refl, ap, sym, _∙_}
 use mathlib.Core.List.{List, [], _∷_, _++_, append-assoc, append-nil}
 use Prim.Native.Nat.{ℕ, suc, _+_, _-_, _≤_, _<_}
@@ -6,7 +6,7 @@ use native.Mathlib.Omega.{arith}
 use native.Mathlib.Numerals.{add-one}
 use lib.ListN.{length, getD, take, drop, set, length-set, length-drop, drop-of-length-le}
 use lib.Seq.{take-suc, take-suc-set, drop-set-lt, drop-drop, getD-drop, take-all, set-split}
-use Rattle.rows.specs.Lists.{without}
+use Rattle.rows.specs.Definition.Lists.{without}
 
 -- ys is xs with the elements after i moved up as far as j
 pub record Moved {A : Type 0} (xs : List A) (i j : ℕ) (ys : List A) : Type 0 where

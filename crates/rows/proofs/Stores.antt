@@ -1,4 +1,4 @@
--- Arrays filled by one store a turn: the loops' invariants and their laws. Assumes nothing.
+-- Arrays filled by one store a turn: the loops' invariants and their laws.
 use mathlib.Core.Path.{_≡_, refl, ap, sym, _∙_}
 use mathlib.Core.Bool.{Bool, true, false, not, _&&_, and-false}
 use mathlib.Core.List.{List, [], _∷_, map}
@@ -10,13 +10,14 @@ use borrow.Author.Tests.{eq-eqb, ne-eqb}
 use lib.Dec.{eqb}
 use lib.ListN.{length, getD, take, set, replicate, getD-replicate, length-set, length-map, length-append, length-replicate, length-take, List·getD-append, List·getD-eq-default}
 use lib.Seq.{getD-set-same, getD-set-other, getD-take, ext-getD, getD-append-add}
-use Rattle.rows.specs.Lists.{at, padded, tally, below, upTo, all-more, and-yes}
-use Rattle.rows.specs.Classes.{FREE, SYSTEM, fresh}
-use Rattle.rows.specs.Channels.{noChannel}
-use Rattle.rows.specs.Tests.{differRow}
+use Rattle.rows.specs.Definition.Lists.{at, padded, tally, below, upTo}
+use Rattle.rows.specs.Laws.Lists.{all-more, and-yes}
+use Rattle.rows.specs.Definition.Classes.{FREE, SYSTEM, fresh}
+use Rattle.rows.specs.Definition.Channels.{noChannel}
+use Rattle.rows.specs.Definition.Tests.{differRow}
 use Rattle.rows.specs.declared.Channel.{Channel}
-use Rattle.rows.specs.Count.{tally-more, tally-same}
-use Rattle.rows.specs.ClassRows.{zeros-at, fresh-free, fresh-last, fresh-rest, fresh-length}
+use Rattle.rows.specs.Laws.Counts.{tally-more, tally-same}
+use Rattle.rows.specs.Laws.ClassRows.{zeros-at, fresh-free, fresh-last, fresh-rest, fresh-length}
 
 -- the first i rows of ys are f of those of xs
 pub record Mapped {A : Type 0} (f : A → A) (d : A) (xs : List A) (i : ℕ) (ys : List A) : Type 0 where

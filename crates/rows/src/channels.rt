@@ -2,9 +2,9 @@
 ghost use mathlib.Core.Path.{_≡_};
 ghost use Prim.Native.Nat.{ℕ, _≤_, _<_};
 ghost use lib.ListN.{take, getD, replicate};
-ghost use Rattle.rows.specs.Lists.{without, upTo};
-ghost use Rattle.rows.specs.Channels.{noChannel, sumOf, rowIn, foundAt};
-ghost use Rattle.rows.specs.Tests.{restChannel, channelRow, channelTest};
+ghost use Rattle.rows.specs.Definition.Lists.{without, upTo};
+ghost use Rattle.rows.specs.Definition.Channels.{noChannel, sumOf, rowIn, foundAt};
+ghost use Rattle.rows.specs.Definition.Tests.{restChannel, channelRow, channelTest};
 use super::Channel;
 use super::Lookup;
 use super::numbers::wide;

@@ -3,9 +3,9 @@ ghost use mathlib.Core.Path.{_≡_};
 ghost use mathlib.Core.List.{map};
 ghost use Prim.Native.Nat.{ℕ, _≤_, _<_};
 ghost use lib.ListN.{getD, take};
-ghost use Rattle.rows.specs.Lists.{firstOf, lastOf, tally, padded, upTo};
-ghost use Rattle.rows.specs.Classes.{released, fresh};
-ghost use Rattle.rows.specs.Tests.{restRow, riseRow, classRow, chainRow, exactRow, listTest, classTest, chainTest, roomTest, userTest};
+ghost use Rattle.rows.specs.Definition.Lists.{firstOf, lastOf, tally, padded, upTo};
+ghost use Rattle.rows.specs.Definition.Classes.{released, fresh};
+ghost use Rattle.rows.specs.Definition.Tests.{restRow, riseRow, classRow, chainRow, exactRow, listTest, classTest, chainTest, roomTest, userTest};
 use super::numbers::wide;
 
 // The classes. The page zero segment and unused rows have 0.

@@ -1,7 +1,7 @@
 // The chain's length and the EXOS boundary, of a line of length `n`.
 ghost use mathlib.Core.Path.{_≡_};
 ghost use Prim.Native.Nat.{_≤_};
-ghost use Rattle.rows.specs.Sizes.{chainLength, boundaryAt};
+ghost use Rattle.rows.specs.Definition.Sizes.{chainLength, boundaryAt};
 
 // How many segments the line takes.
 pub fn chain_length(room: u16, n: usize) -> usize

@@ -1,4 +1,4 @@
--- Laws of what a request brings, and of the reply to it. Assumes nothing.
+-- Laws of what a request brings, and of the reply to it.
 use mathlib.Core.Path.{_≡_, refl, sym, ap, _∙_}
 use mathlib.Core.List.{List, _++_}
 use Prim.Native.Nat.{ℕ, zero, suc, _+_, _-_, _≤_}
@@ -7,8 +7,8 @@ use lib.Seq.{take-at, length-take-le}
 use Rattle.kernel.specs.Definition.Step.{Result, result}
 use Rattle.kernel.specs.declared.Tables.{Tables}
 use Rattle.kernel.specs.declared.Outcome.{Outcome}
-use Rattle.text.specs.Text.{Put}
-use Rattle.events.specs.Records.{u16At, stepOf}
+use Rattle.text.specs.Definition.Text.{Put}
+use Rattle.events.specs.Definition.Records.{u16At, stepOf}
 use Rattle.image.proofs.Laws.{body-is}
 use Rattle.stream.specs.Seed.{next, seeded}
 use Rattle.stream.specs.Replies.{stepOn, replyBytes, Replied}

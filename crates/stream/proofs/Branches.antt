@@ -1,11 +1,11 @@
--- Laws of what bytes begin with, a law a branch. Assumes nothing.
+-- Laws of what bytes begin with, a law a branch.
 use mathlib.Core.Path.{_≡_, _∙_}
 use mathlib.Core.List.{List}
 use Prim.Native.Nat.{ℕ, _+_, _<_, _≤_}
 use native.Mathlib.Omega.{arith}
 use borrow.Author.Tests.{eq-eqb, ne-eqb, lt-ltb, le-ltb}
 use lib.ListN.{length}
-use Rattle.events.specs.Records.{u8At, u16At}
+use Rattle.events.specs.Definition.Records.{u8At, u16At}
 use Rattle.stream.specs.Numbers.{u32At}
 use Rattle.stream.specs.Requests.{lentAt, requestIn}
 use Rattle.stream.specs.declared.Request.{Request}

@@ -1,4 +1,4 @@
--- Laws of the loops: the digest, bytes laid one a turn, the bytes of a number. Assumes nothing.
+-- Laws of the loops: the digest, bytes laid one a turn, the bytes of a number.
 use mathlib.Core.Path.{_≡_, sym, ap, _∙_}
 use mathlib.Core.List.{List, [], _∷_, _++_, append-assoc, append-nil}
 use Prim.Native.Nat.{ℕ, suc, _+_, _*_, _/_, _%_, _-_, _<_, _≤_}
@@ -6,7 +6,7 @@ use native.Mathlib.Omega.{arith}
 use native.Mathlib.Numerals.{add-one}
 use lib.ListN.{length, getD, take, drop, set, replicate, drop-of-length-le}
 use lib.Seq.{drop-cons, take-suc-set, take-suc, take-all}
-use Rattle.text.specs.Text.{Put}
+use Rattle.text.specs.Definition.Text.{Put}
 use Rattle.text.proofs.Laws.{put-then}
 use Rattle.stream.specs.Digest.{mixed, digestFrom}
 use Rattle.stream.specs.Seed.{next, seeded}

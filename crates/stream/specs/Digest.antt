@@ -1,4 +1,4 @@
--- The digest of bytes. Assumes nothing.
+-- The digest of bytes.
 use mathlib.Core.List.{List, [], _∷_}
 use Prim.Native.Nat.{ℕ, _+_, _*_, _%_}
 

@@ -1,7 +1,7 @@
--- Numbers of four and of eight bytes, little-endian. Assumes nothing.
+-- Numbers of four and of eight bytes, little-endian.
 use mathlib.Core.List.{List, [], _∷_}
 use Prim.Native.Nat.{ℕ, zero, suc, _+_, _*_, _/_, _%_}
-use Rattle.events.specs.Records.{u16At}
+use Rattle.events.specs.Definition.Records.{u16At}
 
 abbrev pub u32At : (bytes : List ℕ) (i : ℕ) → ℕ
 u32At bytes i = u16At bytes i + 65536 * u16At bytes (i + 2)

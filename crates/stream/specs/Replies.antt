@@ -1,13 +1,13 @@
--- What a request brings, its call, and the reply to it. Assumes nothing.
+-- What a request brings, its call, and the reply to it.
 use mathlib.Core.Path.{_≡_}
 use mathlib.Core.List.{List, _++_}
 use Prim.Native.Nat.{ℕ, _+_}
 use lib.ListN.{length, drop, replicate}
 use Rattle.kernel.specs.Definition.Step.{Result}
 use Rattle.kernel.specs.declared.Tables.{Tables}
-use Rattle.text.specs.Text.{Put}
-use Rattle.events.specs.Records.{u16At, stepOf}
-use Rattle.image.specs.Image.{runAt, imageOf, tablesOf, answerBytes}
+use Rattle.text.specs.Definition.Text.{Put}
+use Rattle.events.specs.Definition.Records.{u16At, stepOf}
+use Rattle.image.specs.Definition.Image.{runAt, imageOf, tablesOf, answerBytes}
 use Rattle.stream.specs.Digest.{digestOf}
 use Rattle.stream.specs.Seed.{seeded}
 use Rattle.stream.specs.Numbers.{u32At, u64Bytes}

@@ -1,11 +1,11 @@
--- Where a request ends. Its first byte is 0, or 1 before an image of 776 bytes, the RAM's length and a seed of 4 bytes each. Assumes nothing.
+-- Where a request ends. Its first byte is 0, or 1 before an image of 776 bytes, the RAM's length and a seed of 4 bytes each.
 use mathlib.Core.Path.{_≡_}
 use mathlib.Core.Bool.{cond, not}
 use mathlib.Core.List.{List}
 use Prim.Native.Nat.{ℕ, _+_, _<_, _≤_}
 use lib.Dec.{eqb, ltb}
 use lib.ListN.{length}
-use Rattle.events.specs.Records.{u8At, u16At}
+use Rattle.events.specs.Definition.Records.{u8At, u16At}
 use Rattle.stream.specs.Numbers.{u32At}
 use Rattle.stream.specs.declared.Request.{Request}
 use Rattle.stream.specs.declared.Found.{Found}

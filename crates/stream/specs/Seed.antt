@@ -1,4 +1,4 @@
--- Bytes by a seed. Assumes nothing.
+-- Bytes by a seed.
 use mathlib.Core.List.{List, [], _∷_}
 use Prim.Native.Nat.{ℕ, zero, suc, _+_, _*_, _/_, _%_}
 

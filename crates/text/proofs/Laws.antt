@@ -1,4 +1,4 @@
--- Laws of text put at a place, of numerals and of hexadecimal. Assumes nothing.
+-- Laws of text put at a place, of numerals and of hexadecimal.
 use mathlib.Core.Path.{_≡_, refl, sym, ap, _∙_}
 use mathlib.Core.Bool.{Bool, true, false}
 use mathlib.Core.List.{List, [], _∷_, _++_, append-assoc, append-nil}
@@ -10,7 +10,7 @@ use lib.Seq.{take-suc-set, take-suc, take-all, drop-set-lt, drop-drop}
 use lib.Dec.{ltb}
 use borrow.Author.Tests.{lt-ltb, le-ltb, ltb-true, ltb-false}
 use mathlib.Core.Logic.{_⊎_, inl, inr}
-use Rattle.text.specs.Text.{Put, fieldsOf, digitOf, decimalIn, decimalOf, glyph, hexOf}
+use Rattle.text.specs.Definition.Text.{Put, fieldsOf, digitOf, decimalIn, decimalOf, glyph, hexOf}
 
 pub put-none : (d : List ℕ) (at : ℕ) → Put d d at at []
 put-none d at = record { stop = omega arith; text = sym (append-nil (take at d)); behind = refl }

@@ -1,2 +1,2 @@
--- The definitions of text.
-pub mod Text
+-- The definition of text.
+pub mod Definition

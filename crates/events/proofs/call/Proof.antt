@@ -1,7 +1,7 @@
--- `events::call` meets its contract. Assumes nothing.
+-- `events::call` meets its contract.
 use mathlib.Core.Path.{refl}
 use Rattle.kernel.proofs.Calls.{accepted-good, accepted-size}
-use Rattle.events.specs.Records.{decode}
+use Rattle.events.specs.Definition.Records.{decode}
 use Rattle.events.proofs.ByKind.{by-kind, bad-tables}
 use borrow.Author.Needs.{needs}
 use Rattle.events.proofs.call.Statement.{statement}

@@ -1,6 +1,6 @@
--- `events::call_good` meets its contract. Assumes nothing.
+-- `events::call_good` meets its contract.
 use mathlib.Core.Path.{refl}
-use Rattle.events.specs.Records.{decode}
+use Rattle.events.specs.Definition.Records.{decode}
 use Rattle.events.proofs.ByKind.{by-kind, no-kind, unknown-kind}
 use borrow.Author.Needs.{needs}
 use Rattle.events.proofs.call_good.Statement.{statement}

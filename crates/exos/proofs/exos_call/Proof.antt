@@ -1,4 +1,4 @@
--- `exos_call` tests the lengths, then makes the call on the tables of the image. Assumes nothing.
+-- `exos_call` tests the lengths, then makes the call on the tables of the image.
 use denote.Ref.{now}
 use mathlib.Core.Path.{refl, _∙_}
 use native.Mathlib.Omega.{arith}

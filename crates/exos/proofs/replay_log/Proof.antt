@@ -1,4 +1,4 @@
--- `exos::replay_log` tests the reply's length, then replays. Assumes nothing.
+-- `exos::replay_log` tests the reply's length, then replays.
 use denote.Ref.{now}
 use mathlib.Core.Path.{_∙_}
 use native.Mathlib.Omega.{arith}

@@ -1,4 +1,4 @@
--- `answer` is safe, and keeps the RAM within its buffer. Assumes nothing.
+-- `answer` is safe, and keeps the RAM within its buffer.
 use denote.Ref.{now}
 use mathlib.Core.Path.{sym}
 use native.Mathlib.Omega.{arith}

@@ -1,4 +1,4 @@
--- `flush` is safe, and keeps the state ready. Assumes nothing.
+-- `flush` is safe, and keeps the state ready.
 use denote.Ref.{now}
 use mathlib.Core.Path.{sym}
 use native.Mathlib.Omega.{arith}

@@ -1,4 +1,4 @@
--- `main` is safe and ends: the turns fall. Assumes nothing.
+-- `main` is safe and ends: the turns fall.
 use Rattle.exos_answer.specs.State.{Ready}
 use borrow.Author.Needs.{needs}
 use Rattle.exos_answer.proofs.main.Statement.{statement}

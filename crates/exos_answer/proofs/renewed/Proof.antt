@@ -1,4 +1,4 @@
--- `renewed` is safe, and keeps the RAM within its buffer. Assumes nothing.
+-- `renewed` is safe, and keeps the RAM within its buffer.
 use native.Mathlib.Omega.{arith}
 use borrow.Author.Needs.{needs}
 use Rattle.exos_answer.proofs.renewed.Statement.{statement}

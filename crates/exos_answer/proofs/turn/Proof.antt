@@ -1,4 +1,4 @@
--- `turn` is safe, and keeps the state ready. Assumes nothing.
+-- `turn` is safe, and keeps the state ready.
 use denote.Ref.{now}
 use mathlib.Core.Path.{_≡_}
 use Prim.Native.Nat.{_-_}

@@ -1,4 +1,4 @@
--- `exos_list::fetch` meets its contract. Assumes nothing.
+-- `exos_list::fetch` meets its contract.
 use mathlib.Core.Path.{sym}
 use lib.Seq.{length-take-le}
 use borrow.Author.Needs.{needs}

@@ -1,7 +1,7 @@
--- `exos_list::main` is safe and ends, since the turns fall; the tables are held from turn to turn. Assumes nothing.
+-- `exos_list::main` is safe and ends, since the turns fall; the tables are held from turn to turn.
 use Prim.Native.Nat.{_≤_}
 use native.Mathlib.Omega.{arith}
-use Rattle.listing.specs.Held.{Held, none}
+use Rattle.listing.specs.Laws.Held.{Held, none}
 use Rattle.exos_list.proofs.main.Statement.{statement}
 use Rattle.exos_list.proofs.main.Tie as tie
 

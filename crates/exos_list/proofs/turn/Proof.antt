@@ -1,4 +1,4 @@
--- `exos_list::turn` meets its contract. Assumes nothing.
+-- `exos_list::turn` meets its contract.
 use denote.Ref.{now}
 use mathlib.Core.Path.{sym}
 use native.Mathlib.Omega.{arith}

@@ -11,11 +11,12 @@ use borrow.Author.Tests.{ltb-true, lt-ltb, leb-true, le-leb, eqb-true, eq-eqb}
 use lib.Dec.{leb, ltb, eqb}
 use lib.ListN.{length, getD, take, length-take}
 use lib.Seq.{getD-take}
-use Rattle.rows.specs.Lists.{at, firstWhere, where-found, where-absent}
-use Rattle.rows.specs.Channels.{noChannel}
-use Rattle.rows.specs.Devices.{noDevice, answers}
-use Rattle.rows.specs.Good.{ListGood, Same}
-use Rattle.rows.specs.Join.{Says, says-lt, says-and, says-as, same-says}
+use Rattle.rows.specs.Definition.Lists.{at, firstWhere}
+use Rattle.rows.specs.Laws.Lists.{where-found, where-absent}
+use Rattle.rows.specs.Definition.Channels.{noChannel}
+use Rattle.rows.specs.Definition.Devices.{noDevice, answers}
+use Rattle.rows.specs.Definition.Good.{ListGood, Same}
+use Rattle.rows.specs.Laws.Good.{Says, says-lt, says-and, says-as, same-says}
 use Rattle.rows.specs.declared.Channel.{Channel}
 use Rattle.rows.specs.declared.Device.{Device}
 use Rattle.kernel.specs.Definition.Tables.{rowOf, channelAt}

@@ -5,7 +5,7 @@ use mathlib.Core.List.{List}
 use mathlib.Core.Logic.{_⊎_, _↔_}
 use mathlib.Core.Option.{Option, none, some}
 use Prim.Native.Nat.{ℕ, _≤_, _<_}
-use Rattle.names.specs.Grammar.{Reading, Reads}
+use Rattle.names.specs.Definition.Grammar.{Reading, Reads}
 use Rattle.kernel.specs.Definition.Good.{Sized}
 use Rattle.kernel.specs.Definition.Answers.{numberOf, granted}
 use Rattle.kernel.specs.Definition.Calls.{Call}

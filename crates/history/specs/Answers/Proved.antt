@@ -6,9 +6,9 @@ use mathlib.Core.Option.{Option, none, some}
 use Prim.Native.Nat.{ℕ, _≤_, _<_}
 use native.Mathlib.Decide.{decLt}
 use native.Mathlib.Omega.{arith}
-use Rattle.names.specs.Grammar.{Reading}
-use Rattle.names.specs.Read.{reading}
-use Rattle.names.specs.Right.{reading-right, reads-one, unread-right}
+use Rattle.names.specs.Definition.Grammar.{Reading}
+use Rattle.names.specs.Definition.Read.{reading}
+use Rattle.names.specs.Laws.Right.{reading-right, reads-one, unread-right}
 use Rattle.kernel.specs.Definition.Answers.{numberOf}
 use Rattle.kernel.specs.Definition.Calls.{Call}
 use Rattle.kernel.specs.Definition.Refusals.{Row}

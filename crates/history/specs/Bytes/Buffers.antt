@@ -10,12 +10,13 @@ use borrow.Author.Tests.{eq-eqb, ne-eqb, eqb-true, ltb-true, le-leb, lt-leb, lt-
 use lib.Dec.{eqb, ltb}
 use lib.ListN.{length, getD, take, drop, replicate, length-take, length-append, List·getD-append}
 use lib.Seq.{take-append-le, take-take, take-set-le, getD-take, getD-drop, getD-append-add, getD-set-other}
-use Rattle.rows.specs.Lists.{at, without, and-left, where-found}
-use Rattle.rows.specs.Channels.{noChannel, sumOf}
-use Rattle.rows.specs.Rows.{from, from-low, from-high, without-at, sum-without, sum-more}
+use Rattle.rows.specs.Definition.Lists.{at, without}
+use Rattle.rows.specs.Laws.Lists.{and-left, where-found}
+use Rattle.rows.specs.Definition.Channels.{noChannel, sumOf}
+use Rattle.rows.specs.Laws.ChannelRows.{from, from-low, from-high, without-at, sum-without, sum-more}
 use Rattle.rows.specs.declared.Channel.{Channel}
-use Rattle.line.specs.Line.{chainIndexOf, placeOf, putLine, linked, Chain}
-use Rattle.line.specs.Ram.{putAt}
+use Rattle.line.specs.Definition.Line.{chainIndexOf, placeOf, putLine, linked, Chain}
+use Rattle.line.specs.Definition.Ram.{putAt}
 use Rattle.line.proofs.Walks.{put-elsewhere}
 use Rattle.line.proofs.Places.{place-apart}
 use Rattle.line.proofs.Held.{held-at}

@@ -9,10 +9,10 @@ use native.Mathlib.Omega.{arith}
 use borrow.Author.Tests.{eq-eqb, ne-eqb}
 use lib.Dec.{eqb}
 use lib.ListN.{length, getD, drop, List·getD-append}
-use Rattle.names.specs.Words.{wordOf}
-use Rattle.rows.specs.Classes.{SHARED}
-use Rattle.line.specs.Line.{placeOf, lineFrom}
-use Rattle.line.specs.Ram.{taken}
+use Rattle.names.specs.Definition.Words.{wordOf}
+use Rattle.rows.specs.Definition.Classes.{SHARED}
+use Rattle.line.specs.Definition.Line.{placeOf, lineFrom}
+use Rattle.line.specs.Definition.Ram.{taken}
 use Rattle.line.proofs.Walks.{length-bytes, bytes-at}
 use Rattle.kernel.specs.Definition.Tables.{classAt, rowOf, channelAt}
 use Rattle.kernel.specs.Definition.Line.{sizeAt, bufferAt, opening, closing}

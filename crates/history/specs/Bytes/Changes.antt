@@ -8,13 +8,13 @@ use native.Mathlib.Omega.{arith}
 use borrow.Author.Tests.{eq-eqb, ne-eqb}
 use lib.ListN.{length, getD, set, replicate}
 use lib.Seq.{getD-set-same}
-use Rattle.names.specs.Words.{wordOf}
-use Rattle.rows.specs.Lists.{at, without}
-use Rattle.rows.specs.Classes.{SHARED}
-use Rattle.rows.specs.Channels.{noChannel}
-use Rattle.rows.specs.Devices.{added}
-use Rattle.rows.specs.Rows.{sum-set}
-use Rattle.rows.specs.Sizes.{chainLength}
+use Rattle.names.specs.Definition.Words.{wordOf}
+use Rattle.rows.specs.Definition.Lists.{at, without}
+use Rattle.rows.specs.Definition.Classes.{SHARED}
+use Rattle.rows.specs.Definition.Channels.{noChannel}
+use Rattle.rows.specs.Definition.Devices.{added}
+use Rattle.rows.specs.Laws.ChannelRows.{sum-set}
+use Rattle.rows.specs.Definition.Sizes.{chainLength}
 use Rattle.rows.specs.declared.Channel.{Channel}
 use Rattle.kernel.specs.Definition.Tables.{classAt, rowOf, withChannels, withDevices}
 use Rattle.kernel.specs.Definition.Line.{totalOf, oneMore, grown, oneLess, shrunk, opening, closing}

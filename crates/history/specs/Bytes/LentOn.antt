@@ -6,8 +6,8 @@ use native.Mathlib.Decide.{decLt}
 use native.Mathlib.Omega.{arith}
 use borrow.Author.Tests.{eq-eqb, lt-ltb, le-ltb}
 use lib.ListN.{length, getD}
-use Rattle.line.specs.Line.{chainIndexOf, placeOf, lineFrom, Chain}
-use Rattle.line.specs.Lent.{lentAt, partOf}
+use Rattle.line.specs.Definition.Line.{chainIndexOf, placeOf, lineFrom, Chain}
+use Rattle.line.specs.Definition.Lent.{lentAt, partOf}
 use Rattle.line.specs.declared.Lent.{Lent}
 use Rattle.line.specs.declared.Lent.the-variants.{Part, Nothing}
 use Rattle.line.proofs.Walks.{bytes-at}

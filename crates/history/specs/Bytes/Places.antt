@@ -8,10 +8,12 @@ use native.Mathlib.Omega.{arith}
 use borrow.Author.Tests.{eq-eqb, ne-eqb, ltb-true}
 use lib.Dec.{eqb, ltb}
 use lib.Seq.{getD-set-other}
-use Rattle.rows.specs.Lists.{at, and-left, and-right}
-use Rattle.rows.specs.Classes.{USER, SHARED, timesHeld}
-use Rattle.rows.specs.Sizes.{chainLength, boundaryAt, Ends, ends, length-high, length-some, edge-low}
-use Rattle.line.specs.Line.{chainIndexOf, offsetOf, placeOf}
+use Rattle.rows.specs.Definition.Lists.{at}
+use Rattle.rows.specs.Laws.Lists.{and-left, and-right}
+use Rattle.rows.specs.Definition.Classes.{USER, SHARED, timesHeld}
+use Rattle.rows.specs.Definition.Sizes.{chainLength, boundaryAt}
+use Rattle.rows.specs.Laws.Sizes.{Ends, ends, length-high, length-some, edge-low}
+use Rattle.line.specs.Definition.Line.{chainIndexOf, offsetOf, placeOf}
 use Rattle.line.proofs.Places.{link-low, link-high, offset-low, offset-high, offset-lt}
 use Rattle.kernel.specs.Definition.Tables.{SEGMENT, classAt}
 use Rattle.kernel.specs.Definition.Line.{totalOf, oneMore, grown, oneLess, shrunk}

@@ -7,9 +7,9 @@ use native.Mathlib.Omega.{arith}
 use borrow.Author.Tests.{ltb-true}
 use lib.Dec.{ltb}
 use lib.ListN.{length, take, drop, replicate, length-append, length-take, length-drop, length-replicate}
-use Rattle.rows.specs.Lists.{and-left}
-use Rattle.line.specs.Line.{placeOf, putLine, opened, closed, linked}
-use Rattle.line.specs.Ram.{putAt}
+use Rattle.rows.specs.Laws.Lists.{and-left}
+use Rattle.line.specs.Definition.Line.{placeOf, putLine, opened, closed, linked}
+use Rattle.line.specs.Definition.Ram.{putAt}
 use Rattle.line.proofs.Walks.{length-put}
 use Rattle.kernel.specs.Definition.Tables.{rowOf}
 use Rattle.kernel.specs.Definition.Line.{totalOf}

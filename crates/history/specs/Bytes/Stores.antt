@@ -8,13 +8,14 @@ use native.Mathlib.Omega.{arith}
 use borrow.Author.Tests.{eq-eqb, ne-eqb, ltb-true}
 use lib.Dec.{eqb, ltb}
 use lib.ListN.{length, getD, take, replicate, length-append, length-replicate, length-take}
-use Rattle.names.specs.Words.{wordOf}
-use Rattle.rows.specs.Lists.{at, and-left}
-use Rattle.rows.specs.Channels.{noChannel}
-use Rattle.rows.specs.Count.{first-found}
+use Rattle.names.specs.Definition.Words.{wordOf}
+use Rattle.rows.specs.Definition.Lists.{at}
+use Rattle.rows.specs.Laws.Lists.{and-left}
+use Rattle.rows.specs.Definition.Channels.{noChannel}
+use Rattle.rows.specs.Laws.Counts.{first-found}
 use Rattle.rows.specs.declared.Channel.{Channel}
-use Rattle.line.specs.Line.{placeOf, putLine, headingOf, opened, linked, Chain}
-use Rattle.line.specs.Ram.{putAt}
+use Rattle.line.specs.Definition.Line.{placeOf, putLine, headingOf, opened, linked, Chain}
+use Rattle.line.specs.Definition.Ram.{putAt}
 use Rattle.line.proofs.Walks.{put-elsewhere}
 use Rattle.line.proofs.Makes.{length-heading}
 use Rattle.line.proofs.Places.{place-low}

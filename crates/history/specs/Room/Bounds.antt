@@ -4,8 +4,9 @@ use mathlib.Core.Bool.{Bool, true, false, cond}
 use Prim.Native.Nat.{ℕ, _+_, _-_, _*_, _≤_}
 use native.Mathlib.Decide.{decLe}
 use native.Mathlib.Omega.{arith}
-use Rattle.rows.specs.Classes.{SHARED}
-use Rattle.rows.specs.Sizes.{chainLength, boundaryAt, length-low, edge-low, ends, Ends}
+use Rattle.rows.specs.Definition.Classes.{SHARED}
+use Rattle.rows.specs.Definition.Sizes.{chainLength, boundaryAt}
+use Rattle.rows.specs.Laws.Sizes.{length-low, edge-low, ends, Ends}
 use Rattle.kernel.specs.Definition.Tables.{classAt}
 use Rattle.kernel.specs.Definition.Line.{totalOf}
 use Rattle.kernel.specs.Definition.Good.{Good}

@@ -4,8 +4,8 @@ use mathlib.Core.Logic.{_≢_}
 use mathlib.Core.List.{List}
 use Prim.Native.Nat.{ℕ, _<_}
 use native.Mathlib.Omega.{arith}
-use Rattle.names.specs.Grammar.{Reading, Reads}
-use Rattle.names.specs.Right.{reads-one}
+use Rattle.names.specs.Definition.Grammar.{Reading, Reads}
+use Rattle.names.specs.Laws.Right.{reads-one}
 use Rattle.kernel.specs.Definition.Names.{wanted}
 use Rattle.kernel.specs.Definition.Calls.{«open»}
 use Rattle.kernel.specs.Definition.Refusals.{OpenAt, Enabled, tables-bad, ram-wrong, open-channel, open-exists, open-name, open-device, open-driver, open-full, open-room}

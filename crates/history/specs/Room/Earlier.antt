@@ -11,16 +11,16 @@ use borrow.Author.Tests.{ltb-true, ltb-false, leb-true, eqb-true, ne-eqb, eq-eqb
 use lib.Dec.{eqb, ltb, leb}
 use lib.ListN.{length, getD, take, length-take}
 use lib.Seq.{getD-take}
-use Rattle.names.specs.Grammar.{Reading}
-use Rattle.names.specs.Read.{reading}
-use Rattle.names.specs.Tests.{linkTest}
-use Rattle.names.specs.Right.{reading-right, unread-right}
-use Rattle.names.specs.Runs.{link-finds}
-use Rattle.names.specs.Words.{wordOf}
-use Rattle.rows.specs.Lists.{where-found, where-absent}
-use Rattle.rows.specs.Channels.{noChannel}
-use Rattle.rows.specs.Devices.{noDevice, answers}
-use Rattle.rows.specs.Join.{same-yes}
+use Rattle.names.specs.Definition.Grammar.{Reading}
+use Rattle.names.specs.Definition.Read.{reading}
+use Rattle.names.specs.Definition.Tests.{linkTest}
+use Rattle.names.specs.Laws.Right.{reading-right, unread-right}
+use Rattle.names.specs.Laws.Runs.{link-finds}
+use Rattle.names.specs.Definition.Words.{wordOf}
+use Rattle.rows.specs.Laws.Lists.{where-found, where-absent}
+use Rattle.rows.specs.Definition.Channels.{noChannel}
+use Rattle.rows.specs.Definition.Devices.{noDevice, answers}
+use Rattle.rows.specs.Laws.Good.{same-yes}
 use Rattle.rows.specs.declared.Channel.{Channel}
 use Rattle.kernel.specs.Definition.Tables.{ramSize, channelAt}
 use Rattle.kernel.specs.Definition.Line.{totalOf, roomFor}

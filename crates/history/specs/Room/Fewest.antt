@@ -4,7 +4,7 @@ use mathlib.Core.Bool.{Bool, true}
 use Prim.Native.Nat.{ℕ, _-_, _≤_}
 use native.Mathlib.Omega.{arith}
 use lib.ListN.{take}
-use Rattle.rows.specs.Sizes.{chain-most}
+use Rattle.rows.specs.Laws.Sizes.{chain-most}
 use Rattle.kernel.specs.Definition.Line.{totalOf}
 use Rattle.kernel.specs.Definition.Good.{Good}
 use Rattle.kernel.specs.declared.Tables.{Tables}

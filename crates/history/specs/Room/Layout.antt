@@ -6,8 +6,8 @@ use Prim.Native.Nat.{ℕ, _+_, _-_, _≤_, _<_}
 use native.Mathlib.Decide.{decLt}
 use native.Mathlib.Omega.{arith}
 use lib.ListN.{length}
-use Rattle.rows.specs.Lists.{at}
-use Rattle.rows.specs.Count.{sumTo}
+use Rattle.rows.specs.Definition.Lists.{at}
+use Rattle.rows.specs.Laws.Counts.{sumTo}
 use Rattle.history.specs.Room.Sums.{number-below, number-apart, pair-at, pigeonhole-rel, total, total-sum}
 
 -- a place of RAM: a row of the list, and an offset in its segment

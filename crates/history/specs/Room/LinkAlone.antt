@@ -3,9 +3,9 @@ use mathlib.Core.Path.{_≡_, refl}
 use mathlib.Core.List.{[], _∷_}
 use Prim.Native.Nat.{_-_}
 use native.Mathlib.Omega.{arith}
-use Rattle.names.specs.Tests.{nameTest}
-use Rattle.rows.specs.Lists.{upTo}
-use Rattle.rows.specs.Sizes.{chainLength, boundaryAt}
+use Rattle.names.specs.Definition.Tests.{nameTest}
+use Rattle.rows.specs.Definition.Lists.{upTo}
+use Rattle.rows.specs.Definition.Sizes.{chainLength, boundaryAt}
 use Rattle.kernel.specs.Definition.Reset.{noTables}
 use Rattle.kernel.specs.Definition.Line.{grown, shrunk}
 use Rattle.kernel.specs.Definition.Calls.{start, link, allocate}

@@ -5,8 +5,8 @@ use mathlib.Core.List.{List, [], _∷_}
 use Prim.Native.Nat.{ℕ, _+_, _-_, _≤_, _<_}
 use lib.Dec.{eqb}
 use lib.ListN.{take}
-use Rattle.rows.specs.Classes.{FREE, SHARED, inChain}
-use Rattle.rows.specs.Count.{sumTo}
+use Rattle.rows.specs.Definition.Classes.{FREE, SHARED, inChain}
+use Rattle.rows.specs.Laws.Counts.{sumTo}
 use Rattle.rows.specs.declared.Channel.{Channel}
 use Rattle.kernel.specs.Definition.Tables.{SEGMENT, classAt, sharing}
 use Rattle.kernel.specs.declared.Tables.{Tables}

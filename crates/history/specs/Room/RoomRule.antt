@@ -8,9 +8,11 @@ use native.Mathlib.Omega.{arith}
 use borrow.Author.Tests.{eq-eqb, le-leb, leb-true, eqb-true}
 use lib.Dec.{eqb, leb}
 use lib.ListN.{length}
-use Rattle.rows.specs.Lists.{at, and-left, and-right}
-use Rattle.rows.specs.Classes.{FREE, SHARED}
-use Rattle.rows.specs.Sizes.{chainLength, boundaryAt, chain-most}
+use Rattle.rows.specs.Definition.Lists.{at}
+use Rattle.rows.specs.Laws.Lists.{and-left, and-right}
+use Rattle.rows.specs.Definition.Classes.{FREE, SHARED}
+use Rattle.rows.specs.Definition.Sizes.{chainLength, boundaryAt}
+use Rattle.rows.specs.Laws.Sizes.{chain-most}
 use Rattle.kernel.specs.Definition.Tables.{classAt, countOf, sharing}
 use Rattle.kernel.specs.Definition.Line.{roomFor}
 use Rattle.kernel.specs.Definition.Good.{Good}

@@ -6,10 +6,10 @@ use mathlib.Core.Option.{Option, none, some}
 use Prim.Native.Nat.{ℕ, _+_, _-_}
 use lib.Dec.{leb, ltb, eqb}
 use lib.ListN.{length}
-use Rattle.names.specs.Grammar.{Reading}
-use Rattle.names.specs.Read.{reading}
-use Rattle.names.specs.Tests.{linkTest, defaultTest}
-use Rattle.names.specs.Words.{wordOf}
+use Rattle.names.specs.Definition.Grammar.{Reading}
+use Rattle.names.specs.Definition.Read.{reading}
+use Rattle.names.specs.Definition.Tests.{linkTest, defaultTest}
+use Rattle.names.specs.Definition.Words.{wordOf}
 use Rattle.kernel.specs.Definition.Tables.{SEGMENT, numberAt, rowOf, lowestFree, sharing, lastRow, channelAt, withDefault}
 use Rattle.kernel.specs.Definition.Line.{totalOf, sizeAt, boundaryOf, roomFor, opening, closing}
 use Rattle.kernel.specs.Definition.Segments.{someFree, mayShare, granting, sharingLast, mayFree, freeing, bounding, mayReach, reachOf, guarded}

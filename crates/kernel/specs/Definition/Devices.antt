@@ -1,8 +1,8 @@
 -- "Link adds a device with m bytes of RAM".
 use mathlib.Core.List.{List}
 use Prim.Native.Nat.{ℕ, _+_, _-_}
-use Rattle.rows.specs.Devices.{added}
-use Rattle.rows.specs.Sizes.{chainLength}
+use Rattle.rows.specs.Definition.Devices.{added}
+use Rattle.rows.specs.Definition.Sizes.{chainLength}
 use Rattle.kernel.specs.Definition.Tables.{withDevices}
 use Rattle.kernel.specs.Definition.Line.{totalOf, grown}
 use Rattle.kernel.specs.declared.Tables.{Tables}

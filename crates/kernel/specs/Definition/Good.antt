@@ -4,9 +4,9 @@ use mathlib.Core.Bool.{Bool, _&&_}
 use Prim.Native.Nat.{ℕ}
 use lib.Dec.{leb, eqb}
 use lib.ListN.{length}
-use Rattle.rows.specs.Sizes.{chainLength}
-use Rattle.rows.specs.Good.{ListGood, ClassesGood, ChainGood, RoomGood, ChannelsGood, UserGood, DevicesGood, DefaultGood}
-use Rattle.rows.specs.Tests.{listTest, classTest, chainTest, roomTest, channelTest, userTest, deviceTest, defaultTest}
+use Rattle.rows.specs.Definition.Sizes.{chainLength}
+use Rattle.rows.specs.Definition.Good.{ListGood, ClassesGood, ChainGood, RoomGood, ChannelsGood, UserGood, DevicesGood, DefaultGood}
+use Rattle.rows.specs.Definition.Tests.{listTest, classTest, chainTest, roomTest, channelTest, userTest, deviceTest, defaultTest}
 use Rattle.kernel.specs.Definition.Tables.{classAt, lastRow}
 use Rattle.kernel.specs.Definition.Line.{totalOf, boundaryOf}
 use Rattle.kernel.specs.declared.Tables.{Tables}

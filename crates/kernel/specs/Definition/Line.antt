@@ -3,10 +3,10 @@ use mathlib.Core.Bool.{Bool, cond, _&&_}
 use Prim.Native.Nat.{ℕ, zero, suc, _+_, _-_, _*_}
 use lib.Dec.{leb, eqb}
 use lib.ListN.{getD, take, set}
-use Rattle.rows.specs.Lists.{lastOf, without}
-use Rattle.rows.specs.Classes.{FREE, USER, SYSTEM, SHARED}
-use Rattle.rows.specs.Channels.{noChannel, sumOf}
-use Rattle.rows.specs.Sizes.{chainLength, boundaryAt}
+use Rattle.rows.specs.Definition.Lists.{lastOf, without}
+use Rattle.rows.specs.Definition.Classes.{FREE, USER, SYSTEM, SHARED}
+use Rattle.rows.specs.Definition.Channels.{noChannel, sumOf}
+use Rattle.rows.specs.Definition.Sizes.{chainLength, boundaryAt}
 use Rattle.rows.specs.declared.Channel.{Channel}
 use Rattle.kernel.specs.Definition.Tables.{SEGMENT, classAt, countOf, sharing, lastRow, withSegments, withChannels}
 use Rattle.kernel.specs.declared.Tables.{Tables}

@@ -2,12 +2,12 @@
 use mathlib.Core.List.{List, [], _∷_}
 use Prim.Native.Nat.{ℕ}
 use lib.ListN.{length, take}
-use Rattle.names.specs.Grammar.{Reading}
-use Rattle.names.specs.Parts.{device, unit}
-use Rattle.names.specs.Words.{wordOf}
+use Rattle.names.specs.Definition.Grammar.{Reading}
+use Rattle.names.specs.Definition.Parts.{device, unit}
+use Rattle.names.specs.Definition.Words.{wordOf}
 use Rattle.names.specs.declared.UnitNumber.{UnitNumber}
 use Rattle.names.specs.declared.UnitNumber.the-variants.{Given, Absent}
-use Rattle.rows.specs.Devices.{deviceIn}
+use Rattle.rows.specs.Definition.Devices.{deviceIn}
 use Rattle.kernel.specs.declared.Tables.{Tables}
 
 -- a device's name in 28 bytes with its length, and a unit

@@ -6,14 +6,14 @@ use mathlib.Core.Logic.{_≢_, _⊎_}
 use mathlib.Core.List.{List}
 use Prim.Native.Nat.{ℕ, _+_, _-_, _*_, _/_, _%_, _^_, _≤_, _<_}
 use lib.ListN.{length, getD}
-use Rattle.names.specs.Grammar.{Reading, Reads}
-use Rattle.names.specs.Words.{LinkName, DefaultName}
-use Rattle.rows.specs.Lists.{padded}
-use Rattle.rows.specs.Classes.{FREE, USER, DEVICE, SHARED}
-use Rattle.rows.specs.Channels.{noChannel}
-use Rattle.rows.specs.Devices.{noDevice}
-use Rattle.rows.specs.Sizes.{chainLength, boundaryAt}
-use Rattle.rows.specs.Good.{ListGood, Same}
+use Rattle.names.specs.Definition.Grammar.{Reading, Reads}
+use Rattle.names.specs.Definition.Words.{LinkName, DefaultName}
+use Rattle.rows.specs.Definition.Lists.{padded}
+use Rattle.rows.specs.Definition.Classes.{FREE, USER, DEVICE, SHARED}
+use Rattle.rows.specs.Definition.Channels.{noChannel}
+use Rattle.rows.specs.Definition.Devices.{noDevice}
+use Rattle.rows.specs.Definition.Sizes.{chainLength, boundaryAt}
+use Rattle.rows.specs.Definition.Good.{ListGood, Same}
 use Rattle.kernel.specs.Definition.Tables.{SEGMENT, ramSize, numberAt, classAt, countOf}
 use Rattle.kernel.specs.Definition.Good.{Good}
 use Rattle.kernel.specs.Definition.Line.{totalOf, sizeAt, boundaryOf}

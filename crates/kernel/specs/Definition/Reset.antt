@@ -4,11 +4,11 @@ use mathlib.Core.List.{List, _∷_, map}
 use Prim.Native.Nat.{ℕ, _-_, _*_, _/_, _%_}
 use lib.Dec.{ltb, leb, eqb}
 use lib.ListN.{length, replicate}
-use Rattle.rows.specs.Lists.{padded}
-use Rattle.rows.specs.Classes.{fresh, released}
-use Rattle.rows.specs.Channels.{noChannel}
-use Rattle.rows.specs.Devices.{zeroDevice, builtIn}
-use Rattle.rows.specs.Tests.{listTest}
+use Rattle.rows.specs.Definition.Lists.{padded}
+use Rattle.rows.specs.Definition.Classes.{fresh, released}
+use Rattle.rows.specs.Definition.Channels.{noChannel}
+use Rattle.rows.specs.Definition.Devices.{zeroDevice, builtIn}
+use Rattle.rows.specs.Definition.Tests.{listTest}
 use Rattle.rows.specs.declared.Device.{Device}
 use Rattle.kernel.specs.Definition.Tables.{SEGMENT, withSegments, withChannels, withDevices}
 use Rattle.kernel.specs.Definition.Line.{shrunk}

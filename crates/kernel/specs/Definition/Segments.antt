@@ -3,7 +3,7 @@ use mathlib.Core.Bool.{Bool, cond, not, _&&_, _||_}
 use Prim.Native.Nat.{ℕ, _+_}
 use lib.Dec.{ltb, eqb}
 use lib.ListN.{set}
-use Rattle.rows.specs.Classes.{FREE, USER, SYSTEM, DEVICE, SHARED}
+use Rattle.rows.specs.Definition.Classes.{FREE, USER, SYSTEM, DEVICE, SHARED}
 use Rattle.kernel.specs.Definition.Tables.{SEGMENT, classAt, lowestFree, sharing, lastRow, withSegments}
 use Rattle.kernel.specs.Definition.Line.{boundaryOf}
 use Rattle.kernel.specs.declared.Tables.{Tables}

@@ -4,10 +4,10 @@ use mathlib.Core.List.{List, [], _∷_}
 use Prim.Native.Nat.{ℕ, _+_, _-_, _*_}
 use lib.Dec.{eqb}
 use lib.ListN.{length, getD, take, drop, replicate}
-use Rattle.line.specs.Line.{lineFrom, putLine, opened, closed, linked}
-use Rattle.line.specs.Ram.{putAt, taken}
-use Rattle.rows.specs.Classes.{FREE, USER, SYSTEM, DEVICE, SHARED}
-use Rattle.rows.specs.Channels.{noChannel}
+use Rattle.line.specs.Definition.Line.{lineFrom, putLine, opened, closed, linked}
+use Rattle.line.specs.Definition.Ram.{putAt, taken}
+use Rattle.rows.specs.Definition.Classes.{FREE, USER, SYSTEM, DEVICE, SHARED}
+use Rattle.rows.specs.Definition.Channels.{noChannel}
 use Rattle.kernel.specs.Definition.Tables.{SEGMENT, ramSize, countOf, rowOf, channelAt}
 use Rattle.kernel.specs.Definition.Good.{goodTest}
 use Rattle.kernel.specs.Definition.Line.{totalOf, recordAt, sizeAt, bufferAt}

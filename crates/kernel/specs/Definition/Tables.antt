@@ -4,9 +4,9 @@ use mathlib.Core.List.{List}
 use Prim.Native.Nat.{ℕ, _-_, _*_}
 use lib.Dec.{ltb}
 use lib.ListN.{take}
-use Rattle.rows.specs.Lists.{at, firstOf, tally}
-use Rattle.rows.specs.Classes.{FREE, SHARED}
-use Rattle.rows.specs.Channels.{rowIn}
+use Rattle.rows.specs.Definition.Lists.{at, firstOf, tally}
+use Rattle.rows.specs.Definition.Classes.{FREE, SHARED}
+use Rattle.rows.specs.Definition.Channels.{rowIn}
 use Rattle.rows.specs.declared.Channel.{Channel}
 use Rattle.rows.specs.declared.Device.{Device}
 use Rattle.kernel.specs.declared.Tables.{Tables}

@@ -6,13 +6,13 @@ use Prim.Native.Nat.{ℕ, _+_, _-_, _≤_, _<_}
 use native.Mathlib.Omega.{arith}
 use lib.ListN.{length, replicate, length-append, length-map, length-replicate, List·getD-append, List·getD-map}
 use lib.Seq.{take-all, getD-append-add}
-use Rattle.rows.specs.Lists.{at, padded}
-use Rattle.rows.specs.ClassRows.{zeros-at}
-use Rattle.rows.specs.Good.{NameGood}
-use Rattle.names.specs.Grammar.{All, Capital, Letter}
-use Rattle.names.specs.Words.{upper, upperAll, wordOf, LinkName, DefaultName}
-use Rattle.names.specs.Laid.{upper-below, upper-small}
-use Rattle.names.specs.Numbers.{all-at}
+use Rattle.rows.specs.Definition.Lists.{at, padded}
+use Rattle.rows.specs.Laws.ClassRows.{zeros-at}
+use Rattle.rows.specs.Definition.Good.{NameGood}
+use Rattle.names.specs.Definition.Grammar.{All, Capital, Letter}
+use Rattle.names.specs.Definition.Words.{upper, upperAll, wordOf, LinkName, DefaultName}
+use Rattle.names.specs.Laws.Laid.{upper-below, upper-small}
+use Rattle.names.specs.Laws.Numbers.{all-at}
 
 pub length-padded : (n : ℕ) (xs : List ℕ) → length xs ≤ n → length (padded n xs) ≡ n
 length-padded n xs h = omega (arith, length-append xs (replicate {A = ℕ} (n - length xs) 0), length-replicate {A = ℕ} (n - length xs) 0)

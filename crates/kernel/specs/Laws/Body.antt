@@ -4,10 +4,10 @@ use mathlib.Core.List.{List}
 use Prim.Native.Nat.{ℕ, _+_, _≤_, _<_}
 use native.Mathlib.Omega.{arith}
 use lib.ListN.{length}
-use Rattle.rows.specs.Classes.{FREE, SHARED}
-use Rattle.rows.specs.Sizes.{chainLength}
-use Rattle.rows.specs.Good.{ListGood, ClassesGood, ChainGood, RoomGood, ChannelsGood, DevicesGood, DefaultGood}
-use Rattle.rows.specs.Segs.{counted}
+use Rattle.rows.specs.Definition.Classes.{FREE, SHARED}
+use Rattle.rows.specs.Definition.Sizes.{chainLength}
+use Rattle.rows.specs.Definition.Good.{ListGood, ClassesGood, ChainGood, RoomGood, ChannelsGood, DevicesGood, DefaultGood}
+use Rattle.rows.specs.Laws.ChainRows.{counted}
 use Rattle.rows.specs.declared.Channel.{Channel}
 use Rattle.rows.specs.declared.Device.{Device}
 use Rattle.kernel.specs.Definition.Tables.{classAt, countOf, lastRow, withSegments, withChannels, withDevices}

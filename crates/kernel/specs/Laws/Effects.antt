@@ -8,13 +8,13 @@ use native.Mathlib.Omega.{arith}
 use borrow.Author.Tests.{ltb-true, ltb-false, leb-false, eqb-true, eqb-false, not-true, not-false}
 use lib.Dec.{eqb, ltb, leb}
 use lib.ListN.{length}
-use Rattle.names.specs.Grammar.{Reading}
-use Rattle.names.specs.Read.{reading}
-use Rattle.names.specs.Tests.{linkTest, defaultTest}
-use Rattle.names.specs.Words.{wordOf, LinkName, DefaultName}
-use Rattle.names.specs.Runs.{link-right, default-right}
-use Rattle.rows.specs.Lists.{and-left, and-right}
-use Rattle.rows.specs.Classes.{SHARED}
+use Rattle.names.specs.Definition.Grammar.{Reading}
+use Rattle.names.specs.Definition.Read.{reading}
+use Rattle.names.specs.Definition.Tests.{linkTest, defaultTest}
+use Rattle.names.specs.Definition.Words.{wordOf, LinkName, DefaultName}
+use Rattle.names.specs.Laws.Runs.{link-right, default-right}
+use Rattle.rows.specs.Laws.Lists.{and-left, and-right}
+use Rattle.rows.specs.Definition.Classes.{SHARED}
 use Rattle.rows.specs.declared.Channel.{Channel}
 use Rattle.kernel.specs.Definition.Tables.{classAt, rowOf, lowestFree, sharing, channelAt, withDefault}
 use Rattle.kernel.specs.Definition.Line.{totalOf, sizeAt, boundaryOf, roomFor, opening, closing}

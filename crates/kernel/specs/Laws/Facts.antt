@@ -2,11 +2,12 @@
 use mathlib.Core.Path.{_≡_}
 use Prim.Native.Nat.{ℕ, _-_, _≤_, _<_}
 use native.Mathlib.Omega.{arith}
-use Rattle.rows.specs.Lists.{at}
-use Rattle.rows.specs.Classes.{SHARED, timesHeld}
-use Rattle.rows.specs.Sizes.{chainLength, length-mono}
-use Rattle.rows.specs.Exact as exact
-use Rattle.rows.specs.Exact.{Exactly, exactly}
+use Rattle.rows.specs.Definition.Lists.{at}
+use Rattle.rows.specs.Definition.Classes.{SHARED, timesHeld}
+use Rattle.rows.specs.Definition.Sizes.{chainLength}
+use Rattle.rows.specs.Laws.Sizes.{length-mono}
+use Rattle.rows.specs.Laws.Exact as exact
+use Rattle.rows.specs.Laws.Exact.{Exactly, exactly}
 use Rattle.kernel.specs.Definition.Tables.{classAt}
 use Rattle.kernel.specs.Definition.Line.{totalOf}
 use Rattle.kernel.specs.Definition.Good.{Good}

@@ -5,11 +5,11 @@ use Prim.Native.Nat.{ℕ, _-_, _≤_}
 use native.Mathlib.Omega.{arith}
 use lib.Dec.{eqb}
 use lib.ListN.{take}
-use Rattle.rows.specs.Lists.{at}
-use Rattle.rows.specs.Channels.{sumOf}
-use Rattle.rows.specs.Sizes.{chainLength, boundaryAt}
-use Rattle.rows.specs.Tests.{listTest, classTest, chainTest, roomTest, channelTest, userTest, deviceTest, defaultTest}
-use Rattle.rows.specs.Join.{Says, says-le, says-eq, says-and, says-then, says-as, list-says, class-says, room-says, chain-says, channel-says, user-says, device-says, default-says}
+use Rattle.rows.specs.Definition.Lists.{at}
+use Rattle.rows.specs.Definition.Channels.{sumOf}
+use Rattle.rows.specs.Definition.Sizes.{chainLength, boundaryAt}
+use Rattle.rows.specs.Definition.Tests.{listTest, classTest, chainTest, roomTest, channelTest, userTest, deviceTest, defaultTest}
+use Rattle.rows.specs.Laws.Good.{Says, says-le, says-eq, says-and, says-then, says-as, list-says, class-says, room-says, chain-says, channel-says, user-says, device-says, default-says}
 use Rattle.kernel.specs.Definition.Tables.{lastRow}
 use Rattle.kernel.specs.Definition.Line.{totalOf, boundaryOf}
 use Rattle.kernel.specs.Definition.Good.{Sized, Good, sizesTest, goodTest}

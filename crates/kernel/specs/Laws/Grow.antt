@@ -5,11 +5,11 @@ use native.Mathlib.Decide.{decLt}
 use native.Mathlib.Omega.{arith}
 use lib.ListN.{getD, take, set, length-set, length-take}
 use lib.Seq.{take-set-lt, getD-set-same, getD-take}
-use Rattle.rows.specs.Lists.{at, lastOf, tally}
-use Rattle.rows.specs.Classes.{FREE, SYSTEM}
-use Rattle.rows.specs.Good.{ClassesGood, ChainGood}
-use Rattle.rows.specs.Count.{one-yes, tally-part, tally-set, Found, last-found}
-use Rattle.rows.specs.Segs.{more-classes, more-chain}
+use Rattle.rows.specs.Definition.Lists.{at, lastOf, tally}
+use Rattle.rows.specs.Definition.Classes.{FREE, SYSTEM}
+use Rattle.rows.specs.Definition.Good.{ClassesGood, ChainGood}
+use Rattle.rows.specs.Laws.Counts.{one-yes, tally-part, tally-set, Found, last-found}
+use Rattle.rows.specs.Laws.ChainRows.{more-classes, more-chain}
 use Rattle.kernel.specs.Definition.Tables.{countOf}
 use Rattle.kernel.specs.Definition.Line.{totalOf, oneMore, grown}
 use Rattle.kernel.specs.Laws.Body.{Shares, Body, body-counted, body-segments}

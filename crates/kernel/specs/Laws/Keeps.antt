@@ -5,14 +5,14 @@ use mathlib.Core.List.{List, [], _∷_}
 use Prim.Native.Nat.{ℕ}
 use native.Mathlib.Omega.{arith}
 use lib.ListN.{length}
-use Rattle.names.specs.Words.{wordOf}
-use Rattle.rows.specs.Lists.{upTo}
+use Rattle.names.specs.Definition.Words.{wordOf}
+use Rattle.rows.specs.Definition.Lists.{upTo}
 use Rattle.kernel.specs.Definition.Reset.{startTest, started}
 use Rattle.kernel.specs.Definition.Answers.{granted, gives}
 use Rattle.kernel.specs.Definition.Calls.{Call, start, onStart}
 use Rattle.kernel.specs.Definition.Good.{Good}
 use Rattle.kernel.specs.Definition.Step.{heard, decided, completed, step}
-use Rattle.rows.specs.Rows.{place-none}
+use Rattle.rows.specs.Laws.ChannelRows.{place-none}
 use Rattle.kernel.specs.Laws.Arrays.{link-default, word-good}
 use Rattle.kernel.specs.Laws.Body.{body}
 use Rattle.kernel.specs.Laws.KeptLine.{shares-yes, shares-no, opening-keeps, closing-keeps}

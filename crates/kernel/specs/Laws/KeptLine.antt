@@ -7,12 +7,14 @@ use borrow.Author.Tests.{ltb-true, ltb-false, leb-true, eqb-true}
 use lib.Dec.{eqb, leb}
 use lib.ListN.{length, getD, take, set, length-set, length-take}
 use lib.Seq.{getD-take}
-use Rattle.rows.specs.Lists.{firstOf, without, and-left, and-right}
-use Rattle.rows.specs.Classes.{FREE, SHARED}
-use Rattle.rows.specs.Channels.{noChannel, sumOf}
-use Rattle.rows.specs.Sizes.{chainLength, boundaryAt, length-mono, edge-falls, chain-most}
-use Rattle.rows.specs.Count.{first-found, first-none}
-use Rattle.rows.specs.Rows.{sum-without, sum-set, channels-less, channels-more, length-without}
+use Rattle.rows.specs.Definition.Lists.{firstOf, without}
+use Rattle.rows.specs.Laws.Lists.{and-left, and-right}
+use Rattle.rows.specs.Definition.Classes.{FREE, SHARED}
+use Rattle.rows.specs.Definition.Channels.{noChannel, sumOf}
+use Rattle.rows.specs.Definition.Sizes.{chainLength, boundaryAt}
+use Rattle.rows.specs.Laws.Sizes.{length-mono, edge-falls, chain-most}
+use Rattle.rows.specs.Laws.Counts.{first-found, first-none}
+use Rattle.rows.specs.Laws.ChannelRows.{sum-without, sum-set, channels-less, channels-more, length-without}
 use Rattle.rows.specs.declared.Channel.{Channel}
 use Rattle.kernel.specs.Definition.Tables.{SEGMENT, classAt, countOf, sharing, lastRow, withChannels}
 use Rattle.kernel.specs.Definition.Line.{totalOf, grown, roomFor, opening, closing}

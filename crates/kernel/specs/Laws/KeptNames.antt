@@ -5,10 +5,10 @@ use mathlib.Core.List.{List, map}
 use Prim.Native.Nat.{ℕ, _+_, _-_, _≤_, _<_}
 use native.Mathlib.Omega.{arith}
 use lib.ListN.{length, length-set, length-map}
-use Rattle.rows.specs.Devices.{disabledBy, added}
-use Rattle.rows.specs.Good.{NameGood}
-use Rattle.rows.specs.Rows.{channels-known}
-use Rattle.rows.specs.DeviceRows.{devices-more}
+use Rattle.rows.specs.Definition.Devices.{disabledBy, added}
+use Rattle.rows.specs.Definition.Good.{NameGood}
+use Rattle.rows.specs.Laws.ChannelRows.{channels-known}
+use Rattle.rows.specs.Laws.DeviceRows.{devices-more}
 use Rattle.rows.specs.declared.Device.{Device}
 use Rattle.kernel.specs.Definition.Tables.{withDevices, withDefault}
 use Rattle.kernel.specs.Definition.Line.{totalOf, roomFor}

@@ -6,16 +6,17 @@ use Prim.Native.Nat.{ℕ, _-_, _*_, _≤_}
 use native.Mathlib.Nat.{not-suc-le-zero}
 use native.Mathlib.Omega.{arith}
 use lib.ListN.{length, replicate, length-map, length-replicate}
-use Rattle.rows.specs.Lists.{padded}
-use Rattle.rows.specs.Classes.{released}
-use Rattle.rows.specs.Channels.{noChannel}
-use Rattle.rows.specs.Devices.{builtIn}
-use Rattle.rows.specs.Sizes.{chainLength, length-mono, length-low, edge-low, edge-falls}
-use Rattle.rows.specs.Good.{ListGood, ChannelsGood, RoomGood, DefaultGood}
-use Rattle.rows.specs.Join.{says-and, says-le, says-eq, list-says}
-use Rattle.rows.specs.ClassRows.{released-classes, released-chain, fresh-classes, fresh-chain, fresh-length, zeros-at}
-use Rattle.rows.specs.Rows.{channels-none, no-channels}
-use Rattle.rows.specs.DeviceRows.{built}
+use Rattle.rows.specs.Definition.Lists.{padded}
+use Rattle.rows.specs.Definition.Classes.{released}
+use Rattle.rows.specs.Definition.Channels.{noChannel}
+use Rattle.rows.specs.Definition.Devices.{builtIn}
+use Rattle.rows.specs.Definition.Sizes.{chainLength}
+use Rattle.rows.specs.Laws.Sizes.{length-mono, length-low, edge-low, edge-falls}
+use Rattle.rows.specs.Definition.Good.{ListGood, ChannelsGood, RoomGood, DefaultGood}
+use Rattle.rows.specs.Laws.Good.{says-and, says-le, says-eq, list-says}
+use Rattle.rows.specs.Laws.ClassRows.{released-classes, released-chain, fresh-classes, fresh-chain, fresh-length, zeros-at}
+use Rattle.rows.specs.Laws.ChannelRows.{channels-none, no-channels}
+use Rattle.rows.specs.Laws.DeviceRows.{built}
 use Rattle.rows.specs.declared.Channel.{Channel}
 use Rattle.kernel.specs.Definition.Tables.{SEGMENT, withChannels}
 use Rattle.kernel.specs.Definition.Line.{totalOf}

@@ -6,10 +6,10 @@ use native.Mathlib.Omega.{arith}
 use borrow.Author.Tests.{eq-eqb, ne-eqb}
 use lib.ListN.{take, set, length-set, length-take}
 use lib.Seq.{getD-set-same, getD-set-other, getD-take}
-use Rattle.rows.specs.Lists.{at}
-use Rattle.rows.specs.Classes.{FREE, SYSTEM, SHARED, timesHeld}
-use Rattle.rows.specs.Count.{tally-some, first-found}
-use Rattle.rows.specs.Segs.{held-yes, classes-set, exact-set}
+use Rattle.rows.specs.Definition.Lists.{at}
+use Rattle.rows.specs.Definition.Classes.{FREE, SYSTEM, SHARED, timesHeld}
+use Rattle.rows.specs.Laws.Counts.{tally-some, first-found}
+use Rattle.rows.specs.Laws.ChainRows.{held-yes, classes-set, exact-set}
 use Rattle.kernel.specs.Definition.Tables.{classAt, lowestFree, lastRow, withSegments}
 use Rattle.kernel.specs.Definition.Line.{boundaryOf}
 use Rattle.kernel.specs.Definition.Segments.{classFor, granting, sharingLast, freeing, bounding}

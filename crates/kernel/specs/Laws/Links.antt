@@ -6,10 +6,10 @@ use Prim.Native.Nat.{ℕ, _+_, _-_, _≤_, _<_}
 use native.Mathlib.Omega.{arith}
 use lib.Dec.{ltb}
 use lib.ListN.{length}
-use Rattle.names.specs.Words.{wordOf, LinkName}
-use Rattle.rows.specs.Devices.{added}
-use Rattle.rows.specs.Sizes.{chainLength}
-use Rattle.line.specs.Line.{Chain}
+use Rattle.names.specs.Definition.Words.{wordOf, LinkName}
+use Rattle.rows.specs.Definition.Devices.{added}
+use Rattle.rows.specs.Definition.Sizes.{chainLength}
+use Rattle.line.specs.Definition.Line.{Chain}
 use Rattle.kernel.specs.Definition.Tables.{ramSize, withDevices}
 use Rattle.kernel.specs.Definition.Good.{Good}
 use Rattle.kernel.specs.Definition.Line.{totalOf, roomFor}

@@ -7,16 +7,16 @@ use native.Mathlib.Omega.{arith}
 use lib.Dec.{leb}
 use lib.ListN.{getD, set}
 use lib.Seq.{getD-set-same}
-use Rattle.rows.specs.Channels.{noChannel}
-use Rattle.rows.specs.Rows.{sum-set}
-use Rattle.rows.specs.Sizes.{chainLength}
+use Rattle.rows.specs.Definition.Channels.{noChannel}
+use Rattle.rows.specs.Laws.ChannelRows.{sum-set}
+use Rattle.rows.specs.Definition.Sizes.{chainLength}
 use Rattle.rows.specs.declared.Channel.{Channel}
-use Rattle.line.specs.Line.{Chain}
+use Rattle.line.specs.Definition.Line.{Chain}
 use Rattle.kernel.specs.Definition.Tables.{ramSize, channelAt, withChannels}
 use Rattle.kernel.specs.Definition.Good.{Good}
 use Rattle.kernel.specs.Definition.Line.{totalOf, oneMore, grown, roomFor, opening}
 use Rattle.kernel.specs.Definition.Answers.{gives, unless, _when_}
-use Rattle.rows.specs.Rows.{place-none}
+use Rattle.rows.specs.Laws.ChannelRows.{place-none}
 use Rattle.kernel.specs.Laws.Grow.{Grown, grown-rest}
 use Rattle.kernel.specs.Laws.KeptLine.{opening-keeps}
 use Rattle.kernel.specs.Laws.Chains.{good-chain}

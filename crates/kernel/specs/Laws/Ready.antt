@@ -8,12 +8,13 @@ use native.Mathlib.Omega.{arith}
 use borrow.Author.Tests.{eq-eqb, ne-eqb, eqb-true, ltb-true}
 use lib.Dec.{leb, ltb}
 use lib.ListN.{length, set, replicate}
-use Rattle.rows.specs.Lists.{padded, without, and-left, and-right}
-use Rattle.rows.specs.Classes.{SHARED}
-use Rattle.rows.specs.Channels.{noChannel}
-use Rattle.rows.specs.Devices.{added}
-use Rattle.rows.specs.Sizes.{chainLength}
-use Rattle.rows.specs.Tests.{listTest}
+use Rattle.rows.specs.Definition.Lists.{padded, without}
+use Rattle.rows.specs.Laws.Lists.{and-left, and-right}
+use Rattle.rows.specs.Definition.Classes.{SHARED}
+use Rattle.rows.specs.Definition.Channels.{noChannel}
+use Rattle.rows.specs.Definition.Devices.{added}
+use Rattle.rows.specs.Definition.Sizes.{chainLength}
+use Rattle.rows.specs.Definition.Tests.{listTest}
 use Rattle.rows.specs.declared.Channel.{Channel}
 use Rattle.kernel.specs.Definition.Tables.{SEGMENT, ramSize, classAt, withChannels, withDevices}
 use Rattle.kernel.specs.Definition.Line.{totalOf, opening, closing}

@@ -1,4 +1,4 @@
--- A refused call leaves the tables as they were. Assumes nothing.
+-- A refused call leaves the tables as they were.
 use mathlib.Core.Path.{_≡_, refl, sym}
 use mathlib.Core.Bool.{false, false≢true}
 use Prim.Native.Nat.{ℕ}

@@ -6,9 +6,10 @@ use native.Mathlib.Decide.{ℕ-discrete}
 use native.Mathlib.Omega.{arith}
 use borrow.Author.Tests.{eq-eqb, ne-eqb}
 use lib.ListN.{set, length-set}
-use Rattle.rows.specs.Classes.{FREE, USER, SYSTEM, SHARED, timesHeld}
-use Rattle.rows.specs.Sizes.{chainLength, length-some}
-use Rattle.rows.specs.Segs.{less-classes, less-chain}
+use Rattle.rows.specs.Definition.Classes.{FREE, USER, SYSTEM, SHARED, timesHeld}
+use Rattle.rows.specs.Definition.Sizes.{chainLength}
+use Rattle.rows.specs.Laws.Sizes.{length-some}
+use Rattle.rows.specs.Laws.ChainRows.{less-classes, less-chain}
 use Rattle.kernel.specs.Definition.Tables.{classAt, lastRow, withSegments}
 use Rattle.kernel.specs.Definition.Line.{totalOf, boundaryOf, oneLess, shrunk}
 use Rattle.kernel.specs.Definition.Good.{Good}

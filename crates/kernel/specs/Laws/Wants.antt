@@ -5,11 +5,11 @@ use mathlib.Core.Option.{some}
 use Prim.Native.Nat.{ℕ, _≤_}
 use native.Mathlib.Omega.{arith}
 use lib.ListN.{length, take, length-take}
-use Rattle.names.specs.Grammar.{Reading, file-only, full, Reads}
-use Rattle.names.specs.Read.{reading}
-use Rattle.names.specs.Right.{reading-right}
-use Rattle.names.specs.Parts.{device, unit, partsOf}
-use Rattle.names.specs.Places.{parts-read}
+use Rattle.names.specs.Definition.Grammar.{Reading, file-only, full, Reads}
+use Rattle.names.specs.Definition.Read.{reading}
+use Rattle.names.specs.Laws.Right.{reading-right}
+use Rattle.names.specs.Definition.Parts.{device, unit, partsOf}
+use Rattle.names.specs.Laws.Places.{parts-read}
 use Rattle.names.specs.declared.UnitNumber.{UnitNumber}
 use Rattle.names.specs.declared.Parts.the-variants.{Read}
 use Rattle.kernel.specs.Definition.Names.{Wanted, wanted, wantedBy}

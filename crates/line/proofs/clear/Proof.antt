@@ -1,11 +1,11 @@
--- `line::clear` meets its contract. The invariant: positions start to p - 1 are zero. A turn zeroes a run. Assumes nothing.
+-- `line::clear` meets its contract. The invariant: positions start to p - 1 are zero. A turn zeroes a run.
 use denote.Ref.{now}
 use mathlib.Core.Path.{_≡_, refl, _∙_}
 use Prim.Native.Nat.{_-_, _≤_}
 use native.Mathlib.Omega.{arith}
 use borrow.Author.Needs.{needs}
 use lib.ListN.{length, replicate}
-use Rattle.line.specs.Line.{putLine, placeOf}
+use Rattle.line.specs.Definition.Line.{putLine, placeOf}
 use Rattle.line.proofs.Places.{place-inside}
 use Rattle.line.proofs.Turns.{zeros-none, clear-turn}
 use Rattle.line.proofs.clear.Statement.{statement}

@@ -1,4 +1,4 @@
--- `line::close_line` meets its contract: the two calls make `closed`. Assumes nothing.
+-- `line::close_line` meets its contract: the two calls make `closed`.
 use denote.Ref.{now}
 use native.Mathlib.Omega.{arith}
 use borrow.Author.Needs.{needs}

@@ -1,13 +1,13 @@
--- `line::get` meets its contract. The invariant: the first k bytes are copied out. A turn copies a run. Assumes nothing.
+-- `line::get` meets its contract. The invariant: the first k bytes are copied out. A turn copies a run.
 use denote.Ref.{now}
 use mathlib.Core.Path.{_≡_, refl, _∙_}
 use Prim.Native.Nat.{_+_, _-_, _≤_}
 use native.Mathlib.Omega.{arith}
 use borrow.Author.Needs.{needs}
 use lib.ListN.{length}
-use Rattle.line.specs.Ram.{putFrom}
-use Rattle.line.specs.Line.{lineFrom, placeOf}
-use Rattle.line.specs.Runs.{rise}
+use Rattle.line.specs.Definition.Ram.{putFrom}
+use Rattle.line.specs.Definition.Line.{lineFrom, placeOf}
+use Rattle.line.specs.Laws.Runs.{rise}
 use Rattle.line.proofs.Loops.{copy-none}
 use Rattle.line.proofs.Places.{place-inside}
 use Rattle.line.proofs.Turns.{get-turn, got}

@@ -1,4 +1,4 @@
--- `line::lend` meets its contract: what is lent lies in the RAM, and each answer is a case of `partOf`. Assumes nothing.
+-- `line::lend` meets its contract: what is lent lies in the RAM, and each answer is a case of `partOf`.
 use denote.Ref.{now}
 use mathlib.Core.Path.{_≡_, sym, _∙_}
 use Prim.Native.Nat.{_+_, _≤_}
@@ -6,7 +6,7 @@ use native.Mathlib.Omega.{arith}
 use borrow.Author.Needs.{needs}
 use lib.ListN.{length}
 use Rattle.line.specs.declared.Lent.the-variants.{Part, Nothing}
-use Rattle.line.specs.Lent.{lentAt}
+use Rattle.line.specs.Definition.Lent.{lentAt}
 use Rattle.line.proofs.Lending.{lent-inside, lent-is, lent-empty}
 use Rattle.line.proofs.lend.Statement.{statement}
 use Rattle.line.proofs.lend.Tie as tie

@@ -1,4 +1,4 @@
--- `line::lent_at` meets its contract: each answer is a case of `lentAt`. Assumes nothing.
+-- `line::lent_at` meets its contract: each answer is a case of `lentAt`.
 use denote.Ref.{now}
 use native.Mathlib.Omega.{arith}
 use borrow.Author.Needs.{needs}

@@ -1,4 +1,4 @@
--- `line::link_line` meets its contract: the two calls make `linked`. Assumes nothing.
+-- `line::link_line` meets its contract: the two calls make `linked`.
 use denote.Ref.{now}
 use Prim.Native.Nat.{_+_}
 use native.Mathlib.Omega.{arith}

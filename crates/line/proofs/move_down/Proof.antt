@@ -1,11 +1,11 @@
--- `line::move_down` meets its contract. The invariant: from the end of the line back to position p, each byte is m positions on. A turn moves a run. Assumes nothing.
+-- `line::move_down` meets its contract. The invariant: from the end of the line back to position p, each byte is m positions on. A turn moves a run.
 use denote.Ref.{now}
 use mathlib.Core.Path.{_≡_, refl, _∙_}
 use Prim.Native.Nat.{_+_, _-_, _≤_}
 use native.Mathlib.Omega.{arith}
 use borrow.Author.Needs.{needs}
 use lib.ListN.{length}
-use Rattle.line.specs.Ram.{bytesFrom, putFrom}
+use Rattle.line.specs.Definition.Ram.{bytesFrom, putFrom}
 use Rattle.line.proofs.Places.{reach-some}
 use Rattle.line.proofs.Turns.{copied-none}
 use Rattle.line.proofs.Moves.{Down, back, down-inside, down-ahead, down-turn, down-whole}

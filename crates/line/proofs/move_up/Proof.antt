@@ -1,11 +1,11 @@
--- `line::move_up` meets its contract. The invariant: positions start to p - 1 have their new bytes. A turn moves a run. Assumes nothing.
+-- `line::move_up` meets its contract. The invariant: positions start to p - 1 have their new bytes. A turn moves a run.
 use denote.Ref.{now}
 use mathlib.Core.Path.{_≡_, refl, _∙_}
 use Prim.Native.Nat.{_+_, _-_, _≤_}
 use native.Mathlib.Omega.{arith}
 use borrow.Author.Needs.{needs}
 use lib.ListN.{length}
-use Rattle.line.specs.Line.{lineFrom, putLine, placeOf}
+use Rattle.line.specs.Definition.Line.{lineFrom, putLine, placeOf}
 use Rattle.line.proofs.Turns.{copied-none}
 use Rattle.line.proofs.Moves.{Up, up-inside, up-ahead, up-turn}
 use Rattle.line.proofs.move_up.Statement.{statement}

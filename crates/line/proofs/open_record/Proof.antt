@@ -1,4 +1,4 @@
--- `line::open_record` meets its contract: the two calls make `opened`. Assumes nothing.
+-- `line::open_record` meets its contract: the two calls make `opened`.
 use denote.Ref.{now}
 use mathlib.Core.Path.{refl, ap}
 use Prim.Native.Nat.{_+_}

@@ -1,4 +1,4 @@
--- `line::place` meets its contract: each arm is a case of `placeOf`. Assumes nothing.
+-- `line::place` meets its contract: each arm is a case of `placeOf`.
 use denote.Ref.{now}
 use native.Mathlib.Omega.{arith}
 use Rattle.line.proofs.Places.{place-low, place-high}

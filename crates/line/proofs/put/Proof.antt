@@ -1,13 +1,13 @@
--- `line::put` meets its contract. The invariant: the first k bytes of xs are put. A turn puts a run. Assumes nothing.
+-- `line::put` meets its contract. The invariant: the first k bytes of xs are put. A turn puts a run.
 use denote.Ref.{now}
 use mathlib.Core.Path.{_≡_, refl, _∙_}
 use Prim.Native.Nat.{_+_, _-_, _≤_}
 use native.Mathlib.Omega.{arith}
 use borrow.Author.Needs.{needs}
 use lib.ListN.{length}
-use Rattle.line.specs.Ram.{bytesFrom}
-use Rattle.line.specs.Line.{putLine, placeOf}
-use Rattle.line.specs.Runs.{rise}
+use Rattle.line.specs.Definition.Ram.{bytesFrom}
+use Rattle.line.specs.Definition.Line.{putLine, placeOf}
+use Rattle.line.specs.Laws.Runs.{rise}
 use Rattle.line.proofs.Loops.{copy-none}
 use Rattle.line.proofs.Sides.{bytes-all}
 use Rattle.line.proofs.Places.{place-inside}

@@ -1,4 +1,4 @@
--- `line::reach` meets its contract: each arm is a case of `reachOf`. Assumes nothing.
+-- `line::reach` meets its contract: each arm is a case of `reachOf`.
 use mathlib.Core.Path.{sym}
 use Rattle.line.proofs.Places.{reach-low, reach-high}
 use borrow.Author.Needs.{needs}

@@ -1,6 +1,6 @@
 -- `is_file` is the test of a file.
 use borrow.Author.Needs.{needs}
-use Rattle.names.specs.Tests.{allOf, fileTest}
+use Rattle.names.specs.Definition.Tests.{allOf, fileTest}
 use Rattle.names.proofs.is_file.Statement.{statement}
 use Rattle.names.proofs.is_file.Tie as tie
 

@@ -1,6 +1,6 @@
 -- `is_name` is the test of a name of the kind.
 use borrow.Author.Needs.{needs}
-use Rattle.names.specs.Tests.{allOf, nameTest}
+use Rattle.names.specs.Definition.Tests.{allOf, nameTest}
 use Rattle.names.proofs.is_name.Statement.{statement}
 use Rattle.names.proofs.is_name.Tie as tie
 

@@ -4,9 +4,9 @@ use lib.Dec.{leb, eqb}
 use borrow.Author.Tests.{eqb-true}
 use mathlib.Core.Path.{sym, _∙_}
 use mathlib.Core.Bool.{and-eq-true-iff}
-use Rattle.names.specs.Tests.{allOf}
-use Rattle.names.specs.Read.{numberOf}
-use Rattle.names.specs.Runs.{all-run}
+use Rattle.names.specs.Definition.Tests.{allOf}
+use Rattle.names.specs.Definition.Read.{numberOf}
+use Rattle.names.specs.Laws.Runs.{all-run}
 use Rattle.names.specs.declared.Kind.the-variants.{Digit}
 use borrow.Author.Needs.{needs}
 use Rattle.names.proofs.number.Statement.{statement}

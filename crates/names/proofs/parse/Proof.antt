@@ -6,8 +6,8 @@ use lib.ListN.{length, take, drop}
 use lib.Seq.{length-take-le}
 use native.Mathlib.Omega.{arith}
 use borrow.Author.Tests.{not-true, not-false}
-use Rattle.names.specs.Tests.{fileTest}
-use Rattle.names.specs.Runs.{run-le}
+use Rattle.names.specs.Definition.Tests.{fileTest}
+use Rattle.names.specs.Laws.Runs.{run-le}
 use Rattle.names.specs.declared.Kind.the-variants.{BeforeColon}
 use Rattle.names.proofs.Branches.{part-from, long-refused, no-colon-read, colon-refused, colon-read}
 use borrow.Author.Needs.{needs}

@@ -4,8 +4,8 @@ use borrow.Author.Tests.{not-true, not-false}
 use Prim.Native.Nat.{_≤_, _+_, _-_}
 use mathlib.Core.Path.{_≡_, sym, _∙_}
 use lib.ListN.{length, drop}
-use Rattle.names.specs.Tests.{runOf}
-use Rattle.names.specs.Runs.{run-step, run-stops, run-ends}
+use Rattle.names.specs.Definition.Tests.{runOf}
+use Rattle.names.specs.Laws.Runs.{run-step, run-stops, run-ends}
 use Rattle.names.proofs.run.Statement.{statement}
 use Rattle.names.proofs.run.Tie as tie
 

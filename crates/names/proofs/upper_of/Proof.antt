@@ -1,6 +1,6 @@
 -- `upper_of` is `upper`: below a, above z, and between.
 use mathlib.Core.Path.{sym}
-use Rattle.names.specs.Laid.{upper-below, upper-above, upper-small}
+use Rattle.names.specs.Laws.Laid.{upper-below, upper-above, upper-small}
 use borrow.Author.Needs.{needs}
 use Rattle.names.proofs.upper_of.Statement.{statement}
 use Rattle.names.proofs.upper_of.Tie as tie

@@ -1,7 +1,7 @@
 -- `with_digit` is the number with one more digit, capped: either the number is low enough, or it is 256.
 use borrow.Author.Needs.{needs}
 use mathlib.Core.Path.{sym}
-use Rattle.names.specs.Numbers.{capped-low, capped-high}
+use Rattle.names.specs.Laws.Numbers.{capped-low, capped-high}
 use Rattle.names.proofs.with_digit.Statement.{statement}
 use Rattle.names.proofs.with_digit.Tie as tie
 

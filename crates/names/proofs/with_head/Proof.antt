@@ -4,7 +4,7 @@ use mathlib.Core.Path.{_≡_}
 use lib.ListN.{length, take, length-drop}
 use lib.Seq.{length-take-le}
 use native.Mathlib.Omega.{arith}
-use Rattle.names.specs.Runs.{run-le}
+use Rattle.names.specs.Laws.Runs.{run-le}
 use Rattle.names.specs.declared.Kind.the-variants.{Letter}
 use Rattle.names.proofs.Branches.{part-from, head-refused, head-read}
 use borrow.Author.Needs.{needs}

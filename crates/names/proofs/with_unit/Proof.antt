@@ -2,7 +2,7 @@
 use lib.ListN.{length, drop, length-drop}
 use native.Mathlib.Omega.{arith}
 use mathlib.Core.Path.{_≡_, refl}
-use Rattle.names.specs.Grammar.{plain, dashed}
+use Rattle.names.specs.Definition.Grammar.{plain, dashed}
 use Rattle.names.proofs.Branches.{part-from, unit-absent, unit-dashed, unit-plain}
 use borrow.Author.Needs.{needs}
 use Rattle.names.proofs.with_unit.Statement.{statement}

@@ -4,8 +4,8 @@ use Prim.Native.Nat.{_≤_, _-_, min}
 use mathlib.Core.Path.{_≡_, _∙_}
 use lib.ListN.{length, take}
 use native.Mathlib.Omega.{arith}
-use Rattle.names.specs.Words.{wordOf}
-use Rattle.names.specs.Laid.{word-empty, word-more, word-whole}
+use Rattle.names.specs.Definition.Words.{wordOf}
+use Rattle.names.specs.Laws.Laid.{word-empty, word-more, word-whole}
 use Rattle.names.proofs.word.Statement.{statement}
 use Rattle.names.proofs.word.Tie as tie
 

@@ -1,4 +1,4 @@
--- `replay::known` meets its contract. Assumes nothing.
+-- `replay::known` meets its contract.
 use mathlib.Core.Bool.{false≢true}
 use borrow.Author.Needs.{needs}
 use Rattle.replay.proofs.Laws.{accepted-ready}

@@ -1,4 +1,4 @@
--- `replay::replay` meets its contract. Assumes nothing.
+-- `replay::replay` meets its contract.
 use mathlib.Core.Path.{_≡_, refl, _∙_}
 use mathlib.Core.Bool.{true}
 use Prim.Native.Nat.{_-_}

@@ -1,7 +1,7 @@
--- `replay::size_at` meets its contract. Assumes nothing.
+-- `replay::size_at` meets its contract.
 use mathlib.Core.Path.{_∙_}
 use denote.Ref.{now}
-use Rattle.replay.specs.Laws.{size-cut, size-low, size-high, size-short, size-whole}
+use Rattle.replay.specs.Laws.Records.{size-cut, size-low, size-high, size-short, size-whole}
 use borrow.Author.Needs.{needs}
 use Rattle.replay.proofs.size_at.Statement.{statement}
 use Rattle.replay.proofs.size_at.Tie as tie

@@ -1,4 +1,4 @@
--- `ten_cases::shared_then_user` keeps the RAM's length. Assumes nothing.
+-- `ten_cases::shared_then_user` keeps the RAM's length.
 use mathlib.Core.Path.{_∙_}
 use borrow.Author.Needs.{needs}
 use Rattle.ten_cases.proofs.shared_then_user.Statement.{statement}

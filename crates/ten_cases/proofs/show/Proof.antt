@@ -1,4 +1,4 @@
--- `ten_cases::show` keeps within its line. Assumes nothing.
+-- `ten_cases::show` keeps within its line.
 use native.Mathlib.Omega.{arith}
 use lib.ListN.{length-set, length-take}
 use borrow.Author.Needs.{needs}

@@ -1,4 +1,4 @@
--- `decimal` calls itself on the tenth part: the measure is the number. Assumes nothing.
+-- `decimal` calls itself on the tenth part: the measure is the number.
 use borrow.Author.Needs.{needs}
 use denote.Ref.{now}
 use mathlib.Core.Path.{_∙_}

@@ -1,4 +1,4 @@
--- `field` writes a number of at most five digits, and a space. Assumes nothing.
+-- `field` writes a number of at most five digits, and a space.
 use native.Mathlib.Omega.{arith}
 use Rattle.text.proofs.Laws.{put-then}
 use borrow.Author.Needs.{needs}

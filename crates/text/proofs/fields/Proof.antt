@@ -1,4 +1,4 @@
--- `fields` writes four numbers, one space between. Assumes nothing.
+-- `fields` writes four numbers, one space between.
 use native.Mathlib.Omega.{arith}
 use Rattle.text.proofs.Laws.{four}
 use borrow.Author.Needs.{needs}

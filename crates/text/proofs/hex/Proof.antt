@@ -1,11 +1,11 @@
--- `hex` writes two digits a byte. The invariant: the first i bytes are put. Assumes nothing.
+-- `hex` writes two digits a byte. The invariant: the first i bytes are put.
 use denote.Ref.{now}
 use mathlib.Core.Path.{_≡_, refl, _∙_}
 use Prim.Native.Nat.{_+_, _*_, _/_, _-_, _<_, _≤_}
 use native.Mathlib.Omega.{arith}
 use lib.ListN.{length, take}
 use lib.Seq.{take-all}
-use Rattle.text.specs.Text.{Put, hexOf}
+use Rattle.text.specs.Definition.Text.{Put, hexOf}
 use Rattle.text.proofs.Laws.{put-none, hex-turn}
 use Rattle.text.proofs.hex.Statement.{statement}
 use Rattle.text.proofs.hex.Tie as tie

@@ -1,4 +1,4 @@
--- `nibble` is the digit of a number below 16. Assumes nothing.
+-- `nibble` is the digit of a number below 16.
 use borrow.Author.Tests.{lt-ltb, le-ltb}
 use borrow.Author.Needs.{needs}
 use Rattle.text.proofs.nibble.Statement.{statement}

@@ -1,4 +1,4 @@
--- `number` writes at most five digits. Assumes nothing.
+-- `number` writes at most five digits.
 use native.Mathlib.Omega.{arith}
 use Rattle.text.proofs.Laws.{short}
 use borrow.Author.Needs.{needs}

@@ -1,4 +1,4 @@
--- `put` writes one byte. Assumes nothing.
+-- `put` writes one byte.
 use denote.Ref.{now}
 use Rattle.text.proofs.Laws.{put-one}
 use borrow.Author.Needs.{needs}

@@ -1,4 +1,4 @@
--- `events::channels::close_event` meets its contract. Assumes nothing.
+-- `events::channels::close_event` meets its contract.
 use Rattle.kernel.specs.Definition.Calls.{close}
 use Rattle.kernel.specs.Definition.Step.{heard}
 use Rattle.events.proofs.Laws.{no-call, done}

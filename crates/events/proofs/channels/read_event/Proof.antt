@@ -1,4 +1,4 @@
--- `events::channels::read_event` meets its contract. Assumes nothing.
+-- `events::channels::read_event` meets its contract.
 use Rattle.kernel.specs.Definition.Calls.{read}
 use Rattle.kernel.specs.Definition.Step.{heard}
 use Rattle.events.proofs.Laws.{no-call, done}

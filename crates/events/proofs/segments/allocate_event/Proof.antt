@@ -1,4 +1,4 @@
--- `events::segments::allocate_event` meets its contract. Assumes nothing.
+-- `events::segments::allocate_event` meets its contract.
 use mathlib.Core.Path.{refl}
 use Rattle.kernel.specs.Definition.Calls.{allocate}
 use Rattle.kernel.specs.Definition.Step.{heard, ramAfter, outputAfter}

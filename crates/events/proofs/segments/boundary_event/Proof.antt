@@ -1,4 +1,4 @@
--- `events::segments::boundary_event` meets its contract. Assumes nothing.
+-- `events::segments::boundary_event` meets its contract.
 use mathlib.Core.Path.{refl}
 use Rattle.kernel.specs.Definition.Calls.{boundary}
 use Rattle.kernel.specs.Definition.Step.{heard, ramAfter, outputAfter}

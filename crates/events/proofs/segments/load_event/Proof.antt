@@ -1,4 +1,4 @@
--- `events::segments::load_event` meets its contract. Assumes nothing.
+-- `events::segments::load_event` meets its contract.
 use Rattle.kernel.specs.Definition.Calls.{load}
 use Rattle.kernel.specs.Definition.Step.{heard}
 use Rattle.events.proofs.Laws.{no-call, done}

@@ -1,4 +1,4 @@
--- `events::segments::status_event` meets its contract. Assumes nothing.
+-- `events::segments::status_event` meets its contract.
 use Rattle.kernel.specs.Definition.Calls.{status}
 use Rattle.kernel.specs.Definition.Step.{heard}
 use Rattle.events.proofs.Laws.{no-call, done}

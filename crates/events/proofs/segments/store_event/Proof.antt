@@ -1,4 +1,4 @@
--- `events::segments::store_event` meets its contract. Assumes nothing.
+-- `events::segments::store_event` meets its contract.
 use Rattle.kernel.specs.Definition.Calls.{store}
 use Rattle.kernel.specs.Definition.Step.{heard}
 use Rattle.events.proofs.Laws.{no-call, done}

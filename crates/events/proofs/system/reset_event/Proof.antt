@@ -1,4 +1,4 @@
--- `events::system::reset_event` meets its contract. Assumes nothing.
+-- `events::system::reset_event` meets its contract.
 use Rattle.kernel.specs.Definition.Calls.{reset}
 use Rattle.kernel.specs.Definition.Step.{heard}
 use Rattle.events.proofs.Laws.{no-call, done}

@@ -1,4 +1,4 @@
--- `events::system::start_event` meets its contract. Assumes nothing.
+-- `events::system::start_event` meets its contract.
 use Rattle.kernel.specs.Definition.Calls.{start}
 use Rattle.events.proofs.Laws.{no-start, start-done}
 use Rattle.events.proofs.Taken.{start-taken}

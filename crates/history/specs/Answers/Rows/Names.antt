@@ -7,12 +7,12 @@ use mathlib.Core.Option.{Option, none, some}
 use Prim.Native.Nat.{ℕ, _+_, _-_, _≤_, _<_}
 use native.Mathlib.Omega.{arith}
 use lib.Dec.{leb}
-use Rattle.names.specs.Grammar.{Reading, Reads}
-use Rattle.names.specs.Read.{reading}
-use Rattle.names.specs.Right.{reading-right, reads-one, unread-right}
-use Rattle.names.specs.Runs.{link-right, link-finds, default-right, default-finds}
-use Rattle.names.specs.Words.{LinkName, DefaultName}
-use Rattle.rows.specs.Join.{Says, says-le, says-lt, says-eq, says-or, says-not, says-as}
+use Rattle.names.specs.Definition.Grammar.{Reading, Reads}
+use Rattle.names.specs.Definition.Read.{reading}
+use Rattle.names.specs.Laws.Right.{reading-right, reads-one, unread-right}
+use Rattle.names.specs.Laws.Runs.{link-right, link-finds, default-right, default-finds}
+use Rattle.names.specs.Definition.Words.{LinkName, DefaultName}
+use Rattle.rows.specs.Laws.Good.{Says, says-le, says-lt, says-eq, says-or, says-not, says-as}
 use Rattle.kernel.specs.Definition.Good.{Good}
 use Rattle.kernel.specs.Definition.Line.{totalOf}
 use Rattle.kernel.specs.Definition.Names.{wanted, deviceFor}

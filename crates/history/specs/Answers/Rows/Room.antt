@@ -1,8 +1,8 @@
 -- 9 ROOM: "room rule broken", and as the room rule is asked.
 use Prim.Native.Nat.{ℕ, _+_, _-_, _*_}
-use Rattle.rows.specs.Classes.{FREE, SHARED}
-use Rattle.rows.specs.Sizes.{chainLength, boundaryAt}
-use Rattle.rows.specs.Join.{Says, says-le, says-eq, says-and, says-as}
+use Rattle.rows.specs.Definition.Classes.{FREE, SHARED}
+use Rattle.rows.specs.Definition.Sizes.{chainLength, boundaryAt}
+use Rattle.rows.specs.Laws.Good.{Says, says-le, says-eq, says-and, says-as}
 use Rattle.kernel.specs.Definition.Tables.{SEGMENT, countOf}
 use Rattle.kernel.specs.Definition.Good.{Good}
 use Rattle.kernel.specs.Definition.Line.{roomFor}

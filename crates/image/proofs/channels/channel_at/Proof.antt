@@ -1,4 +1,4 @@
--- `channels::channel_at` reads five bytes. Assumes nothing.
+-- `channels::channel_at` reads five bytes.
 use denote.Ref.{now}
 use mathlib.Core.Path.{_≡_}
 use Rattle.image.proofs.Rows.{channel-read}

@@ -1,11 +1,11 @@
--- `channels::channels_at` reads a row a turn. The invariant: the first i rows are read. Assumes nothing.
+-- `channels::channels_at` reads a row a turn. The invariant: the first i rows are read.
 use denote.Ref.{now}
 use mathlib.Core.Path.{_≡_, refl, sym, ap, _∙_}
 use Prim.Native.Nat.{_+_, _*_, _-_, _<_, _≤_}
 use native.Mathlib.Omega.{arith}
 use lib.ListN.{length, take, drop, length-set}
 use lib.Seq.{take-all}
-use Rattle.image.specs.Image.{channelOf, rowsOf}
+use Rattle.image.specs.Definition.Image.{channelOf, rowsOf}
 use Rattle.image.proofs.Laws.{row-read}
 use Rattle.image.proofs.channels.channels_at.Statement.{statement}
 use Rattle.image.proofs.channels.channels_at.Tie as tie

@@ -1,4 +1,4 @@
--- `channels::put_channel` puts five bytes. Assumes nothing.
+-- `channels::put_channel` puts five bytes.
 use Rattle.text.proofs.Laws.{put-then}
 use borrow.Author.Needs.{needs}
 use Rattle.image.proofs.channels.put_channel.Statement.{statement}

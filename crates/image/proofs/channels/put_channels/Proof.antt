@@ -1,14 +1,14 @@
--- `channels::put_channels` puts a row a turn. The invariant: the first i rows are put. Assumes nothing.
+-- `channels::put_channels` puts a row a turn. The invariant: the first i rows are put.
 use denote.Ref.{now}
 use mathlib.Core.Path.{_≡_, refl, sym, ap, _∙_}
 use Prim.Native.Nat.{_+_, _*_, _-_, _<_, _≤_}
 use native.Mathlib.Omega.{arith}
 use lib.ListN.{length, take, drop, length-set}
 use lib.Seq.{take-all}
-use Rattle.text.specs.Text.{Put}
+use Rattle.text.specs.Definition.Text.{Put}
 use Rattle.text.proofs.Laws.{put-none}
-use Rattle.rows.specs.Channels.{noChannel}
-use Rattle.image.specs.Image.{bytesOf, channelBytes}
+use Rattle.rows.specs.Definition.Channels.{noChannel}
+use Rattle.image.specs.Definition.Image.{bytesOf, channelBytes}
 use Rattle.image.proofs.Laws.{row-put}
 use Rattle.image.proofs.channels.put_channels.Statement.{statement}
 use Rattle.image.proofs.channels.put_channels.Tie as tie

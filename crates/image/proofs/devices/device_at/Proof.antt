@@ -1,4 +1,4 @@
--- `devices::device_at` reads 30 bytes. Assumes nothing.
+-- `devices::device_at` reads 30 bytes.
 use denote.Ref.{now}
 use mathlib.Core.Path.{_≡_}
 use Rattle.image.proofs.Rows.{device-read}

@@ -1,10 +1,10 @@
--- `devices::put_device` puts 30 bytes. Assumes nothing.
+-- `devices::put_device` puts 30 bytes.
 use mathlib.Core.Path.{_≡_, ap}
 use Prim.Native.Nat.{ℕ}
 use native.Mathlib.Omega.{arith}
 use lib.ListN.{length}
 use Rattle.text.proofs.Laws.{put-then}
-use Rattle.image.specs.Image.{u8Bytes}
+use Rattle.image.specs.Definition.Image.{u8Bytes}
 use Rattle.image.proofs.Known.{device-name}
 use Rattle.image.proofs.Laws.{put-same}
 use borrow.Author.Needs.{needs}

@@ -1,4 +1,4 @@
--- `fields::name_at` reads a byte a turn. The invariant: the first i bytes are read. Assumes nothing.
+-- `fields::name_at` reads a byte a turn. The invariant: the first i bytes are read.
 use denote.Ref.{now}
 use mathlib.Core.Path.{_≡_, refl, sym, ap, _∙_}
 use Prim.Native.Nat.{_+_, _*_, _-_, _<_, _≤_}

@@ -1,11 +1,11 @@
--- `fields::put_run` puts a byte a turn. The invariant: the first i bytes are put. Assumes nothing.
+-- `fields::put_run` puts a byte a turn. The invariant: the first i bytes are put.
 use denote.Ref.{now}
 use mathlib.Core.Path.{_≡_, refl, sym, ap, _∙_}
 use Prim.Native.Nat.{_+_, _*_, _-_, _<_, _≤_}
 use native.Mathlib.Omega.{arith}
 use lib.ListN.{length, take, drop, length-set}
 use lib.Seq.{take-all}
-use Rattle.text.specs.Text.{Put}
+use Rattle.text.specs.Definition.Text.{Put}
 use Rattle.text.proofs.Laws.{put-none}
 use Rattle.image.proofs.Laws.{run-put}
 use Rattle.image.proofs.fields.put_run.Statement.{statement}

@@ -1,4 +1,4 @@
--- `fields::put_u16` puts two bytes. Assumes nothing.
+-- `fields::put_u16` puts two bytes.
 use Rattle.text.proofs.Laws.{put-then}
 use borrow.Author.Needs.{needs}
 use Rattle.image.proofs.fields.put_u16.Statement.{statement}

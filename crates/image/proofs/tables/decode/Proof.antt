@@ -1,4 +1,4 @@
--- `tables::decode` reads each field at its offset. Assumes nothing.
+-- `tables::decode` reads each field at its offset.
 use denote.Ref.{now}
 use native.Mathlib.Omega.{arith}
 use Rattle.image.proofs.Made.{run-laid, tables-made}

@@ -1,8 +1,8 @@
--- `tables::encode` puts the four parts of an image. Assumes nothing.
+-- `tables::encode` puts the four parts of an image.
 use mathlib.Core.Path.{_∙_}
 use native.Mathlib.Omega.{arith}
 use Rattle.text.proofs.Laws.{put-then}
-use Rattle.image.specs.Image.{imageOf}
+use Rattle.image.specs.Definition.Image.{imageOf}
 use Rattle.image.proofs.Laws.{whole}
 use borrow.Author.Needs.{needs}
 use Rattle.image.proofs.tables.encode.Statement.{statement}

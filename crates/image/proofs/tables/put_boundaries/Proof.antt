@@ -1,7 +1,7 @@
--- `tables::put_boundaries` puts three numbers. Assumes nothing.
+-- `tables::put_boundaries` puts three numbers.
 use native.Mathlib.Omega.{arith}
 use Rattle.text.proofs.Laws.{put-then}
-use Rattle.image.specs.Image.{boundaryBytes}
+use Rattle.image.specs.Definition.Image.{boundaryBytes}
 use borrow.Author.Needs.{needs}
 use Rattle.image.proofs.tables.put_boundaries.Statement.{statement}
 use Rattle.image.proofs.tables.put_boundaries.Tie as tie

@@ -1,9 +1,9 @@
--- `tables::put_default` puts 30 bytes. Assumes nothing.
+-- `tables::put_default` puts 30 bytes.
 use mathlib.Core.Path.{_≡_}
 use native.Mathlib.Omega.{arith}
 use lib.ListN.{length}
 use Rattle.text.proofs.Laws.{put-then}
-use Rattle.image.specs.Image.{defaultBytes}
+use Rattle.image.specs.Definition.Image.{defaultBytes}
 use Rattle.image.proofs.Known.{default-name}
 use borrow.Author.Needs.{needs}
 use Rattle.image.proofs.tables.put_default.Statement.{statement}

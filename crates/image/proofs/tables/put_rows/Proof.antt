@@ -1,7 +1,7 @@
--- `tables::put_rows` puts 642 bytes. Assumes nothing.
+-- `tables::put_rows` puts 642 bytes.
 use native.Mathlib.Omega.{arith}
 use Rattle.text.proofs.Laws.{put-then}
-use Rattle.image.specs.Image.{rowBytes}
+use Rattle.image.specs.Definition.Image.{rowBytes}
 use borrow.Author.Needs.{needs}
 use Rattle.image.proofs.tables.put_rows.Statement.{statement}
 use Rattle.image.proofs.tables.put_rows.Tie as tie

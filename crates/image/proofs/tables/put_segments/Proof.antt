@@ -1,8 +1,8 @@
--- `tables::put_segments` puts 98 bytes. Assumes nothing.
+-- `tables::put_segments` puts 98 bytes.
 use native.Mathlib.Omega.{arith}
 use Rattle.kernel.proofs.Known.{sized}
 use Rattle.text.proofs.Laws.{put-then}
-use Rattle.image.specs.Image.{segmentBytes}
+use Rattle.image.specs.Definition.Image.{segmentBytes}
 use borrow.Author.Needs.{needs}
 use Rattle.image.proofs.tables.put_segments.Statement.{statement}
 use Rattle.image.proofs.tables.put_segments.Tie as tie

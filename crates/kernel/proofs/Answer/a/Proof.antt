@@ -1,4 +1,4 @@
--- `Answer::a` meets its contract. Assumes nothing.
+-- `Answer::a` meets its contract.
 use mathlib.Core.Path.{sym, ap}
 use borrow.Author.Needs.{needs}
 use Rattle.kernel.specs.Definition.Answers.{aOf}

@@ -1,4 +1,4 @@
--- `Answer::b` meets its contract. Assumes nothing.
+-- `Answer::b` meets its contract.
 use mathlib.Core.Path.{sym, ap}
 use borrow.Author.Needs.{needs}
 use Rattle.kernel.specs.Definition.Answers.{bOf}

@@ -1,4 +1,4 @@
--- `Answer::number` meets its contract, case by case. Assumes nothing.
+-- `Answer::number` meets its contract, case by case.
 use mathlib.Core.Path.{sym, ap}
 use Rattle.kernel.specs.Definition.Answers.{numberOf}
 use borrow.Author.Needs.{needs}

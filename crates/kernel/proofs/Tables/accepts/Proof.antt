@@ -1,4 +1,4 @@
--- `Tables::accepts` meets its contract. Assumes nothing.
+-- `Tables::accepts` meets its contract.
 use mathlib.Core.Path.{_≡_, sym, _∙_}
 use mathlib.Core.Bool.{true, false, false≢true}
 use borrow.Author.Tests.{not-true, not-false}

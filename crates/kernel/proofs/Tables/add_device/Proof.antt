@@ -1,4 +1,4 @@
--- `Tables::add_device` meets its contract. Assumes nothing.
+-- `Tables::add_device` meets its contract.
 use borrow.Author.Needs.{needs}
 use Rattle.kernel.proofs.NoChange.{grown-none}
 use Rattle.kernel.proofs.LinkCalls.{device-held, device-made}

@@ -1,4 +1,4 @@
--- `Tables::allocate` meets its contract. Assumes nothing.
+-- `Tables::allocate` meets its contract.
 use mathlib.Core.Path.{refl}
 use Rattle.kernel.specs.Definition.Calls.{allocate}
 use Rattle.kernel.specs.Definition.Step.{heard, ramAfter, outputAfter}

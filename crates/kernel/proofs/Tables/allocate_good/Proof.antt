@@ -1,4 +1,4 @@
--- `Tables::allocate_good` meets its contract. Assumes nothing.
+-- `Tables::allocate_good` meets its contract.
 use Rattle.kernel.proofs.SegmentCalls.{last-below}
 use mathlib.Core.Path.{_∙_}
 use Rattle.kernel.proofs.SegmentCalls.{allocate-caller, allocate-free, allocate-device, allocate-shared, allocate-edge, allocate-share, last-of}

@@ -1,4 +1,4 @@
--- `Tables::append` meets its contract. Assumes nothing.
+-- `Tables::append` meets its contract.
 use borrow.Author.Needs.{needs}
 use Rattle.kernel.proofs.NoChange.{grown-none}
 use Rattle.kernel.proofs.OpenCalls.{append-held, append-made}

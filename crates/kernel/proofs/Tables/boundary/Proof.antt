@@ -1,4 +1,4 @@
--- `Tables::boundary` meets its contract. Assumes nothing.
+-- `Tables::boundary` meets its contract.
 use mathlib.Core.Path.{refl}
 use Rattle.kernel.specs.Definition.Calls.{boundary}
 use Rattle.kernel.specs.Definition.Step.{heard, ramAfter, outputAfter}

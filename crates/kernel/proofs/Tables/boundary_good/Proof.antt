@@ -1,4 +1,4 @@
--- `Tables::boundary_good` meets its contract. Assumes nothing.
+-- `Tables::boundary_good` meets its contract.
 use Rattle.kernel.proofs.SegmentCalls.{last-of, last-below, boundary-done}
 use Rattle.kernel.proofs.SegmentCalls.{last-of}
 use borrow.Author.Needs.{needs}

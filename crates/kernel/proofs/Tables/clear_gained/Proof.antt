@@ -1,4 +1,4 @@
--- `Tables::clear_gained` meets its contract. Assumes nothing.
+-- `Tables::clear_gained` meets its contract.
 use Rattle.kernel.proofs.Resetting.{gained-chain, gained-cleared}
 use borrow.Author.Needs.{needs}
 use Rattle.kernel.proofs.Tables.clear_gained.Statement.{statement}

@@ -1,4 +1,4 @@
--- `Tables::clear_line` meets its contract. Assumes nothing.
+-- `Tables::clear_line` meets its contract.
 use Rattle.kernel.proofs.Resetting.{line-chain, line-cleared}
 use borrow.Author.Needs.{needs}
 use Rattle.kernel.proofs.Tables.clear_line.Statement.{statement}

@@ -1,4 +1,4 @@
--- `Tables::close` meets its contract. Assumes nothing.
+-- `Tables::close` meets its contract.
 use mathlib.Core.Path.{refl}
 use Rattle.kernel.specs.Definition.Calls.{close}
 use Rattle.kernel.specs.Definition.Step.{heard}

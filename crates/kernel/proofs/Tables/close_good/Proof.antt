@@ -1,4 +1,4 @@
--- `Tables::close_good` meets its contract. Assumes nothing.
+-- `Tables::close_good` meets its contract.
 use Rattle.kernel.proofs.Spans.{Open, open-at, open-none}
 use Rattle.kernel.proofs.Closing.{close-gone, close-done}
 use borrow.Author.Needs.{needs}

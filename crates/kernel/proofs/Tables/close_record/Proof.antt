@@ -1,4 +1,4 @@
--- `Tables::close_record` meets its contract. Assumes nothing.
+-- `Tables::close_record` meets its contract.
 use Rattle.kernel.proofs.Closing.{record-chain, record-closed}
 use borrow.Author.Needs.{needs}
 use Rattle.kernel.proofs.Tables.close_record.Statement.{statement}

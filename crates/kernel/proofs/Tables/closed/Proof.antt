@@ -1,4 +1,4 @@
--- `Tables::closed` meets its contract. Assumes nothing.
+-- `Tables::closed` meets its contract.
 use Rattle.kernel.proofs.Closing.{rows-fit, rows-closed}
 use borrow.Author.Needs.{needs}
 use Rattle.kernel.proofs.NoChange.{shrunk-none}

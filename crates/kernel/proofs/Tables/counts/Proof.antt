@@ -1,4 +1,4 @@
--- `Tables::counts` meets its contract. Assumes nothing.
+-- `Tables::counts` meets its contract.
 use Rattle.kernel.proofs.SegmentCalls.{count-byte}
 use borrow.Author.Needs.{needs}
 use Rattle.kernel.proofs.Tables.counts.Statement.{statement}

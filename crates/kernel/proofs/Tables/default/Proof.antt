@@ -1,4 +1,4 @@
--- `Tables::default` meets its contract. Assumes nothing.
+-- `Tables::default` meets its contract.
 use mathlib.Core.Path.{refl}
 use Rattle.kernel.specs.Definition.Calls.{default}
 use Rattle.kernel.specs.Definition.Step.{heard, ramAfter, outputAfter}

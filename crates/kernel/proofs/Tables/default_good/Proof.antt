@@ -1,4 +1,4 @@
--- `Tables::default_good` meets its contract. Assumes nothing.
+-- `Tables::default_good` meets its contract.
 use mathlib.Core.Path.{_∙_}
 use Rattle.kernel.proofs.StartCalls.{default-refused, default-done}
 use borrow.Author.Needs.{needs}

@@ -1,4 +1,4 @@
--- `Tables::emptied` meets its contract. Assumes nothing.
+-- `Tables::emptied` meets its contract.
 use Rattle.kernel.proofs.Resetting.{none-fit, none-left, none-behind}
 use borrow.Author.Needs.{needs}
 use Rattle.kernel.proofs.Tables.emptied.Statement.{statement}

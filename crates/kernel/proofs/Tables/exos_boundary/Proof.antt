@@ -1,4 +1,4 @@
--- `Tables::exos_boundary` meets its contract. Assumes nothing.
+-- `Tables::exos_boundary` meets its contract.
 use Rattle.kernel.proofs.SegmentCalls.{edge-of}
 use borrow.Author.Needs.{needs}
 use Rattle.kernel.proofs.Tables.exos_boundary.Statement.{statement}

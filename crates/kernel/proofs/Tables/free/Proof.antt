@@ -1,4 +1,4 @@
--- `Tables::free` meets its contract. Assumes nothing.
+-- `Tables::free` meets its contract.
 use mathlib.Core.Path.{refl}
 use Rattle.kernel.specs.Definition.Calls.{free}
 use Rattle.kernel.specs.Definition.Step.{heard, ramAfter, outputAfter}

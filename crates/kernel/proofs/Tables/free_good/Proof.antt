@@ -1,4 +1,4 @@
--- `Tables::free_good` meets its contract. Assumes nothing.
+-- `Tables::free_good` meets its contract.
 use mathlib.Core.Path.{refl}
 use mathlib.Core.Path.{_∙_, sym}
 use Rattle.kernel.proofs.SegmentCalls.{free-caller, free-absent, free-own, free-shared, free-other}

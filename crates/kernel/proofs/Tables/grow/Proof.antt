@@ -1,4 +1,4 @@
--- `Tables::grow` meets its contract. Assumes nothing.
+-- `Tables::grow` meets its contract.
 use mathlib.Core.Path.{_≡_, _∙_, sym}
 use Prim.Native.Nat.{_≤_, _-_, _+_}
 use native.Mathlib.Omega.{arith}

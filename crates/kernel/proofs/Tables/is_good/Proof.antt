@@ -1,4 +1,4 @@
--- `Tables::is_good` meets its contract. Assumes nothing.
+-- `Tables::is_good` meets its contract.
 use native.Mathlib.Omega.{arith}
 use borrow.Author.Tests.{not-true, not-false}
 use Rattle.kernel.specs.Laws.Good.{good-no, good-sizes, good-made}

@@ -1,4 +1,4 @@
--- `Tables::is_open` meets its contract. Assumes nothing.
+-- `Tables::is_open` meets its contract.
 use borrow.Author.Needs.{needs}
 use Rattle.kernel.proofs.OpenCalls.{open-yes, open-no}
 use Rattle.kernel.proofs.Tables.is_open.Statement.{statement}

@@ -1,4 +1,4 @@
--- `Tables::lend` meets its contract. Assumes nothing.
+-- `Tables::lend` meets its contract.
 use mathlib.Core.Path.{sym, _∙_}
 use borrow.Author.Tests.{not-true, not-false}
 use Rattle.kernel.proofs.Calls.{accepted-good, accepted-size}

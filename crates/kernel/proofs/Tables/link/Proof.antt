@@ -1,4 +1,4 @@
--- `Tables::link` meets its contract. Assumes nothing.
+-- `Tables::link` meets its contract.
 use mathlib.Core.Path.{refl}
 use Rattle.kernel.specs.Definition.Calls.{link}
 use Rattle.kernel.specs.Definition.Step.{heard}

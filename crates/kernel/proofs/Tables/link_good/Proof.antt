@@ -1,4 +1,4 @@
--- `Tables::link_good` meets its contract. Assumes nothing.
+-- `Tables::link_good` meets its contract.
 use mathlib.Core.Path.{refl}
 use borrow.Author.Needs.{needs}
 use Rattle.kernel.specs.Laws.Links.{Links}

@@ -1,4 +1,4 @@
--- `Tables::load` meets its contract. Assumes nothing.
+-- `Tables::load` meets its contract.
 use mathlib.Core.Path.{refl}
 use Rattle.kernel.specs.Definition.Calls.{load}
 use Rattle.kernel.specs.Definition.Step.{heard}

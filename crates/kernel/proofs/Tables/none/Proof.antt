@@ -1,4 +1,4 @@
--- `Tables::none` meets its contract. Assumes nothing.
+-- `Tables::none` meets its contract.
 use mathlib.Core.Path.{refl}
 use Rattle.kernel.specs.Definition.Reset.{noTables}
 use Rattle.kernel.proofs.Tables.none.Statement.{statement}

@@ -1,4 +1,4 @@
--- `Tables::one_less` meets its contract. Assumes nothing.
+-- `Tables::one_less` meets its contract.
 use Rattle.kernel.proofs.Shrinking.{row-within, less-shared, less-other}
 use borrow.Author.Needs.{needs}
 use Rattle.kernel.proofs.Tables.one_less.Statement.{statement}

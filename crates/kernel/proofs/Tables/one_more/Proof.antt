@@ -1,4 +1,4 @@
--- `Tables::one_more` meets its contract. Assumes nothing.
+-- `Tables::one_more` meets its contract.
 use borrow.Author.Needs.{needs}
 use Rattle.kernel.proofs.GrowCalls.{more-made}
 use Rattle.kernel.proofs.Tables.one_more.Statement.{statement}

@@ -1,4 +1,4 @@
--- `Tables::open` meets its contract. Assumes nothing.
+-- `Tables::open` meets its contract.
 use mathlib.Core.Path.{refl}
 use Rattle.kernel.specs.Definition.Calls.{«open»}
 use Rattle.kernel.specs.Definition.Step.{heard}

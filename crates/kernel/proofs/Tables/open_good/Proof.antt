@@ -1,4 +1,4 @@
--- `Tables::open_good` meets its contract. Assumes nothing.
+-- `Tables::open_good` meets its contract.
 use mathlib.Core.Path.{refl}
 use native.Mathlib.Omega.{arith}
 use borrow.Author.Needs.{needs}

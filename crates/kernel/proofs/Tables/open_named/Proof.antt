@@ -1,4 +1,4 @@
--- `Tables::open_named` meets its contract. Assumes nothing.
+-- `Tables::open_named` meets its contract.
 use mathlib.Core.Path.{refl}
 use borrow.Author.Needs.{needs}
 use Rattle.kernel.proofs.Refusing.{refused}

@@ -1,4 +1,4 @@
--- `Tables::open_row` meets its contract. Assumes nothing.
+-- `Tables::open_row` meets its contract.
 use mathlib.Core.Path.{_≡_, refl}
 use borrow.Author.Needs.{needs}
 use Rattle.kernel.specs.Definition.Line.{totalOf}

@@ -1,4 +1,4 @@
--- `Tables::read` meets its contract. Assumes nothing.
+-- `Tables::read` meets its contract.
 use mathlib.Core.Path.{refl}
 use Rattle.kernel.specs.Definition.Calls.{read}
 use Rattle.kernel.specs.Definition.Step.{heard}

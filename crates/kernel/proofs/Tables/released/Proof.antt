@@ -1,4 +1,4 @@
--- `Tables::released` meets its contract. Assumes nothing.
+-- `Tables::released` meets its contract.
 use Rattle.kernel.proofs.Resetting.{segments-released, classes-behind}
 use borrow.Author.Needs.{needs}
 use Rattle.kernel.proofs.Tables.released.Statement.{statement}

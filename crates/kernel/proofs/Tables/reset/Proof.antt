@@ -1,4 +1,4 @@
--- `Tables::reset` meets its contract. Assumes nothing.
+-- `Tables::reset` meets its contract.
 use mathlib.Core.Path.{refl}
 use Rattle.kernel.specs.Definition.Calls.{reset}
 use Rattle.kernel.specs.Definition.Step.{heard}

@@ -1,4 +1,4 @@
--- `Tables::reset_good` meets its contract. Assumes nothing.
+-- `Tables::reset_good` meets its contract.
 use Rattle.kernel.proofs.Resetting.{reset-refused, reset-done}
 use borrow.Author.Needs.{needs}
 use Rattle.kernel.proofs.Tables.reset_good.Statement.{statement}

@@ -1,9 +1,9 @@
--- `Tables::reset_ram` meets its contract. Assumes nothing.
+-- `Tables::reset_ram` meets its contract.
 use mathlib.Core.Path.{_≡_, refl, _∙_}
 use mathlib.Core.Bool.{cond}
 use mathlib.Core.Logic.{⊎-elim}
 use lib.ListN.{replicate}
-use Rattle.line.specs.Line.{putLine}
+use Rattle.line.specs.Definition.Line.{putLine}
 use Rattle.kernel.specs.Definition.Line.{totalOf}
 use Rattle.kernel.specs.Definition.Reset.{closesAll}
 use Rattle.kernel.proofs.Resetting.{chosen-yes, chosen-no, ram-kept, ram-sized, ram-reset}

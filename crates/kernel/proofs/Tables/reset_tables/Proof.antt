@@ -1,4 +1,4 @@
--- `Tables::reset_tables` meets its contract. Assumes nothing.
+-- `Tables::reset_tables` meets its contract.
 use mathlib.Core.Path.{_≡_, refl, _∙_}
 use mathlib.Core.Bool.{cond}
 use mathlib.Core.Logic.{⊎-elim}

@@ -1,4 +1,4 @@
--- `Tables::restored` meets its contract. Assumes nothing.
+-- `Tables::restored` meets its contract.
 use Rattle.kernel.proofs.Resetting.{devices-restored}
 use borrow.Author.Needs.{needs}
 use Rattle.kernel.proofs.Tables.restored.Statement.{statement}

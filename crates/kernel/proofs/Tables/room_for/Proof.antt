@@ -1,4 +1,4 @@
--- `Tables::room_for` meets its contract. Assumes nothing.
+-- `Tables::room_for` meets its contract.
 use borrow.Author.Needs.{needs}
 use Rattle.kernel.proofs.GrowCalls.{room-shared, room-apart}
 use Rattle.kernel.proofs.Tables.room_for.Statement.{statement}

@@ -1,4 +1,4 @@
--- `Tables::room_to_link` meets its contract. Assumes nothing.
+-- `Tables::room_to_link` meets its contract.
 use borrow.Author.Needs.{needs}
 use Rattle.kernel.proofs.LinkCalls.{room-low, room-left}
 use Rattle.kernel.proofs.Tables.room_to_link.Statement.{statement}

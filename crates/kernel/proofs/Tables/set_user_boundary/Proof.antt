@@ -1,4 +1,4 @@
--- `Tables::set_user_boundary` meets its contract. Assumes nothing.
+-- `Tables::set_user_boundary` meets its contract.
 use mathlib.Core.Path.{refl}
 use Rattle.kernel.specs.Definition.Calls.{set-user-boundary}
 use Rattle.kernel.specs.Definition.Step.{heard, ramAfter, outputAfter}

@@ -1,4 +1,4 @@
--- `Tables::set_user_boundary_good` meets its contract. Assumes nothing.
+-- `Tables::set_user_boundary_good` meets its contract.
 use mathlib.Core.Path.{_∙_}
 use Rattle.kernel.proofs.SegmentCalls.{bound-none, bound-above, bound-done}
 use borrow.Author.Needs.{needs}

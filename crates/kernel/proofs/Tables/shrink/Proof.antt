@@ -1,4 +1,4 @@
--- `Tables::shrink` meets its contract. Assumes nothing.
+-- `Tables::shrink` meets its contract.
 use borrow.Author.Needs.{needs}
 use mathlib.Core.Path.{_≡_, _∙_, sym}
 use Prim.Native.Nat.{_-_, _≤_, _<_}

@@ -1,4 +1,4 @@
--- `Tables::sought` meets its contract. Assumes nothing.
+-- `Tables::sought` meets its contract.
 use borrow.Author.Needs.{needs}
 use Rattle.kernel.proofs.OpenCalls.{default-given, default-absent, named-given, named-absent}
 use Rattle.kernel.proofs.Tables.sought.Statement.{statement}

@@ -1,4 +1,4 @@
--- `Tables::start` meets its contract. Assumes nothing.
+-- `Tables::start` meets its contract.
 use denote.Ref.{now}
 use lib.ListN.{length}
 use Rattle.kernel.proofs.StartCalls.{start-sizes, start-refused, start-done}

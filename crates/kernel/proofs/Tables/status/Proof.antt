@@ -1,4 +1,4 @@
--- `Tables::status` meets its contract. Assumes nothing.
+-- `Tables::status` meets its contract.
 use mathlib.Core.Path.{refl}
 use Rattle.kernel.specs.Definition.Calls.{status}
 use Rattle.kernel.specs.Definition.Step.{heard}

@@ -1,4 +1,4 @@
--- `Tables::status_good` meets its contract. Assumes nothing.
+-- `Tables::status_good` meets its contract.
 use Rattle.kernel.proofs.SegmentCalls.{status-short, status-done}
 use borrow.Author.Needs.{needs}
 use Rattle.kernel.proofs.Tables.status_good.Statement.{statement}

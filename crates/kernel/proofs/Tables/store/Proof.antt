@@ -1,4 +1,4 @@
--- `Tables::store` meets its contract. Assumes nothing.
+-- `Tables::store` meets its contract.
 use mathlib.Core.Path.{refl}
 use Rattle.kernel.specs.Definition.Calls.{store}
 use Rattle.kernel.specs.Definition.Step.{heard}

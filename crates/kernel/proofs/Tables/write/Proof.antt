@@ -1,4 +1,4 @@
--- `Tables::write` meets its contract. Assumes nothing.
+-- `Tables::write` meets its contract.
 use mathlib.Core.Path.{refl}
 use Rattle.kernel.specs.Definition.Calls.{write}
 use Rattle.kernel.specs.Definition.Step.{heard}

@@ -1,4 +1,4 @@
--- `good::class_at` meets its contract. Assumes nothing.
+-- `good::class_at` meets its contract.
 use mathlib.Core.Path.{_≡_}
 use lib.ListN.{length, List·getD-eq-default}
 use mathlib.Core.Path.{sym}

@@ -1,4 +1,4 @@
--- `kernel::reset::closes_all` meets its contract. Assumes nothing.
+-- `kernel::reset::closes_all` meets its contract.
 use borrow.Author.Needs.{needs}
 use Rattle.kernel.proofs.reset.closes_all.Statement.{statement}
 use Rattle.kernel.proofs.reset.closes_all.Tie as tie

@@ -1,4 +1,4 @@
--- `kernel::segments::class_for` meets its contract. Assumes nothing.
+-- `kernel::segments::class_for` meets its contract.
 use borrow.Author.Tests.{eq-eqb, ne-eqb}
 use Rattle.kernel.proofs.segments.class_for.Statement.{statement}
 use Rattle.kernel.proofs.segments.class_for.Tie as tie

@@ -1,11 +1,11 @@
--- `line::ram::load` meets its contract. The invariant: the first i bytes are copied out. Assumes nothing.
+-- `line::ram::load` meets its contract. The invariant: the first i bytes are copied out.
 use denote.Ref.{now}
 use mathlib.Core.Path.{_≡_, refl, _∙_}
 use Prim.Native.Nat.{_+_, _-_, _≤_}
 use native.Mathlib.Omega.{arith}
 use lib.ListN.{length, length-set}
-use Rattle.line.specs.Ram.{bytesFrom, putFrom}
-use Rattle.line.specs.Runs.{rise}
+use Rattle.line.specs.Definition.Ram.{bytesFrom, putFrom}
+use Rattle.line.specs.Laws.Runs.{rise}
 use Rattle.line.proofs.Loops.{copy-none, copy-byte}
 use Rattle.line.proofs.Sides.{loaded}
 use Rattle.line.proofs.ram.load.Statement.{statement}

@@ -1,11 +1,11 @@
--- `line::ram::zero_all` meets its contract. The invariant: the first i bytes are zero. Assumes nothing.
+-- `line::ram::zero_all` meets its contract. The invariant: the first i bytes are zero.
 use denote.Ref.{now}
 use mathlib.Core.Path.{_≡_, refl, _∙_}
 use Prim.Native.Nat.{_-_, _≤_}
 use native.Mathlib.Omega.{arith}
 use lib.ListN.{length, length-set, replicate}
-use Rattle.line.specs.Ram.{putFrom}
-use Rattle.line.specs.Runs.{rise}
+use Rattle.line.specs.Definition.Ram.{putFrom}
+use Rattle.line.specs.Laws.Runs.{rise}
 use Rattle.line.proofs.Loops.{put-none, zero-byte}
 use Rattle.line.proofs.Sides.{zeroed-all}
 use Rattle.line.proofs.ram.zero_all.Statement.{statement}

@@ -1,11 +1,11 @@
--- `line::runs::clear_fall` meets its contract. The invariant: the first i bytes of the run are zero. Assumes nothing.
+-- `line::runs::clear_fall` meets its contract. The invariant: the first i bytes of the run are zero.
 use denote.Ref.{now}
 use mathlib.Core.Path.{_≡_, refl}
 use Prim.Native.Nat.{_-_, _≤_}
 use native.Mathlib.Omega.{arith}
 use lib.ListN.{length, length-set, replicate}
-use Rattle.line.specs.Ram.{putFrom}
-use Rattle.line.specs.Runs.{fall}
+use Rattle.line.specs.Definition.Ram.{putFrom}
+use Rattle.line.specs.Laws.Runs.{fall}
 use Rattle.line.proofs.Loops.{put-none, zero-byte}
 use Rattle.line.proofs.runs.clear_fall.Statement.{statement}
 use Rattle.line.proofs.runs.clear_fall.Tie as tie

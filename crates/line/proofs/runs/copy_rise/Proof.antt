@@ -1,11 +1,11 @@
--- `line::runs::copy_rise` meets its contract. The invariant: the first i bytes of the run are copied. Assumes nothing.
+-- `line::runs::copy_rise` meets its contract. The invariant: the first i bytes of the run are copied.
 use denote.Ref.{now}
 use mathlib.Core.Path.{_≡_, refl}
 use Prim.Native.Nat.{_+_, _-_, _≤_}
 use native.Mathlib.Omega.{arith}
 use lib.ListN.{length, length-set}
-use Rattle.line.specs.Ram.{bytesFrom, putFrom}
-use Rattle.line.specs.Runs.{rise}
+use Rattle.line.specs.Definition.Ram.{bytesFrom, putFrom}
+use Rattle.line.specs.Laws.Runs.{rise}
 use Rattle.line.proofs.Loops.{copy-none, move-byte}
 use Rattle.line.proofs.runs.copy_rise.Statement.{statement}
 use Rattle.line.proofs.runs.copy_rise.Tie as tie

@@ -1,11 +1,11 @@
--- `line::runs::get_fall` meets its contract. The invariant: the first i bytes of the run are copied out. Assumes nothing.
+-- `line::runs::get_fall` meets its contract. The invariant: the first i bytes of the run are copied out.
 use denote.Ref.{now}
 use mathlib.Core.Path.{_≡_, refl}
 use Prim.Native.Nat.{_+_, _-_, _≤_}
 use native.Mathlib.Omega.{arith}
 use lib.ListN.{length, length-set}
-use Rattle.line.specs.Ram.{bytesFrom, putFrom}
-use Rattle.line.specs.Runs.{fall, rise}
+use Rattle.line.specs.Definition.Ram.{bytesFrom, putFrom}
+use Rattle.line.specs.Laws.Runs.{fall, rise}
 use Rattle.line.proofs.Loops.{copy-none, copy-byte}
 use Rattle.line.proofs.runs.get_fall.Statement.{statement}
 use Rattle.line.proofs.runs.get_fall.Tie as tie

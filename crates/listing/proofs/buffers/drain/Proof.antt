@@ -1,12 +1,12 @@
--- `listing::drain` meets its contract: what has been taken carries over, and the tables are held. Assumes nothing.
+-- `listing::drain` meets its contract: what has been taken carries over, and the tables are held.
 use denote.Ref.{now}
 use mathlib.Core.Path.{_≡_, refl, _∙_}
 use Prim.Native.Nat.{_+_, _-_, _≤_}
 use native.Mathlib.Omega.{arith}
 use borrow.Author.Needs.{needs}
 use lib.ListN.{length, take, drop}
-use Rattle.listing.specs.Held.{Held}
-use Rattle.listing.specs.Pieces.{Whole, Carry}
+use Rattle.listing.specs.Laws.Held.{Held}
+use Rattle.listing.specs.Laws.Pieces.{Whole, Carry}
 use Rattle.listing.proofs.Fronts.{short-at, bad-at, whole-at, within}
 use Rattle.listing.proofs.Carries.{carry-none, carry-bad, carry-at}
 use Rattle.listing.proofs.buffers.drain.Statement.{statement}

@@ -1,4 +1,4 @@
--- `listing::front` meets its contract. Assumes nothing.
+-- `listing::front` meets its contract.
 use denote.Ref.{now}
 use mathlib.Core.Path.{_∙_}
 use Rattle.listing.proofs.Fronts.{short-two, short-record, bad-low, bad-high, whole-record}

@@ -1,4 +1,4 @@
--- `listing::least` meets its contract. Assumes nothing.
+-- `listing::least` meets its contract.
 use native.Mathlib.Omega.{arith}
 use Rattle.listing.proofs.LineLaws.{beyond}
 use borrow.Author.Needs.{needs}

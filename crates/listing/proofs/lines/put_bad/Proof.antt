@@ -1,4 +1,4 @@
--- `listing::put_bad` meets its contract. Assumes nothing.
+-- `listing::put_bad` meets its contract.
 use native.Mathlib.Omega.{arith}
 use Rattle.text.proofs.Laws.{put-then}
 use borrow.Author.Needs.{needs}

@@ -1,4 +1,4 @@
--- `listing::put_line` meets its contract. Assumes nothing.
+-- `listing::put_line` meets its contract.
 use denote.Ref.{now}
 use mathlib.Core.Path.{refl, sym, _∙_}
 use native.Mathlib.Omega.{arith}

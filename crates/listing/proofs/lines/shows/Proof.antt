@@ -1,4 +1,4 @@
--- `listing::shows` meets its contract. Assumes nothing.
+-- `listing::shows` meets its contract.
 use Rattle.listing.proofs.LineLaws.{shows-refused, shows-6, shows-20, shows-258, shows-other}
 use Rattle.listing.proofs.lines.shows.Statement.{statement}
 use Rattle.listing.proofs.lines.shows.Tie as tie

@@ -1,4 +1,4 @@
--- `listing::finish` meets its contract. Assumes nothing.
+-- `listing::finish` meets its contract.
 use denote.Ref.{now}
 use mathlib.Core.Path.{sym, _∙_}
 use native.Mathlib.Omega.{arith}

@@ -1,4 +1,4 @@
--- `listing::keep` meets its contract: what is kept, and what is not yet moved. Assumes nothing.
+-- `listing::keep` meets its contract: what is kept, and what is not yet moved.
 use denote.Ref.{now}
 use mathlib.Core.Path.{_≡_, refl}
 use Prim.Native.Nat.{_+_, _-_, _<_, _≤_}

@@ -1,8 +1,8 @@
--- `listing::list` meets its contract. Assumes nothing.
+-- `listing::list` meets its contract.
 use denote.Ref.{now}
 use native.Mathlib.Omega.{arith}
 use lib.ListN.{drop, length-drop}
-use Rattle.listing.specs.Held.{none}
+use Rattle.listing.specs.Laws.Held.{none}
 use Rattle.listing.proofs.Wholes.{room-left, listed-bad, listed-over, listed-text}
 use borrow.Author.Needs.{needs}
 use Rattle.listing.proofs.pieces.list.Statement.{statement}

@@ -1,8 +1,8 @@
--- `listing::call` meets its contract. Assumes nothing.
+-- `listing::call` meets its contract.
 use mathlib.Core.Path.{refl, _∙_}
-use Rattle.events.specs.Records.{decode}
+use Rattle.events.specs.Definition.Records.{decode}
 use Rattle.events.proofs.ByKind.{by-kind}
-use Rattle.listing.specs.Held.{held-none, held-started, lent-theirs}
+use Rattle.listing.specs.Laws.Held.{held-none, held-started, lent-theirs}
 use Rattle.listing.proofs.Calls.{unstarted}
 use borrow.Author.Needs.{needs}
 use Rattle.listing.proofs.records.call.Statement.{statement}

@@ -1,4 +1,4 @@
--- `listing::lent` meets its contract. Assumes nothing.
+-- `listing::lent` meets its contract.
 use mathlib.Core.Path.{ap, _∙_}
 use Prim.Native.Nat.{ℕ, min}
 use native.Mathlib.Omega.{arith}

@@ -1,4 +1,4 @@
--- `listing::record` meets its contract: the call's lent RAM is its own, and the line is its answer's. Assumes nothing.
+-- `listing::record` meets its contract: the call's lent RAM is its own, and the line is its answer's.
 use denote.Ref.{now}
 use mathlib.Core.Path.{sym, _∙_}
 use native.Mathlib.Omega.{arith}

@@ -1,4 +1,4 @@
--- `channels::channel_row` meets its contract. The loop's invariant: no row passed has the number. Assumes nothing.
+-- `channels::channel_row` meets its contract. The loop's invariant: no row passed has the number.
 use borrow.Author.Count.{below-more}
 use borrow.Author.Needs.{needs}
 use borrow.Author.Tests.{eq-eqb, ne-eqb}
@@ -7,8 +7,9 @@ use Prim.Native.Nat.{_-_, _<_, _≤_, ℕ}
 use native.Mathlib.Omega.{arith}
 use lib.Dec.{eqb}
 use lib.ListN.{getD, length, take}
-use Rattle.rows.specs.Channels.{found-no, found-yes, foundAt, noChannel, rowIn}
-use Rattle.rows.specs.Lists.{where-here, where-none}
+use Rattle.rows.specs.Definition.Channels.{foundAt, noChannel, rowIn}
+use Rattle.rows.specs.Laws.Channels.{found-no, found-yes}
+use Rattle.rows.specs.Laws.Lists.{where-here, where-none}
 use Rattle.rows.specs.declared.Channel.{Channel}
 use Rattle.rows.proofs.channels.channel_row.Statement.{statement}
 use Rattle.rows.proofs.channels.channel_row.Tie as tie

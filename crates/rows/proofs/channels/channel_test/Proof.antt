@@ -1,4 +1,4 @@
--- `channels::channel_test` meets its contract. Assumes nothing.
+-- `channels::channel_test` meets its contract.
 use borrow.Author.Needs.{needs}
 use borrow.Author.Tests.{le-leb, lt-leb}
 use native.Mathlib.Omega.{arith}

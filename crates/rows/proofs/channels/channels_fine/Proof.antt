@@ -1,10 +1,11 @@
--- `channels::channels_fine` meets its contract. The loop's invariant: `ok` is the test over the rows passed, and `seen` has their numbers. Assumes nothing.
+-- `channels::channels_fine` meets its contract. The loop's invariant: `ok` is the test over the rows passed, and `seen` has their numbers.
 use borrow.Author.Needs.{needs}
 use mathlib.Core.Path.{_≡_, refl}
 use Prim.Native.Nat.{_-_, _≤_}
 use native.Mathlib.Omega.{arith}
-use Rattle.rows.specs.Lists.{all-more, at, below, upTo}
-use Rattle.rows.specs.Tests.{channelRow}
+use Rattle.rows.specs.Definition.Lists.{at, below, upTo}
+use Rattle.rows.specs.Laws.Lists.{all-more}
+use Rattle.rows.specs.Definition.Tests.{channelRow}
 use Rattle.rows.proofs.Stores.{Seen, seen-none, seen-more, unseen}
 use Rattle.rows.proofs.channels.channels_fine.Statement.{statement}
 use Rattle.rows.proofs.channels.channels_fine.Tie as tie

@@ -1,10 +1,10 @@
--- `channels::emptied` meets its contract. The loop's invariant: the rows passed are empty. Assumes nothing.
+-- `channels::emptied` meets its contract. The loop's invariant: the rows passed are empty.
 use borrow.Author.Needs.{needs}
 use mathlib.Core.Path.{_≡_}
 use Prim.Native.Nat.{_-_, _≤_}
 use native.Mathlib.Omega.{arith}
 use lib.ListN.{length}
-use Rattle.rows.specs.Channels.{noChannel}
+use Rattle.rows.specs.Definition.Channels.{noChannel}
 use Rattle.rows.proofs.Stores.{Cleared, cleared-none, cleared-more, cleared-end}
 use Rattle.rows.proofs.channels.emptied.Statement.{statement}
 use Rattle.rows.proofs.channels.emptied.Tie as tie

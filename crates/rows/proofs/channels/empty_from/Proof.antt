@@ -1,11 +1,12 @@
--- `channels::empty_from` meets its contract. The loop's invariant: `ok` is the test over the rows passed. Assumes nothing.
+-- `channels::empty_from` meets its contract. The loop's invariant: `ok` is the test over the rows passed.
 use borrow.Author.Needs.{needs}
 use mathlib.Core.Path.{_≡_, sym}
 use Prim.Native.Nat.{_-_, _≤_}
 use native.Mathlib.Omega.{arith}
 use borrow.Author.Tests.{lt-ltb, le-ltb}
-use Rattle.rows.specs.Lists.{all→below, row-more, not-excused, at, below, upTo}
-use Rattle.rows.specs.Tests.{restChannel}
+use Rattle.rows.specs.Definition.Lists.{at, below, upTo}
+use Rattle.rows.specs.Laws.Lists.{all→below, row-more, not-excused}
+use Rattle.rows.specs.Definition.Tests.{restChannel}
 use Rattle.rows.proofs.channels.empty_from.Statement.{statement}
 use Rattle.rows.proofs.channels.empty_from.Tie as tie
 

@@ -1,12 +1,12 @@
--- `channels::total` meets its contract. The loop's invariant: `sum` is the length of the records passed, at most 65,551 each. Assumes nothing.
+-- `channels::total` meets its contract. The loop's invariant: `sum` is the length of the records passed, at most 65,551 each.
 use borrow.Author.Needs.{needs}
 use mathlib.Core.Path.{_≡_}
 use Prim.Native.Nat.{_*_, _-_, _≤_}
 use native.Mathlib.Omega.{arith}
 use lib.ListN.{length, take}
-use Rattle.rows.specs.Channels.{noChannel, sumOf}
-use Rattle.rows.specs.Lists.{at}
-use Rattle.rows.specs.Rows.{sum-more}
+use Rattle.rows.specs.Definition.Channels.{noChannel, sumOf}
+use Rattle.rows.specs.Definition.Lists.{at}
+use Rattle.rows.specs.Laws.ChannelRows.{sum-more}
 use Rattle.rows.proofs.channels.total.Statement.{statement}
 use Rattle.rows.proofs.channels.total.Tie as tie
 

@@ -1,10 +1,10 @@
--- `channels::without_row` meets its contract. The loop's invariant: the rows after `i` are moved up as far as `j`. Assumes nothing.
+-- `channels::without_row` meets its contract. The loop's invariant: the rows after `i` are moved up as far as `j`.
 use borrow.Author.Needs.{needs}
 use mathlib.Core.Path.{_≡_}
 use Prim.Native.Nat.{_-_, _<_, _≤_}
 use native.Mathlib.Omega.{arith}
 use lib.ListN.{length}
-use Rattle.rows.specs.Channels.{noChannel}
+use Rattle.rows.specs.Definition.Channels.{noChannel}
 use Rattle.rows.proofs.Shift.{Moved, moved-end, moved-more, moved-none}
 use Rattle.rows.proofs.channels.without_row.Statement.{statement}
 use Rattle.rows.proofs.channels.without_row.Tie as tie

@@ -1,4 +1,4 @@
--- `devices::default_test` meets its contract. Assumes nothing.
+-- `devices::default_test` meets its contract.
 use borrow.Author.Needs.{needs}
 use Rattle.rows.proofs.devices.default_test.Statement.{statement}
 use Rattle.rows.proofs.devices.default_test.Tie as tie

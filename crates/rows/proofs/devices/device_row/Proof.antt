@@ -1,4 +1,4 @@
--- `devices::device_row` meets its contract. The loop's invariant: no row passed is enabled and has the name. Assumes nothing.
+-- `devices::device_row` meets its contract. The loop's invariant: no row passed is enabled and has the name.
 use borrow.Author.Count.{below-more}
 use borrow.Author.Needs.{needs}
 use mathlib.Core.Bool.{false}
@@ -6,9 +6,10 @@ use mathlib.Core.Path.{_∙_, _≡_, ap, sym}
 use Prim.Native.Nat.{_-_, _<_, _≤_, ℕ}
 use native.Mathlib.Omega.{arith}
 use lib.ListN.{getD, length, take}
-use Rattle.rows.specs.Channels.{found-no, found-yes, foundAt}
-use Rattle.rows.specs.Devices.{answers, deviceIn, noDevice}
-use Rattle.rows.specs.Lists.{where-here, where-none}
+use Rattle.rows.specs.Definition.Channels.{foundAt}
+use Rattle.rows.specs.Laws.Channels.{found-no, found-yes}
+use Rattle.rows.specs.Definition.Devices.{answers, deviceIn, noDevice}
+use Rattle.rows.specs.Laws.Lists.{where-here, where-none}
 use Rattle.rows.proofs.devices.device_row.Statement.{statement}
 use Rattle.rows.proofs.devices.device_row.Tie as tie
 

@@ -1,4 +1,4 @@
--- `devices::device_test` meets its contract. Assumes nothing.
+-- `devices::device_test` meets its contract.
 use borrow.Author.Needs.{needs}
 use borrow.Author.Tests.{le-leb, lt-leb}
 use native.Mathlib.Omega.{arith}

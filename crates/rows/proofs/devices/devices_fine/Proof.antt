@@ -1,11 +1,12 @@
--- `devices::devices_fine` meets its contract. The loops' invariants: `ok` is the test over the rows passed, names asked for only behind those that are built in; `last` is the test over the later rows passed. Assumes nothing.
+-- `devices::devices_fine` meets its contract. The loops' invariants: `ok` is the test over the rows passed, names asked for only behind those that are built in; `last` is the test over the later rows passed.
 use borrow.Author.Needs.{needs}
 use mathlib.Core.Path.{_≡_, refl, sym}
 use Prim.Native.Nat.{_+_, _-_, _≤_, _<_}
 use native.Mathlib.Omega.{arith}
 use borrow.Author.Tests.{le-leb, lt-leb}
-use Rattle.rows.specs.Lists.{all→below, all-more, row-more, not-excused, at, below, upTo}
-use Rattle.rows.specs.Tests.{aliasRow, builtTest}
+use Rattle.rows.specs.Definition.Lists.{at, below, upTo}
+use Rattle.rows.specs.Laws.Lists.{all→below, all-more, row-more, not-excused}
+use Rattle.rows.specs.Definition.Tests.{aliasRow, builtTest}
 use Rattle.rows.proofs.BuiltIn.{linkedRow, built-rows}
 use Rattle.rows.proofs.devices.devices_fine.Statement.{statement}
 use Rattle.rows.proofs.devices.devices_fine.Tie as tie

@@ -1,11 +1,11 @@
--- `devices::disable` meets its contract. The loop's invariant: the rows passed are disabled where they have the name. Assumes nothing.
+-- `devices::disable` meets its contract. The loop's invariant: the rows passed are disabled where they have the name.
 use borrow.Author.Needs.{needs}
 use mathlib.Core.Logic.{⊎-elim}
 use mathlib.Core.Path.{_≡_}
 use Prim.Native.Nat.{_-_, _≤_}
 use native.Mathlib.Omega.{arith}
 use lib.ListN.{length, getD}
-use Rattle.rows.specs.Devices.{disabledBy, noDevice}
+use Rattle.rows.specs.Definition.Devices.{disabledBy, noDevice}
 use Rattle.rows.proofs.Stores.{Mapped, mapped-end, mapped-kept, mapped-more, mapped-none}
 use Rattle.rows.proofs.Disabled.{disabledBy-off, disabledBy-kept}
 use Rattle.rows.proofs.devices.disable.Statement.{statement}

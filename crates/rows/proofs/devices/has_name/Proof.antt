@@ -1,4 +1,4 @@
--- `devices::has_name` meets its contract. Assumes nothing.
+-- `devices::has_name` meets its contract.
 use borrow.Author.Needs.{needs}
 use Rattle.rows.proofs.devices.has_name.Statement.{statement}
 use Rattle.rows.proofs.devices.has_name.Tie as tie

@@ -1,4 +1,4 @@
--- `devices::linked_named` meets its contract. Assumes nothing.
+-- `devices::linked_named` meets its contract.
 use borrow.Author.Needs.{needs}
 use borrow.Author.Tests.{lt-ltb, le-ltb}
 use native.Mathlib.Omega.{arith}

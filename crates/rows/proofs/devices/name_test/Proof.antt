@@ -1,4 +1,4 @@
--- `devices::name_test` meets its contract. Assumes nothing.
+-- `devices::name_test` meets its contract.
 use borrow.Author.Needs.{needs}
 use Rattle.rows.proofs.devices.name_test.Statement.{statement}
 use Rattle.rows.proofs.devices.name_test.Tie as tie

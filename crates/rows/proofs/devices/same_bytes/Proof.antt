@@ -1,10 +1,11 @@
--- `devices::same_bytes` meets its contract. The loop's invariant: `ok` is the test over the bytes passed. Assumes nothing.
+-- `devices::same_bytes` meets its contract. The loop's invariant: `ok` is the test over the bytes passed.
 use borrow.Author.Needs.{needs}
 use mathlib.Core.Path.{_≡_, refl}
 use Prim.Native.Nat.{_-_, _≤_}
 use native.Mathlib.Omega.{arith}
-use Rattle.rows.specs.Devices.{sameBytes}
-use Rattle.rows.specs.Lists.{all-more, at, below, upTo}
+use Rattle.rows.specs.Definition.Devices.{sameBytes}
+use Rattle.rows.specs.Definition.Lists.{at, below, upTo}
+use Rattle.rows.specs.Laws.Lists.{all-more}
 use Rattle.rows.proofs.devices.same_bytes.Statement.{statement}
 use Rattle.rows.proofs.devices.same_bytes.Tie as tie
 

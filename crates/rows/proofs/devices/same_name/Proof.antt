@@ -1,4 +1,4 @@
--- `devices::same_name` meets its contract. Assumes nothing.
+-- `devices::same_name` meets its contract.
 use borrow.Author.Needs.{needs}
 use borrow.Author.Tests.{eq-eqb, ne-eqb}
 use Rattle.rows.proofs.devices.same_name.Statement.{statement}

@@ -1,11 +1,12 @@
--- `devices::unused_from` meets its contract. The loop's invariant: `ok` is the test over the rows passed. Assumes nothing.
+-- `devices::unused_from` meets its contract. The loop's invariant: `ok` is the test over the rows passed.
 use borrow.Author.Needs.{needs}
 use mathlib.Core.Path.{_≡_, sym}
 use Prim.Native.Nat.{_-_, _≤_}
 use native.Mathlib.Omega.{arith}
 use borrow.Author.Tests.{lt-ltb, le-ltb}
-use Rattle.rows.specs.Lists.{all→below, row-more, not-excused, at, below, upTo}
-use Rattle.rows.specs.Tests.{restDevice}
+use Rattle.rows.specs.Definition.Lists.{at, below, upTo}
+use Rattle.rows.specs.Laws.Lists.{all→below, row-more, not-excused}
+use Rattle.rows.specs.Definition.Tests.{restDevice}
 use Rattle.rows.proofs.devices.unused_from.Statement.{statement}
 use Rattle.rows.proofs.devices.unused_from.Tie as tie
 

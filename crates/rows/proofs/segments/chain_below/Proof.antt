@@ -1,11 +1,12 @@
--- `segments::chain_below` meets its contract. The loop's invariant: `ok` is the test over the entries passed. Assumes nothing.
+-- `segments::chain_below` meets its contract. The loop's invariant: `ok` is the test over the entries passed.
 use borrow.Author.Needs.{needs}
 use mathlib.Core.Path.{_≡_, refl, _∙_}
 use Prim.Native.Nat.{_-_, _≤_}
 use native.Mathlib.Omega.{arith}
 use borrow.Author.Tests.{le-leb, lt-leb}
-use Rattle.rows.specs.Lists.{row-more, not-excused, below-rest, at, below, upTo}
-use Rattle.rows.specs.Tests.{chainRow}
+use Rattle.rows.specs.Definition.Lists.{at, below, upTo}
+use Rattle.rows.specs.Laws.Lists.{row-more, not-excused, below-rest}
+use Rattle.rows.specs.Definition.Tests.{chainRow}
 use Rattle.rows.proofs.segments.chain_below.Statement.{statement}
 use Rattle.rows.proofs.segments.chain_below.Tie as tie
 

@@ -1,4 +1,4 @@
--- `segments::chain_test` meets its contract. Assumes nothing.
+-- `segments::chain_test` meets its contract.
 use borrow.Author.Needs.{needs}
 use borrow.Author.Tests.{le-leb}
 use native.Mathlib.Omega.{arith}

@@ -1,4 +1,4 @@
--- `segments::class_test` meets its contract. Assumes nothing.
+-- `segments::class_test` meets its contract.
 use borrow.Author.Needs.{needs}
 use Rattle.rows.proofs.segments.class_test.Statement.{statement}
 use Rattle.rows.proofs.segments.class_test.Tie as tie

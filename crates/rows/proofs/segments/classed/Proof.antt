@@ -1,11 +1,12 @@
--- `segments::classed` meets its contract. The loop's invariant: `ok` is the test over the rows passed. Assumes nothing.
+-- `segments::classed` meets its contract. The loop's invariant: `ok` is the test over the rows passed.
 use borrow.Author.Needs.{needs}
 use mathlib.Core.Path.{_≡_, refl, _∙_}
 use Prim.Native.Nat.{_-_, _≤_}
 use native.Mathlib.Omega.{arith}
 use borrow.Author.Tests.{le-leb, lt-leb}
-use Rattle.rows.specs.Lists.{row-more, not-excused, below-rest, at, below, upTo}
-use Rattle.rows.specs.Tests.{classRow}
+use Rattle.rows.specs.Definition.Lists.{at, below, upTo}
+use Rattle.rows.specs.Laws.Lists.{row-more, not-excused, below-rest}
+use Rattle.rows.specs.Definition.Tests.{classRow}
 use Rattle.rows.proofs.segments.classed.Statement.{statement}
 use Rattle.rows.proofs.segments.classed.Tie as tie
 

@@ -1,12 +1,12 @@
--- `segments::count_of` meets its contract. The loop's invariant: `found` is the count over the rows passed. Assumes nothing.
+-- `segments::count_of` meets its contract. The loop's invariant: `found` is the count over the rows passed.
 use borrow.Author.Needs.{needs}
 use mathlib.Core.Logic.{⊎-elim}
 use mathlib.Core.Path.{_≡_}
 use Prim.Native.Nat.{_-_, _≤_}
 use native.Mathlib.Omega.{arith}
 use lib.ListN.{length, take}
-use Rattle.rows.specs.Count.{tally-more, tally-same}
-use Rattle.rows.specs.Lists.{tally}
+use Rattle.rows.specs.Laws.Counts.{tally-more, tally-same}
+use Rattle.rows.specs.Definition.Lists.{tally}
 use Rattle.rows.proofs.segments.count_of.Statement.{statement}
 use Rattle.rows.proofs.segments.count_of.Tie as tie
 

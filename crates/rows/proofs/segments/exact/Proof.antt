@@ -1,11 +1,12 @@
--- `segments::exact` meets its contract. The loop's invariant: `ok` is the test over the rows passed, with the counts for the tallies. Assumes nothing.
+-- `segments::exact` meets its contract. The loop's invariant: `ok` is the test over the rows passed, with the counts for the tallies.
 use borrow.Author.Needs.{needs}
 use mathlib.Core.Path.{_∙_, _≡_, refl}
 use Prim.Native.Nat.{_-_, _≤_}
 use native.Mathlib.Omega.{arith}
 use borrow.Author.Tests.{le-leb, lt-leb}
-use Rattle.rows.specs.Lists.{row-more, not-excused, below-rest, at, below, below-same, upTo}
-use Rattle.rows.specs.Tests.{exactRow, standsRow}
+use Rattle.rows.specs.Definition.Lists.{at, below, upTo}
+use Rattle.rows.specs.Laws.Lists.{row-more, not-excused, below-rest, below-same}
+use Rattle.rows.specs.Definition.Tests.{exactRow, standsRow}
 use Rattle.rows.proofs.segments.exact.Statement.{statement}
 use Rattle.rows.proofs.segments.exact.Tie as tie
 

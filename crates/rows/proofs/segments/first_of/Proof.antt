@@ -1,4 +1,4 @@
--- `segments::first_of` meets its contract. The loop's invariant: no row passed is `k`. Assumes nothing.
+-- `segments::first_of` meets its contract. The loop's invariant: no row passed is `k`.
 use borrow.Author.Count.{below-more}
 use borrow.Author.Needs.{needs}
 use borrow.Author.Tests.{eq-eqb, ne-eqb}
@@ -7,7 +7,7 @@ use Prim.Native.Nat.{_-_, _<_, _≤_, ℕ}
 use native.Mathlib.Omega.{arith}
 use lib.Dec.{eqb}
 use lib.ListN.{getD, length}
-use Rattle.rows.specs.Lists.{where-here, where-none}
+use Rattle.rows.specs.Laws.Lists.{where-here, where-none}
 use Rattle.rows.proofs.segments.first_of.Statement.{statement}
 use Rattle.rows.proofs.segments.first_of.Tie as tie
 

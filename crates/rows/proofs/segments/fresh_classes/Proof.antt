@@ -1,4 +1,4 @@
--- `segments::fresh_classes` meets its contract. The loop's invariant: rows 1 to `i` - 1 are free, the others have no class. Assumes nothing.
+-- `segments::fresh_classes` meets its contract. The loop's invariant: rows 1 to `i` - 1 are free, the others have no class.
 use borrow.Author.Needs.{needs}
 use mathlib.Core.Path.{_≡_}
 use Prim.Native.Nat.{_-_, _≤_}

@@ -1,11 +1,11 @@
--- `segments::last_of` meets its contract. The loop's invariant: no row from `i` on is `k`. Assumes nothing.
+-- `segments::last_of` meets its contract. The loop's invariant: no row from `i` on is `k`.
 use borrow.Author.Needs.{needs}
 use mathlib.Core.Path.{_∙_, _≡_, subst, sym}
 use Prim.Native.Nat.{_-_, _<_, _≤_, suc, ℕ}
 use native.Mathlib.Decide.{decLe}
 use native.Mathlib.Omega.{arith}
 use lib.ListN.{getD, length}
-use Rattle.rows.specs.Lists.{last-here, last-none}
+use Rattle.rows.specs.Laws.Lists.{last-here, last-none}
 use Rattle.rows.proofs.segments.last_of.Statement.{statement}
 use Rattle.rows.proofs.segments.last_of.Tie as tie
 

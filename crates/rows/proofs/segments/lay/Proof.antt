@@ -1,4 +1,4 @@
--- `segments::lay` meets its contract. The loop's invariant: the first `i` bytes are laid, zeros behind. Assumes nothing.
+-- `segments::lay` meets its contract. The loop's invariant: the first `i` bytes are laid, zeros behind.
 use borrow.Author.Needs.{needs}
 use mathlib.Core.Logic.{⊎-elim}
 use mathlib.Core.Path.{_≡_}

@@ -1,10 +1,10 @@
--- `segments::release` meets its contract. The loop's invariant: the rows passed are released. Assumes nothing.
+-- `segments::release` meets its contract. The loop's invariant: the rows passed are released.
 use borrow.Author.Needs.{needs}
 use mathlib.Core.Path.{_≡_}
 use Prim.Native.Nat.{_-_, _≤_}
 use native.Mathlib.Omega.{arith}
 use lib.ListN.{length}
-use Rattle.rows.specs.Classes.{released}
+use Rattle.rows.specs.Definition.Classes.{released}
 use Rattle.rows.proofs.Stores.{Mapped, mapped-low, mapped-more, mapped-none}
 use Rattle.rows.proofs.segments.release.Statement.{statement}
 use Rattle.rows.proofs.segments.release.Tie as tie

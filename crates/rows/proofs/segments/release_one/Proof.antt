@@ -1,4 +1,4 @@
--- `segments::release_one` meets its contract. Assumes nothing.
+-- `segments::release_one` meets its contract.
 use borrow.Author.Tests.{eq-eqb, ne-eqb}
 use Rattle.rows.proofs.segments.release_one.Statement.{statement}
 use Rattle.rows.proofs.segments.release_one.Tie as tie

@@ -1,11 +1,11 @@
--- `segments::tallies` meets its contract. The loop's invariant: each row's count over the entries passed. Assumes nothing.
+-- `segments::tallies` meets its contract. The loop's invariant: each row's count over the entries passed.
 use borrow.Author.Needs.{needs}
 use mathlib.Core.Logic.{⊎-elim}
 use mathlib.Core.Path.{_≡_}
 use Prim.Native.Nat.{_-_, _≤_}
 use native.Mathlib.Omega.{arith}
 use lib.ListN.{length, length-take, take}
-use Rattle.rows.specs.Count.{tally-length}
+use Rattle.rows.specs.Laws.Counts.{tally-length}
 use Rattle.rows.proofs.Stores.{Counted, counted-more, counted-none, counted-same}
 use Rattle.rows.proofs.segments.tallies.Statement.{statement}
 use Rattle.rows.proofs.segments.tallies.Tie as tie

@@ -1,7 +1,7 @@
--- `sizes::boundary_at` meets its contract. Assumes nothing.
+-- `sizes::boundary_at` meets its contract.
 use borrow.Author.Needs.{needs}
 use mathlib.Core.Path.{sym}
-use Rattle.rows.specs.Sizes.{edge-high, edge-low}
+use Rattle.rows.specs.Laws.Sizes.{edge-high, edge-low}
 use Rattle.rows.proofs.sizes.boundary_at.Statement.{statement}
 use Rattle.rows.proofs.sizes.boundary_at.Tie as tie
 

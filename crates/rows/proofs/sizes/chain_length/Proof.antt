@@ -1,7 +1,7 @@
--- `sizes::chain_length` meets its contract. Assumes nothing.
+-- `sizes::chain_length` meets its contract.
 use borrow.Author.Needs.{needs}
 use mathlib.Core.Path.{sym}
-use Rattle.rows.specs.Sizes.{length-high, length-low}
+use Rattle.rows.specs.Laws.Sizes.{length-high, length-low}
 use Rattle.rows.proofs.sizes.chain_length.Statement.{statement}
 use Rattle.rows.proofs.sizes.chain_length.Tie as tie
 

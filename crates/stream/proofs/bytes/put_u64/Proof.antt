@@ -1,11 +1,11 @@
--- `bytes::put_u64` puts a byte a turn. The invariant: the first i bytes are put, and the number that is left has the others. Assumes nothing.
+-- `bytes::put_u64` puts a byte a turn. The invariant: the first i bytes are put, and the number that is left has the others.
 use denote.Ref.{now}
 use mathlib.Core.Path.{_≡_, refl, _∙_}
 use Prim.Native.Nat.{_+_, _-_, _≤_}
 use native.Mathlib.Omega.{arith}
 use lib.ListN.{length, take, drop}
 use lib.Seq.{take-all}
-use Rattle.text.specs.Text.{Put}
+use Rattle.text.specs.Definition.Text.{Put}
 use Rattle.text.proofs.Laws.{put-none}
 use Rattle.stream.specs.Numbers.{lowBytes, u64Bytes}
 use Rattle.stream.proofs.Laws.{low-put, low-rest}

@@ -1,4 +1,4 @@
--- `digest::digest` meets its definition. The invariant: the bytes that are left, by h, give the digest. Assumes nothing.
+-- `digest::digest` meets its definition. The invariant: the bytes that are left, by h, give the digest.
 use denote.Ref.{now}
 use mathlib.Core.Path.{_≡_, refl}
 use Prim.Native.Nat.{_-_, _<_, _≤_}

@@ -1,4 +1,4 @@
--- `fill::blank` lays a byte a turn. The invariant: the first i are laid, and the rest is to come. Assumes nothing.
+-- `fill::blank` lays a byte a turn. The invariant: the first i are laid, and the rest is to come.
 use denote.Ref.{now}
 use mathlib.Core.Path.{_≡_, refl, sym, ap, _∙_}
 use mathlib.Core.List.{_++_}

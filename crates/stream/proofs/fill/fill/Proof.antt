@@ -1,4 +1,4 @@
--- `fill::fill` lays a byte a turn. The invariant: the first i are laid, and x gives the rest. Assumes nothing.
+-- `fill::fill` lays a byte a turn. The invariant: the first i are laid, and x gives the rest.
 use denote.Ref.{now}
 use mathlib.Core.Path.{_≡_, refl, sym, ap, _∙_}
 use mathlib.Core.List.{_++_}

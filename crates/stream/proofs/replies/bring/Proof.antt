@@ -1,4 +1,4 @@
--- `replies::bring` reads the image, and fills the RAM by its length and the seed. Assumes nothing.
+-- `replies::bring` reads the image, and fills the RAM by its length and the seed.
 use denote.Ref.{now}
 use mathlib.Core.Path.{sym}
 use native.Mathlib.Omega.{arith}

@@ -1,4 +1,4 @@
--- `replies::image_digest` is the digest of the image. Assumes nothing.
+-- `replies::image_digest` is the digest of the image.
 use mathlib.Core.Path.{ap, _∙_}
 use Rattle.stream.specs.Digest.{digestOf}
 use borrow.Author.Needs.{needs}

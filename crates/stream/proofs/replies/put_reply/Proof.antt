@@ -1,4 +1,4 @@
--- `replies::put_reply` puts 30 bytes. Assumes nothing.
+-- `replies::put_reply` puts 30 bytes.
 use mathlib.Core.Path.{ap}
 use native.Mathlib.Omega.{arith}
 use Rattle.text.proofs.Laws.{put-then}

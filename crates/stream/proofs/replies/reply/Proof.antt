@@ -1,4 +1,4 @@
--- `replies::reply` makes the call on a blank output, and puts its reply. Assumes nothing.
+-- `replies::reply` makes the call on a blank output, and puts its reply.
 use denote.Ref.{now}
 use Rattle.stream.proofs.Answering.{replied}
 use borrow.Author.Needs.{needs}

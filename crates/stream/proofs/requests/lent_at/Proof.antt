@@ -1,4 +1,4 @@
--- `requests::lent_at` meets its definition, a branch a law. Assumes nothing.
+-- `requests::lent_at` meets its definition, a branch a law.
 use denote.Ref.{now}
 use mathlib.Core.Path.{_∙_}
 use native.Mathlib.Omega.{arith}

@@ -1,4 +1,4 @@
--- `requests::request` meets its definition, a branch a law. Assumes nothing.
+-- `requests::request` meets its definition, a branch a law.
 use denote.Ref.{now}
 use mathlib.Core.Path.{_∙_}
 use native.Mathlib.Omega.{arith}

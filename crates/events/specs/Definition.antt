@@ -1,0 +1,2 @@
+-- Event records as calls.
+pub mod Records

@@ -1,0 +1,2 @@
+-- What a call can hold that a record brings.
+pub mod Bodies

@@ -1,0 +1,2 @@
+-- The image of the tables.
+pub mod Image

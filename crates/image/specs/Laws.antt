@@ -1,0 +1,2 @@
+-- The image read back.
+pub mod Round

@@ -1,0 +1,2 @@
+-- The listing program.
+pub mod Log

@@ -1,0 +1,77 @@
+-- "The listing program": the text of a log of event records.
+use mathlib.Core.Bool.{Bool, cond, _&&_, _||_}
+use mathlib.Core.List.{List, [], _∷_, _++_}
+use Prim.Native.Nat.{ℕ, zero, suc, _+_, _-_, _*_, min}
+use lib.ListN.{length, take, drop, replicate}
+use lib.Dec.{ltb, eqb}
+use Rattle.kernel.specs.Definition.Tables.{SEGMENT}
+use Rattle.kernel.specs.Definition.Reset.{noTables}
+use Rattle.kernel.specs.Definition.Answers.{numberOf, aOf, bOf}
+use Rattle.kernel.specs.Definition.Step.{Result}
+use Rattle.kernel.specs.declared.Tables.{Tables}
+use Rattle.events.specs.Definition.Records.{u16At, stepOf}
+use Rattle.text.specs.Definition.Text.{fieldsOf, hexOf}
+
+-- "a fifth field .. where 6, 20 or 258 is done with b > 0"
+unfoldable pub showsOf : (kind answer b : ℕ) → Bool
+showsOf kind answer b = eqb answer 0 && ltb 0 b && (eqb kind 6 || eqb kind 20 || eqb kind 258)
+
+-- "kind, answer number, a, b, in decimal, one space between; a fifth field, the bytes in lower-case hex"; every line ends in a newline
+unfoldable pub lineOf : (kind answer a b : ℕ) (out : List ℕ) → List ℕ
+lineOf kind answer a b out = fieldsOf kind answer a b ++ cond (showsOf kind answer b) (32 ∷ hexOf (take b out)) [] ++ (10 ∷ [])
+
+abbrev pub lineAfter : ℕ → Result → List ℕ
+lineAfter kind r = lineOf kind (numberOf (r .answer)) (aOf (r .answer)) (bOf (r .answer)) (r .output)
+
+-- "lends at most four segments": those of the list that a start offers, of the accepted list afterwards
+unfoldable pub lentTo : (segments kind size : ℕ) → ℕ
+lentTo segments kind size = SEGMENT * min 4 (cond (eqb kind 256) (size - 2) segments)
+
+-- a result with the rest of the RAM, which the call was not lent
+abbrev pub onRest : (ram : List ℕ) (n : ℕ) → Result → Result
+onRest ram n r = record { answer = r .answer; tables = r .tables; ram = r .ram ++ drop n ram; output = r .output }
+
+-- what one record leaves of the tables, of the four segments and of the output
+unfoldable pub logStep : Tables → (ram out : List ℕ) (kind : ℕ) (body : List ℕ) → Result
+logStep t ram out kind body = let n = lentTo (t .segments) kind (length body) in onRest ram n (stepOf t (take n ram) kind body out)
+
+-- what stands at the front of the input: nothing, "A bad length or cut record", or a record and the rest
+pub data Next : Type 0 where
+  finished : Next
+  broken : Next
+  found : (kind : ℕ) (body rest : List ℕ) → Next
+
+-- "length in 2 bytes counting kind and body (2 to 4,096), kind in 2 bytes, body"
+unfoldable pub next : List ℕ → Next
+next xs =
+    let n = u16At xs 0 in
+    cond (eqb (length xs) 0) finished
+    (cond (ltb (length xs) 2) broken
+    (cond (ltb n 2) broken
+    (cond (ltb 4096 n) broken
+    (cond (ltb (length xs) (n + 2)) broken
+    (found (u16At xs 2) (take (n - 2) (drop 4 xs)) (drop (n + 2) xs))))))
+
+-- `bad` and a newline
+abbrev pub badText : List ℕ
+badText = 98 ∷ 97 ∷ 100 ∷ 10 ∷ []
+
+-- "prints a line a record", and `more` for the rest of the log; "prints `bad` and ends"
+unfoldable pub turn : (more : Tables → (ram out xs : List ℕ) → List ℕ) → Tables → (ram out : List ℕ) → Next → List ℕ
+turn more t ram out finished = []
+turn more t ram out broken = badText
+turn more t ram out (found kind body rest) =
+    let r = logStep t ram out kind body in lineAfter kind r ++ more (r .tables) (r .ram) (r .output) rest
+
+-- at most k records
+unfoldable pub run : (k : ℕ) → Tables → (ram out xs : List ℕ) → List ℕ
+run zero t ram out xs = []
+run (suc k) t ram out xs = turn (run k) t ram out (next xs)
+
+-- the text of a log, from tables, RAM and output as they stand; a record takes four bytes, so that there are turns enough
+unfoldable pub textFrom : Tables → (ram out xs : List ℕ) → List ℕ
+textFrom t ram out xs = run (length xs) t ram out xs
+
+-- "It reads event records .., lends at most four segments and 4,096 bytes of output, and prints a line a record"
+unfoldable pub listing : List ℕ → List ℕ
+listing xs = textFrom noTables (replicate 65536 0) (replicate 4096 0) xs

@@ -1,0 +1,93 @@
+-- The listing record by record: its text is the first record's line and then the text of what follows.
+use mathlib.Core.Path.{_≡_, refl, ap, _∙_}
+use mathlib.Core.Bool.{Bool, true, false, cond}
+use mathlib.Core.List.{List, [], _∷_, _++_, append-nil}
+use Prim.Native.Nat.{ℕ, zero, suc, _+_, _-_, _<_, _≤_}
+use native.Mathlib.Omega.{arith}
+use lib.ListN.{length, take, drop, length-drop}
+use lib.Seq.{take-all}
+use lib.Dec.{eqb, ltb}
+use borrow.Author.Tests.{eq-eqb, eqb-false}
+use Rattle.kernel.specs.Definition.Step.{decided, completed, step}
+use Rattle.kernel.specs.declared.Tables.{Tables}
+use Rattle.events.specs.Definition.Records.{u16At, decode}
+use Rattle.listing.specs.Definition.Log.{logStep, lineAfter, lentTo, Next, finished, broken, found, next, turn, run, textFrom, badText}
+
+only : (b₁ b₂ b₃ b₄ b₅ : Bool) (k k′ : ℕ) (b b′ r r′ : List ℕ)
+    → cond b₁ finished (cond b₂ broken (cond b₃ broken (cond b₄ broken (cond b₅ broken (found k b r))))) ≡ found k′ b′ r′ → (b₁ ≡ false) × (r ≡ r′)
+only true b₂ b₃ b₄ b₅ k k′ b b′ r r′ e = absurd (let z : _≡_ {A = ℕ} 0 1 = cc in omega arith)
+only false true b₃ b₄ b₅ k k′ b b′ r r′ e = absurd (let z : _≡_ {A = ℕ} 0 1 = cc in omega arith)
+only false false true b₄ b₅ k k′ b b′ r r′ e = absurd (let z : _≡_ {A = ℕ} 0 1 = cc in omega arith)
+only false false false true b₅ k k′ b b′ r r′ e = absurd (let z : _≡_ {A = ℕ} 0 1 = cc in omega arith)
+only false false false false true k k′ b b′ r r′ e = absurd (let z : _≡_ {A = ℕ} 0 1 = cc in omega arith)
+only false false false false false k k′ b b′ r r′ e = (refl, cc)
+
+-- a record takes bytes
+shorter : (xs : List ℕ) (kind : ℕ) (body rest : List ℕ) → next xs ≡ found kind body rest → length rest < length xs
+unfolding next
+shorter xs kind body rest e =
+    let n = u16At xs 0 in
+    let h = only (eqb (length xs) 0) (ltb (length xs) 2) (ltb n 2) (ltb 4096 n) (ltb (length xs) (n + 2)) (u16At xs 2) kind (take (n - 2) (drop 4 xs)) body (drop (n + 2) xs) rest e in
+    rw (← h .1, length-drop) (some (length xs) n (eqb-false (length xs) 0 (h .0)))
+  where
+    some : (l m : ℕ) → (l ≡ 0 → ⊥) → l - (m + 2) < l
+    some zero m f = absurd (f refl)
+    some (suc l) m f = omega arith
+
+next-none : (xs : List ℕ) → length xs ≤ 0 → next xs ≡ finished
+unfolding next
+next-none xs h = rw (eq-eqb (length xs) 0 (omega arith))
+
+same-on : (f g : Tables → List ℕ → List ℕ → List ℕ → List ℕ) (t : Tables) (ram out : List ℕ) (v : Next)
+    → ((t′ : Tables) (ram′ out′ : List ℕ) (kind : ℕ) (body rest : List ℕ) → v ≡ found kind body rest → f t′ ram′ out′ rest ≡ g t′ ram′ out′ rest)
+    → turn f t ram out v ≡ turn g t ram out v
+unfolding turn
+same-on f g t ram out finished h = refl
+same-on f g t ram out broken h = refl
+same-on f g t ram out (found kind body rest) h =
+    let r = logStep t ram out kind body in
+    ap (λ (l : List ℕ). lineAfter kind r ++ l) (h (r .tables) (r .ram) (r .output) kind body rest refl)
+
+-- more turns than bytes change nothing
+enough : (k m : ℕ) (t : Tables) (ram out xs : List ℕ) → length xs ≤ k → length xs ≤ m → run k t ram out xs ≡ run m t ram out xs
+unfolding run turn
+enough zero zero t ram out xs h g = refl
+enough zero (suc m) t ram out xs h g = rw (next-none xs h)
+enough (suc k) zero t ram out xs h g = rw (next-none xs g)
+enough (suc k) (suc m) t ram out xs h g =
+    same-on (run k) (run m) t ram out (next xs)
+    (λ t′ ram′ out′ kind body rest e. enough k m t′ ram′ out′ rest (omega (arith, shorter xs kind body rest e)) (omega (arith, shorter xs kind body rest e)))
+
+-- the whole log is one turn on its front, and the text of the rest: no record is left out
+pub text-turn : (t : Tables) (ram out xs : List ℕ) → textFrom t ram out xs ≡ turn textFrom t ram out (next xs)
+unfolding textFrom run turn
+text-turn t ram out [] = rw (next-none [] (omega arith))
+text-turn t ram out (x ∷ xs) =
+    same-on (run (length xs)) textFrom t ram out (next (x ∷ xs))
+    (λ t′ ram′ out′ kind body rest e. enough (length xs) (length rest) t′ ram′ out′ rest (omega (arith, shorter (x ∷ xs) kind body rest e)) (omega arith))
+
+pub text-found : (t : Tables) (ram out xs : List ℕ) (kind : ℕ) (body rest : List ℕ) → next xs ≡ found kind body rest
+    → let r = logStep t ram out kind body in textFrom t ram out xs ≡ lineAfter kind r ++ textFrom (r .tables) (r .ram) (r .output) rest
+unfolding turn
+text-found t ram out xs kind body rest e = text-turn t ram out xs ∙ rw e
+
+pub text-broken : (t : Tables) (ram out xs : List ℕ) → next xs ≡ broken → textFrom t ram out xs ≡ badText
+unfolding turn
+text-broken t ram out xs e = text-turn t ram out xs ∙ rw e
+
+pub text-finished : (t : Tables) (ram out : List ℕ) → textFrom t ram out [] ≡ []
+unfolding textFrom run
+text-finished t ram out = refl
+
+-- a call that is lent all four segments: what it leaves, by their length alone
+pub log-full : (t : Tables) (ram out : List ℕ) (kind : ℕ) (body : List ℕ) → lentTo (t .segments) kind (length body) ≡ 65536 → length ram ≡ 65536
+    → logStep t ram out kind body ≡ completed t (decided t 65536 (length out) (decode kind body)) ram (decode kind body) out
+unfolding logStep step
+log-full t ram out kind body e h =
+    rw (e, take-all 65536 ram (omega arith), h, nothing 65536 ram (omega arith), append-nil)
+  where
+    nothing : (n : ℕ) (xs : List ℕ) → length xs ≤ n → drop n xs ≡ []
+    nothing zero [] h = refl
+    nothing zero (x ∷ xs) h = absurd (omega arith)
+    nothing (suc n) [] h = refl
+    nothing (suc n) (x ∷ xs) h = nothing n xs (omega arith)

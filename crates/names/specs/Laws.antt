@@ -1,0 +1,8 @@
+-- The computed reading is the one reading of the grammar, and what the steps of the parse promise.
+pub mod Steps
+pub mod Runs
+pub mod Numbers
+pub mod Laid
+pub mod Right
+pub mod Places
+pub mod Examples

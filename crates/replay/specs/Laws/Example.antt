@@ -1,0 +1,57 @@
+-- A buffer with 01's start, an open and a record that is cut: two records are replayed, and what they leave is a state of a run.
+use mathlib.Core.Path.{_≡_, refl}
+use mathlib.Core.Bool.{Bool, true, _&&_}
+use mathlib.Core.List.{List, [], _∷_}
+use mathlib.Core.Logic.{inl}
+use Prim.Native.Nat.{ℕ, zero, suc}
+use native.Mathlib.Omega.{arith}
+use borrow.Author.Tests.{ltb-true}
+use lib.Dec.{ltb}
+use lib.ListN.{length}
+use Rattle.rows.specs.Definition.Lists.{upTo}
+use Rattle.rows.specs.Laws.Lists.{and-left, and-right}
+use Rattle.kernel.specs.Definition.Reset.{noTables}
+use Rattle.kernel.specs.Definition.Step.{decided, completed, step}
+use Rattle.events.specs.Laws.Bodies.{Bytes}
+use Rattle.events.specs.Definition.Records.{startIn, decode}
+use Rattle.history.specs.Bytes.Runs.{Run}
+use Rattle.replay.specs.Definition.Replay.{EventRecord, whole, sizeOf, recordsIn, records, bytesOf, replayed, before}
+use Rattle.replay.specs.Laws.Runs.{stateOf, since, Starts, replay-run}
+
+-- "start, bytes 08 00 00 01 42 2B FC FD FE FF; open 5, status 0, n 100, "VIDEO:"", and two bytes of a boundary's four
+abbrev buffer : List ℕ
+buffer =
+    8 ∷ 0 ∷ 0 ∷ 1 ∷ 66 ∷ 43 ∷ 252 ∷ 253 ∷ 254 ∷ 255
+    ∷ 12 ∷ 0 ∷ 1 ∷ 0 ∷ 5 ∷ 0 ∷ 100 ∷ 0 ∷ 86 ∷ 73 ∷ 68 ∷ 69 ∷ 79 ∷ 58
+    ∷ 2 ∷ 0 ∷ []
+
+abbrev start-record : EventRecord
+start-record = record { kind = 256; body = 66 ∷ 43 ∷ 252 ∷ 253 ∷ 254 ∷ 255 ∷ [] }
+
+abbrev open-record : EventRecord
+open-record = record { kind = 1; body = 5 ∷ 0 ∷ 100 ∷ 0 ∷ 86 ∷ 73 ∷ 68 ∷ 69 ∷ 79 ∷ 58 ∷ [] }
+
+pub two-records : records buffer ≡ start-record ∷ open-record ∷ []
+unfolding records recordsIn sizeOf whole
+two-records = refl
+
+pub two-taken : bytesOf (records buffer) ≡ 24
+unfolding records recordsIn sizeOf whole
+two-taken = refl
+
+abbrev bytesTest : List ℕ → Bool
+bytesTest [] = true
+bytesTest (x ∷ xs) = ltb x 256 && bytesTest xs
+
+tested : (xs : List ℕ) → bytesTest xs ≡ true → Bytes xs
+tested [] e i = omega arith
+tested (x ∷ xs) e zero = ltb-true x 256 (and-left (ltb x 256) (bytesTest xs) e)
+tested (x ∷ xs) e (suc i) = tested xs (and-right (ltb x 256) (bytesTest xs) e) i
+
+module _ (ram out : List ℕ) (four : length ram ≡ 65536) where
+  starts-here : Starts (before noTables ram out) (records buffer)
+  unfolding step completed decided noTables upTo decode startIn
+  starts-here = rw two-records (inl (rw four))
+
+  pub run-here : Run (since [] (before noTables ram out) (records buffer)) (stateOf (replayed (before noTables ram out) (records buffer)))
+  run-here = replay-run (before noTables ram out) buffer (tested buffer refl) starts-here

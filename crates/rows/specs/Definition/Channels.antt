@@ -1,0 +1,26 @@
+-- The rows of channels: the sum of their records, and the place of a channel.
+use mathlib.Core.Bool.{true, false}
+use mathlib.Core.List.{List, [], _∷_}
+use Prim.Native.Nat.{ℕ, _+_}
+use lib.Dec.{ltb, eqb}
+use Rattle.rows.specs.Definition.Lists.{firstWhere}
+use Rattle.rows.specs.declared.Channel.{Channel}
+use Rattle.rows.specs.declared.Lookup.{Lookup}
+use Rattle.rows.specs.declared.Lookup.the-variants.{At, Nowhere}
+
+-- "Unused rows and bytes of the tables are zero"
+abbrev pub noChannel : Channel
+noChannel = record { number = 0; device = 0; unit = 0; n = 0 }
+
+-- "length L = 16 + n"; "T is the sum of their lengths"
+abbrev pub sumOf : List Channel → ℕ
+sumOf [] = 0
+sumOf (c ∷ cs) = (16 + c .n) + sumOf cs
+
+-- the row of the channel numbered ch, or the number of rows where it is not open
+abbrev pub rowIn : List Channel → ℕ → ℕ
+rowIn cs ch = firstWhere (λ (c : Channel). eqb (c .number) ch) cs
+
+-- a place among the first n rows, as the code says it
+abbrev pub foundAt : ℕ → ℕ → Lookup
+foundAt i n = elim (ltb i n) [ true ↦ At i | false ↦ Nowhere ]

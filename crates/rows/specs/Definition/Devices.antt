@@ -1,0 +1,56 @@
+-- The rows of devices: names, the devices that are built in, linking one, and the place of a device.
+use mathlib.Core.Bool.{Bool, true, false, not, _&&_}
+use mathlib.Core.List.{List, [], _∷_, map}
+use Prim.Native.Nat.{ℕ}
+use lib.Dec.{ltb, eqb}
+use lib.ListN.{length, set, replicate}
+use Rattle.rows.specs.Definition.Lists.{at, padded, upTo, firstWhere}
+use Rattle.rows.specs.declared.Device.{Device}
+
+-- what reading beyond the rows would give
+abbrev pub noDevice : Device
+noDevice = record { name = []; length = 0; enabled = false }
+
+-- "Unused rows and bytes of the tables are zero"
+abbrev pub zeroDevice : Device
+zeroDevice = record { name = replicate {A = ℕ} 28 0; length = 0; enabled = false }
+
+abbrev pub sameBytes : List ℕ → List ℕ → ℕ → Bool
+sameBytes a b k = eqb (at a k) (at b k)
+
+-- two names, each of 28 bytes with its length, are the same
+abbrev pub sameName : List ℕ → ℕ → List ℕ → ℕ → Bool
+sameName a la b lb = eqb la lb && upTo 28 (sameBytes a b)
+
+-- an enabled device of this name
+abbrev pub deviceOf : List ℕ → Device
+deviceOf s = record { name = padded 28 s; length = length s; enabled = true }
+
+abbrev pub VIDEO : List ℕ
+VIDEO = 86 ∷ 73 ∷ 68 ∷ 69 ∷ 79 ∷ []
+
+abbrev pub NET : List ℕ
+NET = 78 ∷ 69 ∷ 84 ∷ []
+
+abbrev pub KEYBOARD : List ℕ
+KEYBOARD = 75 ∷ 69 ∷ 89 ∷ 66 ∷ 79 ∷ 65 ∷ 82 ∷ 68 ∷ []
+
+-- "Devices 0, 1, 2 are VIDEO, NET, KEYBOARD (build)"
+abbrev pub builtIn : List Device
+builtIn = deviceOf VIDEO ∷ deviceOf NET ∷ deviceOf KEYBOARD ∷ replicate {A = Device} 13 zeroDevice
+
+-- "An older device of the same name is disabled": the device once one of this name is linked
+abbrev pub disabledBy : List ℕ → ℕ → Device → Device
+disabledBy s n d = record { name = d .name; length = d .length; enabled = d .enabled && not (sameName (d .name) (d .length) s n) }
+
+-- "Link adds a device"
+abbrev pub added : List Device → ℕ → List ℕ → ℕ → List Device
+added ds known s n = set (map (disabledBy s n) ds) known (record { name = s; length = n; enabled = true })
+
+-- enabled and so named. "The empty default matches no device"
+abbrev pub answers : List ℕ → ℕ → Device → Bool
+answers s n d = ltb 0 n && (d .enabled && sameName (d .name) (d .length) s n)
+
+-- the row of the first enabled device so named, or the number of rows where there is none
+abbrev pub deviceIn : List Device → List ℕ → ℕ → ℕ
+deviceIn ds s n = firstWhere (answers s n) ds

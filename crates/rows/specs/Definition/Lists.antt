@@ -1,0 +1,51 @@
+-- Searches, counts and tests over lists, which antt computes.
+use mathlib.Core.Bool.{Bool, true, false, cond, _&&_}
+use mathlib.Core.List.{List, [], _∷_, _++_}
+use Prim.Native.Nat.{ℕ, zero, suc, _+_, _-_}
+use lib.ListN.{length, getD, take, drop, replicate}
+use lib.Dec.{ltb, eqb}
+
+-- what stands at a place of a list of numbers, 0 beyond its end
+abbrev pub at : List ℕ → ℕ → ℕ
+at xs i = getD xs i 0
+
+-- the list with zeros behind it, up to n
+abbrev pub padded : ℕ → List ℕ → List ℕ
+padded n xs = xs ++ replicate {A = ℕ} (n - length xs) 0
+
+-- the list without row i, the later rows moved up, and z behind
+abbrev pub without : {A : Type 0} → ℕ → List A → A → List A
+without i xs z = (take i xs ++ drop (suc i) xs) ++ (z ∷ [])
+
+-- every element passes the test
+abbrev pub every : {A : Type 0} → (A → Bool) → List A → Bool
+every p [] = true
+every p (x ∷ xs) = p x && every p xs
+
+-- the place of the first element that passes the test, or the length where there is none
+abbrev pub firstWhere : {A : Type 0} → (A → Bool) → List A → ℕ
+firstWhere p [] = 0
+firstWhere p (x ∷ xs) = elim (p x) [ true ↦ 0 | false ↦ suc (firstWhere p xs) ]
+
+-- the place of the first k
+abbrev pub firstOf : ℕ → List ℕ → ℕ
+firstOf k xs = firstWhere (λ (x : ℕ). eqb x k) xs
+
+-- one more than the place of the last k, or 0 where there is none
+abbrev pub lastOf : ℕ → List ℕ → ℕ
+lastOf k [] = 0
+lastOf k (x ∷ xs) = let r = lastOf k xs in cond (ltb 0 r) (suc r) (cond (eqb x k) 1 0)
+
+-- how many elements are k
+abbrev pub tally : ℕ → List ℕ → ℕ
+tally k [] = 0
+tally k (x ∷ xs) = cond (eqb x k) 1 0 + tally k xs
+
+-- the test passes at each number below n
+abbrev pub below : ℕ → (ℕ → Bool) → Bool
+below zero p = true
+below (suc n) p = below n p && p n
+
+-- the same, shut: at a literal bound `below` computes to as many tests
+unfoldable pub upTo : ℕ → (ℕ → Bool) → Bool
+upTo n p = below n p
