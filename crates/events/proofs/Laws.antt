@@ -8,7 +8,7 @@ use lib.ListN.{length, take, drop, length-drop}
 use lib.Seq.{take-all}
 use borrow.Author.Tests.{lt-ltb}
 use Rattle.kernel.specs.Definition.Answers.{gives, granted}
-use Rattle.kernel.specs.Definition.Calls.{Call, unknown}
+use Rattle.kernel.specs.Definition.Calls.{Call, no-call}
 use Rattle.kernel.specs.Definition.Good.{Good}
 use Rattle.kernel.specs.Definition.Tables.{ramSize}
 use Rattle.kernel.specs.Definition.Step.{Result, heard, decided, ramAfter, outputAfter, result, completed, step}
@@ -33,9 +33,9 @@ module _ (t : Tables) (ram : List ℕ) (out : List ℕ) (g : Good t) (s : length
   done c d r ram' out' e q = q ∙ sym (ap (λ x. step t ram x out) e ∙ step-heard c)
 
   -- no call in the body
-  pub no-call : (d : Call) (r : Outcome) → d ≡ unknown → r ≡ gives BadCall t → result r ram out ≡ step t ram d out
+  pub bad-call : (d : Call) (r : Outcome) → d ≡ no-call → r ≡ gives BadCall t → result r ram out ≡ step t ram d out
   unfolding heard completed
-  no-call d r e q = done unknown d r ram out e (rw q)
+  bad-call d r e q = done no-call d r ram out e (rw q)
 
   -- a call that touches neither the RAM nor the output
   pub quiet : (c d : Call) (r : Outcome) → d ≡ c → ramAfter t (r .tables) ram c ≡ ram → outputAfter t ram c out ≡ out

@@ -4,7 +4,7 @@ use mathlib.Core.List.{List}
 use Prim.Native.Nat.{ℕ, _-_, _<_, _≤_}
 use lib.ListN.{length, take, drop}
 use borrow.Author.Tests.{lt-ltb, le-ltb, eq-eqb, ne-eqb}
-use Rattle.kernel.specs.Definition.Calls.{start, reset, «open», close, read, write, default, status, link, boundary, set-user-boundary, allocate, free, store, load, unknown}
+use Rattle.kernel.specs.Definition.Calls.{start, reset, «open», close, read, write, default, status, link, boundary, set-user-boundary, allocate, free, store, load, no-call}
 use Rattle.events.specs.Definition.Records.{u8At, u16At, startIn, resetIn, openIn, closeIn, readIn, writeIn, defaultIn, statusIn, linkIn, boundaryIn, setUserBoundaryIn, allocateIn, freeIn, storeIn, loadIn}
 use Rattle.events.proofs.Laws.{rest-of}
 
@@ -12,7 +12,7 @@ pub start-taken : (body : List ℕ) (room : ℕ) → 2 ≤ length body → room 
 unfolding startIn
 start-taken body room h e = rw (le-ltb (length body) 2 h, e, rest-of 2 body)
 
-pub reset-bad : (body : List ℕ) → (length body ≡ 1 → ⊥) → resetIn body ≡ unknown
+pub reset-bad : (body : List ℕ) → (length body ≡ 1 → ⊥) → resetIn body ≡ no-call
 unfolding resetIn
 reset-bad body h = rw (ne-eqb (length body) 1 h)
 
@@ -20,7 +20,7 @@ pub reset-taken : (body : List ℕ) → length body ≡ 1 → resetIn body ≡ r
 unfolding resetIn
 reset-taken body h = rw (eq-eqb (length body) 1 h)
 
-pub open-bad : (body : List ℕ) → length body < 4 → openIn body ≡ unknown
+pub open-bad : (body : List ℕ) → length body < 4 → openIn body ≡ no-call
 unfolding openIn
 open-bad body h = rw (lt-ltb (length body) 4 h)
 
@@ -28,7 +28,7 @@ pub open-taken : (body : List ℕ) (n : ℕ) → 4 ≤ length body → n ≡ u16
 unfolding openIn
 open-taken body n h e = rw (le-ltb (length body) 4 h, e, rest-of 4 body)
 
-pub close-bad : (body : List ℕ) → (length body ≡ 1 → ⊥) → closeIn body ≡ unknown
+pub close-bad : (body : List ℕ) → (length body ≡ 1 → ⊥) → closeIn body ≡ no-call
 unfolding closeIn
 close-bad body h = rw (ne-eqb (length body) 1 h)
 
@@ -36,7 +36,7 @@ pub close-taken : (body : List ℕ) → length body ≡ 1 → closeIn body ≡ c
 unfolding closeIn
 close-taken body h = rw (eq-eqb (length body) 1 h)
 
-pub read-bad : (body : List ℕ) → (length body ≡ 5 → ⊥) → readIn body ≡ unknown
+pub read-bad : (body : List ℕ) → (length body ≡ 5 → ⊥) → readIn body ≡ no-call
 unfolding readIn
 read-bad body h = rw (ne-eqb (length body) 5 h)
 
@@ -44,7 +44,7 @@ pub read-taken : (body : List ℕ) (offset size : ℕ) → length body ≡ 5 →
 unfolding readIn
 read-taken body offset size h e f = rw (eq-eqb (length body) 5 h, e, f)
 
-pub write-bad : (body : List ℕ) → length body < 3 → writeIn body ≡ unknown
+pub write-bad : (body : List ℕ) → length body < 3 → writeIn body ≡ no-call
 unfolding writeIn
 write-bad body h = rw (lt-ltb (length body) 3 h)
 
@@ -52,7 +52,7 @@ pub write-taken : (body : List ℕ) (offset : ℕ) → 3 ≤ length body → off
 unfolding writeIn
 write-taken body offset h e = rw (le-ltb (length body) 3 h, e, rest-of 3 body)
 
-pub default-bad : (body : List ℕ) → length body < 1 → defaultIn body ≡ unknown
+pub default-bad : (body : List ℕ) → length body < 1 → defaultIn body ≡ no-call
 unfolding defaultIn
 default-bad body h = rw (lt-ltb (length body) 1 h)
 
@@ -60,7 +60,7 @@ pub default-taken : (body : List ℕ) → 1 ≤ length body → defaultIn body �
 unfolding defaultIn
 default-taken body h = rw (le-ltb (length body) 1 h, rest-of 1 body)
 
-pub status-bad : (body : List ℕ) → (length body ≡ 0 → ⊥) → statusIn body ≡ unknown
+pub status-bad : (body : List ℕ) → (length body ≡ 0 → ⊥) → statusIn body ≡ no-call
 unfolding statusIn
 status-bad body h = rw (ne-eqb (length body) 0 h)
 
@@ -68,7 +68,7 @@ pub status-taken : (body : List ℕ) → length body ≡ 0 → statusIn body ≡
 unfolding statusIn
 status-taken body h = rw (eq-eqb (length body) 0 h)
 
-pub link-bad : (body : List ℕ) → length body < 2 → linkIn body ≡ unknown
+pub link-bad : (body : List ℕ) → length body < 2 → linkIn body ≡ no-call
 unfolding linkIn
 link-bad body h = rw (lt-ltb (length body) 2 h)
 
@@ -76,7 +76,7 @@ pub link-taken : (body : List ℕ) (m : ℕ) → 2 ≤ length body → m ≡ u16
 unfolding linkIn
 link-taken body m h e = rw (le-ltb (length body) 2 h, e, rest-of 2 body)
 
-pub boundary-bad : (body : List ℕ) → (length body ≡ 0 → ⊥) → boundaryIn body ≡ unknown
+pub boundary-bad : (body : List ℕ) → (length body ≡ 0 → ⊥) → boundaryIn body ≡ no-call
 unfolding boundaryIn
 boundary-bad body h = rw (ne-eqb (length body) 0 h)
 
@@ -84,7 +84,7 @@ pub boundary-taken : (body : List ℕ) → length body ≡ 0 → boundaryIn body
 unfolding boundaryIn
 boundary-taken body h = rw (eq-eqb (length body) 0 h)
 
-pub set-user-boundary-bad : (body : List ℕ) → (length body ≡ 2 → ⊥) → setUserBoundaryIn body ≡ unknown
+pub set-user-boundary-bad : (body : List ℕ) → (length body ≡ 2 → ⊥) → setUserBoundaryIn body ≡ no-call
 unfolding setUserBoundaryIn
 set-user-boundary-bad body h = rw (ne-eqb (length body) 2 h)
 
@@ -92,7 +92,7 @@ pub set-user-boundary-taken : (body : List ℕ) (value : ℕ) → length body �
 unfolding setUserBoundaryIn
 set-user-boundary-taken body value h e = rw (eq-eqb (length body) 2 h, e)
 
-pub allocate-bad : (body : List ℕ) → (length body ≡ 1 → ⊥) → allocateIn body ≡ unknown
+pub allocate-bad : (body : List ℕ) → (length body ≡ 1 → ⊥) → allocateIn body ≡ no-call
 unfolding allocateIn
 allocate-bad body h = rw (ne-eqb (length body) 1 h)
 
@@ -100,7 +100,7 @@ pub allocate-taken : (body : List ℕ) → length body ≡ 1 → allocateIn body
 unfolding allocateIn
 allocate-taken body h = rw (eq-eqb (length body) 1 h)
 
-pub free-bad : (body : List ℕ) → (length body ≡ 2 → ⊥) → freeIn body ≡ unknown
+pub free-bad : (body : List ℕ) → (length body ≡ 2 → ⊥) → freeIn body ≡ no-call
 unfolding freeIn
 free-bad body h = rw (ne-eqb (length body) 2 h)
 
@@ -108,7 +108,7 @@ pub free-taken : (body : List ℕ) → length body ≡ 2 → freeIn body ≡ fre
 unfolding freeIn
 free-taken body h = rw (eq-eqb (length body) 2 h)
 
-pub store-bad : (body : List ℕ) → length body < 3 → storeIn body ≡ unknown
+pub store-bad : (body : List ℕ) → length body < 3 → storeIn body ≡ no-call
 unfolding storeIn
 store-bad body h = rw (lt-ltb (length body) 3 h)
 
@@ -116,7 +116,7 @@ pub store-taken : (body : List ℕ) (offset : ℕ) → 3 ≤ length body → off
 unfolding storeIn
 store-taken body offset h e = rw (le-ltb (length body) 3 h, e, rest-of 3 body)
 
-pub load-bad : (body : List ℕ) → (length body ≡ 5 → ⊥) → loadIn body ≡ unknown
+pub load-bad : (body : List ℕ) → (length body ≡ 5 → ⊥) → loadIn body ≡ no-call
 unfolding loadIn
 load-bad body h = rw (ne-eqb (length body) 5 h)
 

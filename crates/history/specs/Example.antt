@@ -8,7 +8,7 @@ use borrow.Author.Needs.{needs}
 use borrow.Author.Tests.{ltb-true, eqb-true}
 use lib.Dec.{ltb, eqb}
 use lib.ListN.{length, getD}
-use Rattle.names.specs.Definition.Tests.{nameTest}
+use Rattle.names.specs.Definition.Tests.{lettersTest}
 use Rattle.line.specs.Definition.Line.{chainIndexOf, offsetOf, placeOf}
 use Rattle.line.specs.Definition.Lent.{lentAt}
 use Rattle.line.specs.declared.Lent.the-variants.{Part}
@@ -23,7 +23,7 @@ use Rattle.kernel.specs.Definition.Reset.{noTables}
 use Rattle.kernel.specs.Definition.Answers.{numberOf, granted}
 use Rattle.kernel.specs.Definition.Calls.{Call, start, close, read, write, link, set-user-boundary, allocate, store, isStart}
 use Rattle.kernel.specs.Definition.Step.{decided, completed, step}
-use Rattle.kernel.specs.Definition.Lend.{lentOn, lentFrom, partFrom}
+use Rattle.kernel.specs.Definition.Lend.{lentOnGood, lentOn, partOn}
 use Rattle.kernel.specs.Laws.Fields.{Fields}
 use Rattle.kernel.specs.Laws.Ready.{Ready, decided-ready, start-ready}
 use Rattle.kernel.specs.declared.Tables.{Tables}
@@ -97,7 +97,7 @@ known-answer : {s : State} {t : Tables} → Known s t → (c : Call) → event s
 unfolding step completed
 known-answer k c = rw (k .tables, k .size)
 
-known-lent : {s : State} {t : Tables} → Known s t → (channel : ℕ) → lentFrom (s .tables) (length (s .ram)) channel ≡ lentFrom t 65536 channel
+known-lent : {s : State} {t : Tables} → Known s t → (channel : ℕ) → lentOn (s .tables) (length (s .ram)) channel ≡ lentOn t 65536 channel
 known-lent k channel = rw (k .tables, k .size)
 
 known-next : {s : State} {t : Tables} → Known s t → (c : Call) → Fields c → isStart c ≡ false → Known (after s c lent) (answered t c .tables)
@@ -186,24 +186,24 @@ fit-more = search needs
 
 -- 17 is SHARED
 pub answers : numbers t₀ calls ≡ 0 ∷ 0 ∷ 0 ∷ 0 ∷ 0 ∷ 0 ∷ 0 ∷ 17 ∷ 0 ∷ []
-unfolding decided noTables nameTest upTo chainLength boundaryAt grown shrunk
+unfolding decided noTables lettersTest upTo chainLength boundaryAt grown shrunk
 answers = refl
 
 pub answers-more : numbers t₁ more ≡ 0 ∷ 0 ∷ 0 ∷ []
-unfolding decided noTables nameTest upTo chainLength boundaryAt grown shrunk
+unfolding decided noTables lettersTest upTo chainLength boundaryAt grown shrunk
 answers-more = refl
 
 shared-here : sharedTest 255 5 t₁ ≡ true
-unfolding decided noTables nameTest upTo chainLength boundaryAt grown shrunk
+unfolding decided noTables lettersTest upTo chainLength boundaryAt grown shrunk
 shared-here = refl
 
 shared-all : sharedAll 255 5 t₁ more ≡ true
-unfolding decided noTables nameTest upTo chainLength boundaryAt grown shrunk
+unfolding decided noTables lettersTest upTo chainLength boundaryAt grown shrunk
 shared-all = refl
 
 -- channel 2's buffer, on positions 16 to 19 of the line, where R is 10,974
-computed : Part 60106 ≡ lentFrom t₁ 65536 2
-unfolding lentFrom lentOn lentAt placeOf chainIndexOf offsetOf decided noTables nameTest upTo chainLength boundaryAt grown shrunk
+computed : Part 60106 ≡ lentOn t₁ 65536 2
+unfolding lentOn lentOnGood lentAt placeOf chainIndexOf offsetOf decided noTables lettersTest upTo chainLength boundaryAt grown shrunk
 computed = refl
 
 module _ (ram : List ℕ) (four : length ram ≡ 65536) where
@@ -242,35 +242,35 @@ module _ (ram : List ℕ) (four : length ram ≡ 65536) where
 
   -- 1: channel 2's bytes, read after its buffer moved twice, are 0 and the 7 that was written
   gave : granted (event s₁ (read 2 0 3) lent .answer) ≡ true
-  unfolding decided noTables nameTest upTo chainLength boundaryAt grown shrunk
+  unfolding decided noTables lettersTest upTo chainLength boundaryAt grown shrunk
   gave = ap granted (known-answer k₁ (read 2 0 3))
 
   last : (k : ℕ) → lastWritten (tells [] s₀ calls) 2 k ≡ lastWritten (plain [] t₀ calls) 2 k
   last k = alike-written (alike none k₀ calls fit) 2 k
 
   pub byte-zero : getD (event s₁ (read 2 0 3) lent .output) 0 0 ≡ 0
-  unfolding lastWritten written patched decided noTables nameTest upTo chainLength boundaryAt grown shrunk
+  unfolding lastWritten written patched decided noTables lettersTest upTo chainLength boundaryAt grown shrunk
   byte-zero = bytes-read sequence 2 0 3 lent gave 0 (omega arith) ∙ last 0
 
   pub byte-one : getD (event s₁ (read 2 0 3) lent .output) 1 0 ≡ 7
-  unfolding lastWritten written patched decided noTables nameTest upTo chainLength boundaryAt grown shrunk
+  unfolding lastWritten written patched decided noTables lettersTest upTo chainLength boundaryAt grown shrunk
   byte-one = bytes-read sequence 2 0 3 lent gave 1 (omega arith) ∙ last 1
 
   -- 2: byte 5 of the shared segment is the 9 that was stored
   pub byte-stored : userByte (leads s₁ more) 255 5 ≡ 9
-  unfolding lastStored stored patched decided noTables nameTest upTo chainLength boundaryAt grown shrunk
+  unfolding lastStored stored patched decided noTables lettersTest upTo chainLength boundaryAt grown shrunk
   byte-stored =
       user-bytes sequence 255 5 (runs [] s₁ more fit-more (users-all 255 5 k₁ more fit-more shared-all) (stay (users 255 5 k₁ shared-here)))
       ∙ alike-stored (alike none k₁ more fit-more) 255 5 _
 
   -- 3: the one channel's record lies in one segment
   pub one-segment : size (s₁ .tables .segments) (held (s₁ .tables)) ≡ 1
-  unfolding decided noTables nameTest upTo chainLength boundaryAt grown shrunk
+  unfolding decided noTables lettersTest upTo chainLength boundaryAt grown shrunk
   one-segment = reachable-fewest sequence .many ∙ ap (λ (t : Tables). t .held) (k₁ .tables)
 
   -- 4: one byte more than the open of `more` asks, and no layout fits
   no-room : event s₁ (opens 3 9939) lent .answer ≡ NoRoom
-  unfolding decided noTables nameTest upTo chainLength boundaryAt grown shrunk
+  unfolding decided noTables lettersTest upTo chainLength boundaryAt grown shrunk
   no-room = known-answer k₁ (opens 3 9939)
 
   passes : Passes (s₁ .tables) (length (s₁ .ram)) 3 (opens 3 9939)
@@ -283,16 +283,16 @@ module _ (ram : List ℕ) (four : length ram ≡ 65536) where
   no-layout = reachable-open sequence lent 3 0 9939 _ passes .refused .0 no-room
 
   -- 5: channel 2's four bytes are lent on, the last first: the 7 is the third of them
-  lent-on : Part 60106 ≡ lentFrom (s₁ .tables) (length (s₁ .ram)) 2
+  lent-on : Part 60106 ≡ lentOn (s₁ .tables) (length (s₁ .ram)) 2
   lent-on = computed ∙ sym (known-lent k₁ 2)
 
   four-bytes : sizeOf (s₁ .tables) 2 ≡ 4
-  unfolding decided noTables nameTest upTo chainLength boundaryAt grown shrunk
+  unfolding decided noTables lettersTest upTo chainLength boundaryAt grown shrunk
   four-bytes = ap (λ (t : Tables). sizeOf t 2) (k₁ .tables)
 
-  pub byte-lent : getD (partFrom (s₁ .tables) (s₁ .ram) 2) 2 0 ≡ 7
-  unfolding lastWritten written patched decided noTables nameTest upTo chainLength boundaryAt grown shrunk
+  pub byte-lent : getD (partOn (s₁ .tables) (s₁ .ram) 2) 2 0 ≡ 7
+  unfolding lastWritten written patched decided noTables lettersTest upTo chainLength boundaryAt grown shrunk
   byte-lent =
-      ap (λ (n : ℕ). getD (partFrom (s₁ .tables) (s₁ .ram) 2) (n - 1 - 1) 0) (sym four-bytes)
+      ap (λ (n : ℕ). getD (partOn (s₁ .tables) (s₁ .ram) 2) (n - 1 - 1) 0) (sym four-bytes)
       ∙ lent-written sequence 2 60106 lent-on 1 (subst (λ (n : ℕ). 1 < n) (sym four-bytes) (omega arith))
       ∙ last 1

@@ -16,7 +16,7 @@ use Rattle.history.specs.Bytes.BytesRead.{run-holds}
 use Rattle.history.specs.Room.Layout.{Layout}
 use Rattle.history.specs.Room.Places.{offered, Outside}
 use Rattle.history.specs.Room.Fewest.{Fewest, fewest}
-use Rattle.history.specs.Room.Earlier.{Passes, Left}
+use Rattle.history.specs.Room.Earlier.{Passes, OnlyRoom}
 use Rattle.history.specs.Room.RoomExactly.{recordsAnd, LinkFits, open-exactly, link-exactly}
 
 -- what a state has
@@ -51,12 +51,12 @@ reachable-fewest {s = s} r = fewest (s .tables) (reachable r .0 .good)
 -- An open that passes every earlier check is refused for room exactly when no layout fits, and a link likewise.
 module _ {h : History} {s : State} (r : Run h s) (output : List ℕ) where
   pub reachable-open : (channel driver n : ℕ) (name : List ℕ) → Passes (s .tables) (length (s .ram)) (length output) («open» channel driver n name)
-      → Left (event s («open» channel driver n name) output .answer) (Layout (recordsAnd (s .tables) n) (Outside (s .tables) (s .tables .room) (offered (s .tables))))
+      → OnlyRoom (event s («open» channel driver n name) output .answer) (Layout (recordsAnd (s .tables) n) (Outside (s .tables) (s .tables .room) (offered (s .tables))))
   unfolding step completed
   reachable-open channel driver n name p =
       open-exactly (s .tables) (length (s .ram)) (length output) channel driver n name (reachable r .0 .good .sized) p
 
   pub reachable-link : (m : ℕ) (name : List ℕ) → Passes (s .tables) (length (s .ram)) (length output) (link m name)
-      → Left (event s (link m name) output .answer) (LinkFits (s .tables) m)
+      → OnlyRoom (event s (link m name) output .answer) (LinkFits (s .tables) m)
   unfolding step completed
   reachable-link m name p = link-exactly (s .tables) (length (s .ram)) (length output) m name (reachable r .0 .good .sized) p

@@ -8,7 +8,7 @@ use lib.ListN.{length, getD, take, drop, set, length-drop}
 use lib.Seq.{take-suc-set, take-suc, take-all, getD-drop, drop-drop}
 use Rattle.text.specs.Definition.Text.{Put}
 use Rattle.text.proofs.Laws.{put-then}
-use Rattle.image.specs.Definition.Image.{bytesOf, rowsOf}
+use Rattle.image.specs.Definition.Image.{rowsBytes, rowsOf}
 
 pub put-same : {d e : List ℕ} {at r : ℕ} {xs ys : List ℕ} → xs ≡ ys → Put d e at r xs → Put d e at r ys
 put-same h p = rw h at p
@@ -23,12 +23,12 @@ run-read a xs at i h l e =
     rw (add-one, take-suc-set a i (getD xs (at + i) 0) h, take-suc (drop at xs) i 0 m, getD-drop at xs i 0, e)
 
 -- rows, one a turn
-bytes-append : {A : Type 0} (row : A → List ℕ) (xs ys : List A) → bytesOf row (xs ++ ys) ≡ bytesOf row xs ++ bytesOf row ys
+bytes-append : {A : Type 0} (row : A → List ℕ) (xs ys : List A) → rowsBytes row (xs ++ ys) ≡ rowsBytes row xs ++ rowsBytes row ys
 bytes-append row [] ys = refl
 bytes-append row (x ∷ xs) ys = rw (bytes-append row xs ys, append-assoc)
 
 pub row-put : {A : Type 0} (row : A → List ℕ) (none : A) (rows : List A) (i : ℕ) {d e f : List ℕ} {at m r : ℕ} → i < length rows
-    → Put d e at m (bytesOf row (take i rows)) → Put e f m r (row (getD rows i none)) → Put d f at r (bytesOf row (take (i + 1) rows))
+    → Put d e at m (rowsBytes row (take i rows)) → Put e f m r (row (getD rows i none)) → Put d f at r (rowsBytes row (take (i + 1) rows))
 row-put row none rows i h p q = rw (add-one, take-suc rows i none h, bytes-append, append-nil) (put-then p q)
 
 rows-more : {A : Type 0} (row : List ℕ → A) (width i : ℕ) (xs : List ℕ) → rowsOf row width (suc i) xs ≡ rowsOf row width i xs ++ (row (drop (width * i) xs) ∷ [])

@@ -10,7 +10,7 @@ use Rattle.rows.specs.declared.Channel.{Channel}
 use Rattle.rows.specs.declared.Device.{Device}
 use Rattle.kernel.specs.declared.Tables.{Tables}
 use Rattle.events.specs.Definition.Records.{u8At, u16At}
-use Rattle.image.specs.Definition.Image.{runAt, rowsOf, channelOf, deviceOf, tablesOf}
+use Rattle.image.specs.Definition.Image.{runAt, rowsOf, channelFrom, deviceFrom, tablesOf}
 
 -- a run of 32 has no zeros behind it
 pub run-laid : (xs : List ℕ) (at : ℕ) (run : List ℕ) → at + 32 ≤ length xs → run ≡ padded 32 (take 32 (take 32 (drop at xs))) → run ≡ runAt xs at 32
@@ -21,7 +21,7 @@ run-laid xs at run h e =
 
 pub tables-made : (xs list classes chain : List ℕ) (user room cold : ℕ) (channels : List Channel) (devices : List Device) (name : List ℕ)
     → list ≡ runAt xs 1 32 → classes ≡ runAt xs 33 32 → chain ≡ runAt xs 66 32 → user ≡ u16At xs 98 → room ≡ u16At xs 100 → cold ≡ u16At xs 102
-    → channels ≡ rowsOf channelOf 5 32 (drop 105 xs) → devices ≡ rowsOf deviceOf 30 16 (drop 266 xs) → name ≡ runAt xs 746 28
+    → channels ≡ rowsOf channelFrom 5 32 (drop 105 xs) → devices ≡ rowsOf deviceFrom 30 16 (drop 266 xs) → name ≡ runAt xs 746 28
     → _≡_ {A = Tables}
     (record {
       segments = u8At xs 0;

@@ -3,7 +3,7 @@ ghost use mathlib.Core.Path.{_≡_};
 ghost use Prim.Native.Nat.{_+_, _≤_};
 ghost use lib.ListN.{length, drop};
 ghost use Rattle.text.specs.Definition.Text.{Put};
-ghost use Rattle.image.specs.Definition.Image.{channelBytes, channelOf, bytesOf, rowsOf};
+ghost use Rattle.image.specs.Definition.Image.{channelBytes, channelFrom, rowsBytes, rowsOf};
 use super::fields::put_u16;
 use events::fields::u16_at;
 use rows::Channel;
@@ -12,7 +12,7 @@ use text::put;
 // A row of five bytes.
 fn channel_at(image: &[u8], at: usize) -> Channel
     requires { ⌜ at + 5 ≤ length (now image) ⌝ }
-    ensures { λ r. ⌜ r ≡ channelOf (drop at (now (image .entry))) ⌝ }
+    ensures { λ r. ⌜ r ≡ channelFrom (drop at (now (image .entry))) ⌝ }
 {
     Channel {
         number: image[at],
@@ -24,7 +24,7 @@ fn channel_at(image: &[u8], at: usize) -> Channel
 
 pub fn channels_at(image: &[u8], at: usize) -> [Channel; 32]
     requires { ⌜ at + 160 ≤ length (now image) ⌝ }
-    ensures { λ r. ⌜ r ≡ rowsOf channelOf 5 32 (drop at (now (image .entry))) ⌝ }
+    ensures { λ r. ⌜ r ≡ rowsOf channelFrom 5 32 (drop at (now (image .entry))) ⌝ }
 {
     let mut rows = [Channel {
         number: 0,
@@ -52,7 +52,7 @@ fn put_channel(c: Channel, to: &mut [u8], at: usize) -> usize
 
 pub fn put_channels(channels: [Channel; 32], to: &mut [u8], at: usize) -> usize
     requires { ⌜ at + 160 ≤ length (now to) ⌝ }
-    ensures { λ r. ⌜ Put (now (to .entry)) (now (to .exit)) at r (bytesOf channelBytes channels) × (r ≡ at + 160) ⌝ }
+    ensures { λ r. ⌜ Put (now (to .entry)) (now (to .exit)) at r (rowsBytes channelBytes channels) × (r ≡ at + 160) ⌝ }
 {
     let mut m = at;
     let mut i = 0;

@@ -3,7 +3,7 @@ ghost use mathlib.Core.Path.{_≡_};
 ghost use Prim.Native.Nat.{_+_, _≤_};
 ghost use lib.ListN.{length, drop};
 ghost use Rattle.text.specs.Definition.Text.{Put};
-ghost use Rattle.image.specs.Definition.Image.{bitOf, deviceBytes, deviceOf, bytesOf, rowsOf};
+ghost use Rattle.image.specs.Definition.Image.{bitOf, deviceBytes, deviceFrom, rowsBytes, rowsOf};
 use super::fields::name_at;
 use super::fields::put_run;
 use rows::Device;
@@ -12,7 +12,7 @@ use text::put;
 // A row of 30 bytes.
 fn device_at(image: &[u8], at: usize) -> Device
     requires { ⌜ at + 30 ≤ length (now image) ⌝ }
-    ensures { λ r. ⌜ r ≡ deviceOf (drop at (now (image .entry))) ⌝ }
+    ensures { λ r. ⌜ r ≡ deviceFrom (drop at (now (image .entry))) ⌝ }
 {
     let name = name_at(image, at);
     Device {
@@ -24,7 +24,7 @@ fn device_at(image: &[u8], at: usize) -> Device
 
 pub fn devices_at(image: &[u8], at: usize) -> [Device; 16]
     requires { ⌜ at + 480 ≤ length (now image) ⌝ }
-    ensures { λ r. ⌜ r ≡ rowsOf deviceOf 30 16 (drop at (now (image .entry))) ⌝ }
+    ensures { λ r. ⌜ r ≡ rowsOf deviceFrom 30 16 (drop at (now (image .entry))) ⌝ }
 {
     let mut rows = [Device {
         name: [0u8; 28],
@@ -57,7 +57,7 @@ fn put_device(d: Device, to: &mut [u8], at: usize) -> usize
 
 pub fn put_devices(devices: [Device; 16], to: &mut [u8], at: usize) -> usize
     requires { ⌜ at + 480 ≤ length (now to) ⌝ }
-    ensures { λ r. ⌜ Put (now (to .entry)) (now (to .exit)) at r (bytesOf deviceBytes devices) × (r ≡ at + 480) ⌝ }
+    ensures { λ r. ⌜ Put (now (to .entry)) (now (to .exit)) at r (rowsBytes deviceBytes devices) × (r ≡ at + 480) ⌝ }
 {
     let mut m = at;
     let mut i = 0;

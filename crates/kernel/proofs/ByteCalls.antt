@@ -18,7 +18,7 @@ use Rattle.kernel.specs.Definition.Segments.{mayReach, reachOf, guarded}
 use Rattle.kernel.specs.Definition.Answers.{gives}
 use Rattle.kernel.specs.Definition.Calls.{onRead, onWrite, onStore, onLoad, read, write, store, load}
 use Rattle.kernel.specs.Definition.Step.{completed, result, accepted}
-use Rattle.kernel.specs.Definition.Lend.{lentOn, partOn, lentFrom, partFrom}
+use Rattle.kernel.specs.Definition.Lend.{lentOnGood, partOnGood, lentOn, partOn}
 use Rattle.kernel.specs.declared.Tables.{Tables}
 use Rattle.kernel.specs.declared.Answer.the-variants.{Done, NoChannel, NotOwner, BadRange, Guarded}
 use Rattle.kernel.proofs.Spans.{Open, Reached}
@@ -72,39 +72,39 @@ module _ (t : Tables) (ram bytes : List ℕ) (channel offset : ℕ) where
 -- a buffer lent on
 
 module _ (t : Tables) (channel : ℕ) where
-  pub lent-closed : t .opened ≤ channelAt t channel → Nothing ≡ lentOn t channel
-  unfolding lentOn
+  pub lent-closed : t .opened ≤ channelAt t channel → Nothing ≡ lentOnGood t channel
+  unfolding lentOnGood
   lent-closed h = rw (le-ltb (channelAt t channel) (t .opened) h)
 
-  pub part-closed : (ram : List ℕ) → t .opened ≤ channelAt t channel → [] ≡ partOn t ram channel
-  unfolding partOn partOf
+  pub part-closed : (ram : List ℕ) → t .opened ≤ channelAt t channel → [] ≡ partOnGood t ram channel
+  unfolding partOnGood partOf
   part-closed ram h = rw (← lent-closed h)
 
   module _ (i room start n : ℕ) (o : Open t channel i) (r : room ≡ t .room) (s : start ≡ bufferAt t i) (is : n ≡ sizeAt t i) where
-    pub lent-open : (l : Lent) → l ≡ lentAt (t .chain) room start n → l ≡ lentOn t channel
-    unfolding lentOn
+    pub lent-open : (l : Lent) → l ≡ lentAt (t .chain) room start n → l ≡ lentOnGood t channel
+    unfolding lentOnGood
     lent-open l e = rw (o .here, lt-ltb i (t .opened) (o .among), e, r, s, is)
 
-    pub part-open : (ram part : List ℕ) → part ≡ partOf ram n (lentAt (t .chain) room start n) → part ≡ partOn t ram channel
-    unfolding partOn
+    pub part-open : (ram part : List ℕ) → part ≡ partOf ram n (lentAt (t .chain) room start n) → part ≡ partOnGood t ram channel
+    unfolding partOnGood
     part-open ram part e = rw (← lent-open (lentAt (t .chain) room start n) refl, o .here, ← is, e)
 
   -- the same of any tables and any RAM
 
-  pub lent-refused : (ram : ℕ) → accepted t ram ≡ false → Nothing ≡ lentFrom t ram channel
-  unfolding lentFrom
+  pub lent-refused : (ram : ℕ) → accepted t ram ≡ false → Nothing ≡ lentOn t ram channel
+  unfolding lentOn
   lent-refused ram h = rw h
 
-  pub lent-accepted : (ram : ℕ) → accepted t ram ≡ true → lentOn t channel ≡ lentFrom t ram channel
-  unfolding lentFrom
+  pub lent-accepted : (ram : ℕ) → accepted t ram ≡ true → lentOnGood t channel ≡ lentOn t ram channel
+  unfolding lentOn
   lent-accepted ram h = rw h
 
-  pub part-refused : (ram : List ℕ) → accepted t (length ram) ≡ false → [] ≡ partFrom t ram channel
-  unfolding partFrom
+  pub part-refused : (ram : List ℕ) → accepted t (length ram) ≡ false → [] ≡ partOn t ram channel
+  unfolding partOn
   part-refused ram h = rw h
 
-  pub part-accepted : (ram : List ℕ) → accepted t (length ram) ≡ true → partOn t ram channel ≡ partFrom t ram channel
-  unfolding partOn partFrom
+  pub part-accepted : (ram : List ℕ) → accepted t (length ram) ≡ true → partOnGood t ram channel ≡ partOn t ram channel
+  unfolding partOnGood partOn
   part-accepted ram h = rw h
 
 -- store

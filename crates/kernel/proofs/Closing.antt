@@ -6,11 +6,11 @@ use native.Mathlib.Omega.{arith}
 use borrow.Author.Tests.{le-leb, lt-leb}
 use lib.ListN.{take}
 use Rattle.rows.specs.Definition.Lists.{without}
-use Rattle.rows.specs.Definition.Channels.{noChannel, sumOf}
+use Rattle.rows.specs.Definition.Channels.{zeroChannel, sumOf}
 use Rattle.rows.specs.Definition.Sizes.{chainLength}
 use Rattle.rows.specs.Laws.Sizes.{length-some}
 use Rattle.rows.specs.declared.Channel.{Channel}
-use Rattle.line.specs.Definition.Line.{Chain, closed}
+use Rattle.line.specs.Definition.Line.{Chain, afterClose}
 use Rattle.kernel.specs.Definition.Tables.{channelAt, ramSize, withChannels}
 use Rattle.kernel.specs.Definition.Good.{Good}
 use Rattle.kernel.specs.Definition.Line.{recordAt, sizeAt, shrunk, closing}
@@ -32,7 +32,7 @@ module _ (t : Tables) (line keep held gone : ℕ) (rows : List Channel) (k : kee
         omega (arith, length-some (t .room) line, f .holds),
       )
 
-  pub rows-closed : (i left : ℕ) (after : Tables) → rows ≡ without i (t .channels) noChannel → left ≡ t .opened - 1 → line ≡ sumOf (take left rows)
+  pub rows-closed : (i left : ℕ) (after : Tables) → rows ≡ without i (t .channels) zeroChannel → left ≡ t .opened - 1 → line ≡ sumOf (take left rows)
       → after ≡ shrunk gone (withChannels t (t .opened - 1) rows) → after ≡ closing t i
   unfolding closing
   rows-closed i left after r l s a = rw (a, d, m, k, s, l, r)
@@ -43,7 +43,7 @@ module _ (t : Tables) (i start n opened line room : ℕ) (s : start ≡ recordAt
   pub record-chain : (size : ℕ) → Good t → i < t .opened → size ≡ ramSize t → (start + (16 + n) ≤ line) × Chain (t .chain) room line size
   record-chain size g h e = rw (s, p, l, o, r) (record-within t i g h, good-chain t size g e)
 
-  pub record-closed : (ram after : List ℕ) → after ≡ closed (t .chain) room ram start (16 + n) line → after ≡ ramClosed t ram i
+  pub record-closed : (ram after : List ℕ) → after ≡ afterClose (t .chain) room ram start (16 + n) line → after ≡ ramClosed t ram i
   record-closed ram after a = rw (a, s, p, l, o, r)
 
 -- the channel's row, as the code finds it

@@ -13,9 +13,9 @@ use Rattle.rows.specs.Definition.Devices.{disabledBy}
 use Rattle.rows.specs.Definition.Sizes.{chainLength}
 use Rattle.rows.specs.declared.Device.{Device}
 use Rattle.names.specs.Laws.Runs.{link-right}
-use Rattle.names.specs.Definition.Tests.{linkTest}
+use Rattle.names.specs.Definition.Tests.{linkNameTest}
 use Rattle.names.specs.Definition.Words.{wordOf}
-use Rattle.line.specs.Definition.Line.{Chain, linked}
+use Rattle.line.specs.Definition.Line.{Chain, afterLink}
 use Rattle.kernel.specs.Definition.Tables.{ramSize, withDevices}
 use Rattle.kernel.specs.Definition.Good.{Good}
 use Rattle.kernel.specs.Definition.Line.{totalOf, grown, roomFor}
@@ -65,7 +65,7 @@ module _ (t : Tables) (m room size : ℕ) (a : room ≡ t .room) (b : size ≡ m
       rw (le-ltb _ _ g, twice) (rw (r, e, c))
 
 -- the name, the number of devices, and the room
-module _ (t : Tables) (m : ℕ) (name : List ℕ) (ok : Bool) (n : ok ≡ linkTest name) where
+module _ (t : Tables) (m : ℕ) (name : List ℕ) (ok : Bool) (n : ok ≡ linkNameTest name) where
   pub link-unnamed : not ok ≡ true → onLink t m name ≡ gives BadName t
   unfolding onLink
   link-unnamed h = rw (← n, h)
@@ -100,7 +100,7 @@ module _ (t : Tables) (m : ℕ) (name : List ℕ) (g : Good t) (l : Links t m na
   pub link-chain : (bytes : ℕ) → bytes ≡ ramSize t → (size ≤ room) × Chain (next .chain) room (end + size) bytes
   link-chain bytes h = (omega (arith, l .least), rw (a, b, d, e) (linking-chain t m name g l bytes h))
 
-  pub link-done : (ram after out : List ℕ) → after ≡ linked (next .chain) room size ram end
+  pub link-done : (ram after out : List ℕ) → after ≡ afterLink (next .chain) room size ram end
       → onLink t m name ≡ gives (Done (t .known) (t .room - m)) (linking t m (wordOf name) (length name))
       → result (gives (Done (t .known) (next .room)) next) after out ≡ completed t (onLink t m name) ram (link m name) out
   unfolding completed

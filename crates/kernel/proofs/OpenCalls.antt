@@ -22,18 +22,18 @@ use Rattle.names.specs.declared.UnitNumber.{UnitNumber}
 use Rattle.names.specs.declared.UnitNumber.the-variants.{Given, Absent}
 use Rattle.names.specs.declared.Parts.{Parts}
 use Rattle.names.specs.declared.Parts.the-variants.{Refused, Read}
-use Rattle.line.specs.Definition.Line.{Chain, opened}
+use Rattle.line.specs.Definition.Line.{Chain, afterOpen}
 use Rattle.kernel.specs.Definition.Tables.{ramSize, channelAt, withChannels}
 use Rattle.kernel.specs.Definition.Good.{Good}
 use Rattle.kernel.specs.Definition.Line.{totalOf, grown, roomFor, opening}
-use Rattle.kernel.specs.Definition.Names.{Wanted, wantedBy}
+use Rattle.kernel.specs.Definition.Names.{wantedBy}
 use Rattle.kernel.specs.Definition.Answers.{gives}
 use Rattle.kernel.specs.Definition.Calls.{«open», onOpen, onOpenNamed, onOpenTo}
 use Rattle.kernel.specs.Definition.Step.{Result, completed, result, ramOpened}
 use Rattle.kernel.specs.Laws.Opens.{New, Fits, onOpenRow, opening-held, opening-row, opening-chain}
-use Rattle.kernel.specs.Laws.Wants.{wantedOf, parts-few, meant}
+use Rattle.kernel.specs.Laws.Wants.{parts-few, meant}
 use Rattle.kernel.specs.declared.Tables.{Tables}
-use Rattle.kernel.specs.declared.open.Sought.{Sought}
+use Rattle.kernel.specs.declared.open.Wanted.{Wanted}
 use Rattle.kernel.specs.declared.Answer.the-variants.{Done, NoChannel, Exists, BadName, NoDevice, Driver, Full, NoRoom}
 use Rattle.kernel.specs.declared.Outcome.{Outcome}
 
@@ -140,20 +140,20 @@ module _ (t : Tables) (c : Channel) where
     unfolding onOpenRow
     row-answer = rw (lt-leb _ _ (fits .few), fits .room, e)
 
-    row-ram : (ram : List ℕ) → opened (next .chain) (t .room) ram (totalOf t) (c .number) (c .device) (c .unit) (c .n) ≡ ramOpened t next ram
+    row-ram : (ram : List ℕ) → afterOpen (next .chain) (t .room) ram (totalOf t) (c .number) (c .device) (c .unit) (c .n) ≡ ramOpened t next ram
     row-ram ram = rw (e, opening-row t c g new fits)
 
     pub row-done : (room end : ℕ) (ram after out : List ℕ) → room ≡ t .room → end ≡ totalOf t
-        → after ≡ opened (next .chain) room ram end (c .number) (c .device) (c .unit) (c .n)
+        → after ≡ afterOpen (next .chain) room ram end (c .number) (c .device) (c .unit) (c .n)
         → result (gives (Done (c .device) (c .unit)) next) after out ≡ completed t (onOpenRow t c) ram («open» (c .number) 0 (c .n) []) out
     row-done room end ram after out a b h =
-        let k : opened (next .chain) room ram end (c .number) (c .device) (c .unit) (c .n) ≡ ramOpened t next ram = rw (a, b) (row-ram ram) in
+        let k : afterOpen (next .chain) room ram end (c .number) (c .device) (c .unit) (c .n) ≡ ramOpened t next ram = rw (a, b) (row-ram ram) in
         done t (onOpenRow t c) next (c .device) (c .unit) ram after out (c .number) 0 (c .n) [] row-answer (h ∙ k)
 
 -- the device, and the status of its driver
-module _ (t : Tables) (channel driver n : ℕ) (w : Sought) (known : ℕ) (place : Lookup) (count : known ≡ t .known)
+module _ (t : Tables) (channel driver n : ℕ) (w : Wanted) (known : ℕ) (place : Lookup) (count : known ≡ t .known)
     (f : place ≡ foundAt (deviceIn (take known (t .devices)) (w .name) (w .length)) known) where
-  pub to-none : place ≡ Nowhere → onOpenTo t channel driver n (wantedOf w) ≡ gives NoDevice t
+  pub to-none : place ≡ Nowhere → onOpenTo t channel driver n w ≡ gives NoDevice t
   unfolding onOpenTo
   to-none e =
       let h : t .known ≤ deviceIn (take (t .known) (t .devices)) (w .name) (w .length) = rw count at (found-nowhere _ known (sym f ∙ e)) in
@@ -167,7 +167,7 @@ module _ (t : Tables) (channel driver n : ℕ) (w : Sought) (known : ℕ) (place
         let b : deviceIn (take (t .known) (t .devices)) (w .name) (w .length) < t .known = rw count at (h .1) in
         (a, rw a at b)
 
-    pub to-driver : (driver ≡ 0 → ⊥) → onOpenTo t channel driver n (wantedOf w) ≡ gives (Driver driver) t
+    pub to-driver : (driver ≡ 0 → ⊥) → onOpenTo t channel driver n w ≡ gives (Driver driver) t
     unfolding onOpenTo
     to-driver z = rw (row-is .0, lt-leb _ _ (row-is .1), ne-eqb driver 0 z)
 
@@ -175,7 +175,7 @@ module _ (t : Tables) (channel driver n : ℕ) (w : Sought) (known : ℕ) (place
       fitting : row % 256 ≡ row
       fitting = omega (arith, row-is .1, g .devices .most)
 
-      pub to-row : driver ≡ 0 → onOpenTo t channel driver n (wantedOf w) ≡ onOpenRow t (record { number = channel; device = row % 256; unit = w .unit; n = n })
+      pub to-row : driver ≡ 0 → onOpenTo t channel driver n w ≡ onOpenRow t (record { number = channel; device = row % 256; unit = w .unit; n = n })
       unfolding onOpenTo onOpenRow
       to-row z = rw (fitting, row-is .0, lt-leb _ _ (row-is .1), z)
 
@@ -192,8 +192,8 @@ module _ (t : Tables) (channel driver n : ℕ) (s : List ℕ) (parts : Parts) (f
   unfolding onOpenNamed
   named-none e = rw (parts-refused (reading s) (sym f ∙ e))
 
-  pub named-to : (letters : ℕ) (unit : UnitNumber) (file : ℕ) (w : Sought) → parts ≡ Read letters unit file → wantedOf w ≡ wantedBy t (take letters s) unit
-      → onOpenNamed t channel driver n (reading s) ≡ onOpenTo t channel driver n (wantedOf w)
+  pub named-to : (letters : ℕ) (unit : UnitNumber) (file : ℕ) (w : Wanted) → parts ≡ Read letters unit file → w ≡ wantedBy t (take letters s) unit
+      → onOpenNamed t channel driver n (reading s) ≡ onOpenTo t channel driver n w
   unfolding onOpenNamed
   named-to letters unit file w e q =
       let (r, h, k) = meant t s letters unit file (sym f ∙ e) in

@@ -6,7 +6,7 @@ use Prim.Native.Nat.{ℕ, _-_, _≤_, _<_}
 use native.Mathlib.Omega.{arith}
 use lib.ListN.{length, getD, take, replicate}
 use Rattle.rows.specs.Definition.Classes.{released}
-use Rattle.rows.specs.Definition.Channels.{noChannel, sumOf}
+use Rattle.rows.specs.Definition.Channels.{zeroChannel, sumOf}
 use Rattle.rows.specs.Definition.Devices.{builtIn}
 use Rattle.rows.specs.declared.Channel.{Channel}
 use Rattle.rows.specs.declared.Device.{Device}
@@ -42,13 +42,13 @@ module _ (t : Tables) (held : ℕ) (m : held ≡ t .held) where
         omega (arith, f .holds),
       )
 
-  pub none-left : (channels : List Channel) → channels ≡ replicate 32 noChannel → (after : Tables) → after ≡ shrunk (held - 1) (withChannels t 0 channels)
+  pub none-left : (channels : List Channel) → channels ≡ replicate 32 zeroChannel → (after : Tables) → after ≡ shrunk (held - 1) (withChannels t 0 channels)
       → after ≡ emptying t
   unfolding emptying
   none-left channels e after a = rw (a, e, m)
 
 pub none-behind : (t : Tables) (opened : ℕ) → opened ≡ t .opened → Good t
-    → (opened ≤ 32) × ((i : ℕ) → opened ≤ i → i < 32 → getD (t .channels) i noChannel ≡ noChannel)
+    → (opened ≤ 32) × ((i : ℕ) → opened ≤ i → i < 32 → getD (t .channels) i zeroChannel ≡ zeroChannel)
 none-behind t opened e g = (omega (arith, g .channels .most), λ i a b. g .channels .rest i (omega arith) b)
 
 pub devices-restored : (t : Tables) (devices : List Device) → devices ≡ builtIn → withDevices t (t .cold) 3 devices ≡ restoring t

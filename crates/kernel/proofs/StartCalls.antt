@@ -9,12 +9,12 @@ use lib.Dec.{leb, eqb}
 use lib.ListN.{length, take, set, replicate}
 use lib.Seq.{take-all}
 use Rattle.names.specs.Definition.Words.{wordOf}
-use Rattle.names.specs.Definition.Tests.{defaultTest}
+use Rattle.names.specs.Definition.Tests.{defaultNameTest}
 use Rattle.names.specs.Laws.Runs.{default-right}
 use Rattle.rows.specs.Definition.Lists.{padded}
 use Rattle.rows.specs.Laws.Lists.{and-left}
-use Rattle.rows.specs.Definition.Classes.{fresh}
-use Rattle.rows.specs.Definition.Channels.{noChannel}
+use Rattle.rows.specs.Definition.Classes.{startClasses}
+use Rattle.rows.specs.Definition.Channels.{zeroChannel}
 use Rattle.rows.specs.Definition.Devices.{builtIn}
 use Rattle.rows.specs.Definition.Tests.{listTest}
 use Rattle.rows.specs.Laws.Good.{list-says}
@@ -31,16 +31,16 @@ use Rattle.kernel.specs.declared.Answer.the-variants.{Done, BadName, Bad
 whole : (n : ℕ) (xs : List ℕ) → length xs ≤ n → take n xs ≡ xs
 whole n xs h = take-all n xs h
 
-module _ (t : Tables) (unit : ℕ) (name : List ℕ) (fine : Bool) (e : fine ≡ defaultTest name) where
+module _ (t : Tables) (unit : ℕ) (name : List ℕ) (fine : Bool) (e : fine ≡ defaultNameTest name) where
   pub default-refused : mathlib.Core.Bool.not fine ≡ true → gives BadName t ≡ onDefault t unit name
   unfolding onDefault
-  default-refused n = let f : defaultTest name ≡ false = sym e ∙ not-true fine n in rw f
+  default-refused n = let f : defaultNameTest name ≡ false = sym e ∙ not-true fine n in rw f
 
   pub default-done : mathlib.Core.Bool.not fine ≡ false → (capitals : List ℕ) → capitals ≡ wordOf (take (length name) name)
       → gives (Done 0 0) (withDefault t capitals (length name % 256) unit) ≡ onDefault t unit name
   unfolding onDefault
   default-done n capitals w =
-      let f : defaultTest name ≡ true = sym e ∙ not-false fine n in
+      let f : defaultNameTest name ≡ true = sym e ∙ not-false fine n in
       let z : length name % 256 ≡ length name = omega (arith, default-right name f .1) in
       rw (w, whole (length name) name (omega arith), z, f)
 
@@ -61,7 +61,7 @@ module _ (ram room : ℕ) (list : List ℕ) where
       (g .least, g .most)
 
 pub start-tables : (room : ℕ) (list laid classes : List ℕ) (devices : List Device) → 2 ≤ length list → length list ≤ 32
-    → laid ≡ padded 32 (take 32 list) → classes ≡ fresh (length list) → devices ≡ builtIn
+    → laid ≡ padded 32 (take 32 list) → classes ≡ startClasses (length list) → devices ≡ builtIn
     → _≡_ {A = Tables} (record {
       segments = length list % 256;
       list = laid;
@@ -72,7 +72,7 @@ pub start-tables : (room : ℕ) (list laid classes : List ℕ) (devices : List D
       room = room;
       cold = room;
       opened = 0;
-      channels = replicate 32 noChannel;
+      channels = replicate 32 zeroChannel;
       known = 3;
       devices = devices;
       name = replicate {A = ℕ} 28 0;

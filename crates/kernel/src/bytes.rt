@@ -11,7 +11,7 @@ ghost use Rattle.kernel.specs.Definition.Segments.{mayReach, reachOf, gu
 ghost use Rattle.kernel.specs.Definition.Calls.{onRead, onWrite, onStore, onLoad};
 ghost use Rattle.kernel.specs.Definition.Calls as calls;
 ghost use Rattle.kernel.specs.Definition.Step.{step, completed, result};
-ghost use Rattle.kernel.specs.Definition.Lend.{lentOn, partOn, lentFrom, partFrom};
+ghost use Rattle.kernel.specs.Definition.Lend.{lentOnGood, partOnGood, lentOn, partOn};
 use super::Answer;
 use super::Outcome;
 use super::Tables;
@@ -222,7 +222,7 @@ impl Tables {
 
     // Where the buffer that is lent on starts in the RAM.
     pub fn lent(self, ram: &[u8], channel: u8) -> Lent
-        ensures { λ r. ⌜ r ≡ lentFrom self (length (now (ram .entry))) channel ⌝ }
+        ensures { λ r. ⌜ r ≡ lentOn self (length (now (ram .entry))) channel ⌝ }
     {
         if !self.accepts(ram.len()) {
             return Lent::Nothing;
@@ -232,7 +232,7 @@ impl Tables {
 
     pub fn lent_good(self, channel: u8) -> Lent
         requires { ⌜ Good self ⌝ }
-        ensures { λ r. ⌜ r ≡ lentOn self channel ⌝ }
+        ensures { λ r. ⌜ r ≡ lentOnGood self channel ⌝ }
     {
         let channels = self.channels;
         let opened = wide(self.opened);
@@ -247,7 +247,7 @@ impl Tables {
 
     // The buffer lent on; an empty part where nothing is lent.
     pub fn lend<'a>(self, ram: &'a [u8], channel: u8) -> &'a [u8]
-        ensures { λ r. ⌜ now r ≡ partFrom self (now (ram .entry)) channel ⌝ }
+        ensures { λ r. ⌜ now r ≡ partOn self (now (ram .entry)) channel ⌝ }
     {
         if !self.accepts(ram.len()) {
             return &ram[0..0];
@@ -257,7 +257,7 @@ impl Tables {
 
     pub fn lend_good<'a>(self, ram: &'a [u8], channel: u8) -> &'a [u8]
         requires { ⌜ Good self × (length (now ram) ≡ ramSize self) ⌝ }
-        ensures { λ r. ⌜ now r ≡ partOn self (now (ram .entry)) channel ⌝ }
+        ensures { λ r. ⌜ now r ≡ partOnGood self (now (ram .entry)) channel ⌝ }
     {
         let channels = self.channels;
         let opened = wide(self.opened);

@@ -12,7 +12,6 @@ ghost use Rattle.kernel.specs.Definition.Names.{wantedBy};
 ghost use Rattle.kernel.specs.Definition.Calls.{onOpen, onOpenNamed, onOpenTo};
 ghost use Rattle.kernel.specs.Definition.Calls as calls;
 ghost use Rattle.kernel.specs.Definition.Step.{step, completed, result};
-ghost use Rattle.kernel.specs.Laws.Wants.{wantedOf};
 ghost use Rattle.kernel.specs.Laws.Opens.{New, Fits, onOpenRow};
 use super::Answer;
 use super::Outcome;
@@ -33,7 +32,7 @@ use rows::numbers::wide16;
 use rows::sizes::chain_length;
 
 // A device's name with its length, and a unit.
-struct Sought {
+struct Wanted {
     name: [u8; 28],
     length: u8,
     unit: u8,
@@ -52,19 +51,19 @@ impl Tables {
     }
 
     // The device and the unit that the first `letters` bytes of a string and its unit mean.
-    fn sought(self, name: &[u8], letters: usize, unit: UnitNumber) -> Sought
+    fn wanted(self, name: &[u8], letters: usize, unit: UnitNumber) -> Wanted
         requires { ⌜ (letters ≤ 28) × (letters ≤ length (now name)) ⌝ }
-        ensures { λ r. ⌜ wantedOf r ≡ wantedBy self (take letters (now (name .entry))) unit ⌝ }
+        ensures { λ r. ⌜ r ≡ wantedBy self (take letters (now (name .entry))) unit ⌝ }
     {
         if letters == 0 {
             let name = self.name;
             return match unit {
-                UnitNumber::Given(u) => Sought {
+                UnitNumber::Given(u) => Wanted {
                     name,
                     length: self.length,
                     unit: u,
                 },
-                UnitNumber::Absent => Sought {
+                UnitNumber::Absent => Wanted {
                     name,
                     length: self.length,
                     unit: self.unit,
@@ -74,12 +73,12 @@ impl Tables {
         let name = word(name, letters);
         let length = letters as u8;
         match unit {
-            UnitNumber::Given(u) => Sought {
+            UnitNumber::Given(u) => Wanted {
                 name,
                 length,
                 unit: u,
             },
-            UnitNumber::Absent => Sought {
+            UnitNumber::Absent => Wanted {
                 name,
                 length,
                 unit: 0,
@@ -139,9 +138,9 @@ impl Tables {
     }
 
     // Open, once the string is read.
-    fn open_to(self, ram: &mut [u8], channel: u8, driver: u8, n: u16, w: Sought) -> Outcome
+    fn open_to(self, ram: &mut [u8], channel: u8, driver: u8, n: u16, w: Wanted) -> Outcome
         requires { ⌜ Good self × (length (now ram) ≡ ramSize self) × (channel < 255) × (self .opened ≤ channelAt self channel) ⌝ }
-        ensures { λ r. ⌜ ((out : List ℕ) → result r (now (ram .exit)) out ≡ completed self (onOpenTo self channel driver n (wantedOf w)) (now (ram .entry)) (calls.«open» channel driver n []) out) ⌝ }
+        ensures { λ r. ⌜ ((out : List ℕ) → result r (now (ram .exit)) out ≡ completed self (onOpenTo self channel driver n w) (now (ram .entry)) (calls.«open» channel driver n []) out) ⌝ }
     {
         let devices = self.devices;
         let name = w.name;
@@ -173,7 +172,7 @@ impl Tables {
         else {
             return self.refuse(Answer::BadName);
         };
-        let w = self.sought(name, letters, unit);
+        let w = self.wanted(name, letters, unit);
         self.open_to(ram, channel, driver, n, w)
     }
 

@@ -4,7 +4,7 @@ use mathlib.Core.List.{List, _++_}
 use Prim.Native.Nat.{ℕ, _+_, _-_, _≤_}
 use native.Mathlib.Omega.{arith}
 use lib.ListN.{length, getD, replicate, length-append, length-replicate}
-use Rattle.line.specs.Definition.Line.{placeOf, lineFrom, headingOf, closed, opened, linked, Chain}
+use Rattle.line.specs.Definition.Line.{placeOf, lineFrom, headingOf, afterClose, afterOpen, afterLink, Chain}
 use Rattle.line.proofs.Walks.{bytes-agree, length-bytes}
 use Rattle.line.proofs.Held.{held-put, held-other}
 use Rattle.line.proofs.Makes.{length-heading}
@@ -13,8 +13,8 @@ use Rattle.line.proofs.PointsLinked.{linked-points}
 
 module _ (chain : List ℕ) (room : ℕ) (ram : List ℕ) (start gap total : ℕ) (good : Chain chain room total (length ram)) (fits : start + gap ≤ total) where
   -- what lies before a record that is closed
-  pub closed-before : (p n : ℕ) → p + n ≤ start → lineFrom chain room (closed chain room ram start gap total) p n ≡ lineFrom chain room ram p n
-  unfolding closed
+  pub closed-before : (p n : ℕ) → p + n ≤ start → lineFrom chain room (afterClose chain room ram start gap total) p n ≡ lineFrom chain room ram p n
+  unfolding afterClose
   closed-before p n h =
       let xs = lineFrom chain room ram (start + gap) (total - gap - start) in
       let nx = length-bytes (placeOf chain room) ram (start + gap) (total - gap - start) in
@@ -23,9 +23,9 @@ module _ (chain : List ℕ) (room : ℕ) (ram : List ℕ) (start gap total : ℕ
       held-other chain room total ram good (xs ++ replicate gap 0) start (omega arith) p n (omega arith) (λ i j l r e. omega arith)
 
   -- what lay after it
-  pub closed-after : (p n : ℕ) → start ≤ p → p + n + gap ≤ total → lineFrom chain room (closed chain room ram start gap total) p n ≡ lineFrom chain room ram (p + gap) n
+  pub closed-after : (p n : ℕ) → start ≤ p → p + n + gap ≤ total → lineFrom chain room (afterClose chain room ram start gap total) p n ≡ lineFrom chain room ram (p + gap) n
   closed-after p n h l =
-      bytes-agree (placeOf chain room) (placeOf chain room) (closed chain room ram start gap total) ram p (p + gap) n
+      bytes-agree (placeOf chain room) (placeOf chain room) (afterClose chain room ram start gap total) ram p (p + gap) n
       (λ k r. closed-points chain room ram start gap total good fits .moved (p + k) (omega arith) (omega arith) ∙ ap (λ (q : ℕ). getD ram (placeOf chain room q) 0) (omega arith))
 
 module _ (chain : List ℕ) (room : ℕ) (ram : List ℕ) (total number device unit n : ℕ) (good : Chain chain room (total + 16 + n) (length ram)) where
@@ -39,22 +39,22 @@ module _ (chain : List ℕ) (room : ℕ) (ram : List ℕ) (total number device u
       )
 
   -- what lies before a record that is opened
-  pub opened-before : (p k : ℕ) → p + k ≤ total → lineFrom chain room (opened chain room ram total number device unit n) p k ≡ lineFrom chain room ram p k
-  unfolding opened
+  pub opened-before : (p k : ℕ) → p + k ≤ total → lineFrom chain room (afterOpen chain room ram total number device unit n) p k ≡ lineFrom chain room ram p k
+  unfolding afterOpen
   opened-before p k h =
       let nx = size in
       held-other chain room (total + 16 + n) ram good (headingOf (16 + n) number device unit ++ replicate n 0) total (omega arith) p k (omega arith) (λ i j l r e. omega arith)
 
   -- and the record
-  pub opened-record : lineFrom chain room (opened chain room ram total number device unit n) total (16 + n) ≡ headingOf (16 + n) number device unit ++ replicate n 0
-  unfolding opened
+  pub opened-record : lineFrom chain room (afterOpen chain room ram total number device unit n) total (16 + n) ≡ headingOf (16 + n) number device unit ++ replicate n 0
+  unfolding afterOpen
   opened-record =
       let nx = size in
       rw nx at (held-put chain room (total + 16 + n) ram good (headingOf (16 + n) number device unit ++ replicate n 0) total (omega arith))
 
 -- the line over a link
 pub linked-line : (chain : List ℕ) (room m : ℕ) (ram : List ℕ) (total : ℕ) → Chain chain room (total + m) (length ram) → m ≤ room
-    → (p n : ℕ) → p + n ≤ total → lineFrom chain (room - m) (linked chain room m ram total) p n ≡ lineFrom chain room ram p n
+    → (p n : ℕ) → p + n ≤ total → lineFrom chain (room - m) (afterLink chain room m ram total) p n ≡ lineFrom chain room ram p n
 linked-line chain room m ram total good fits p n h =
-    bytes-agree (placeOf chain (room - m)) (placeOf chain room) (linked chain room m ram total) ram p p n
+    bytes-agree (placeOf chain (room - m)) (placeOf chain room) (afterLink chain room m ram total) ram p p n
     (λ k l. linked-points chain room m ram total good fits .moved (p + k) (omega arith))

@@ -4,7 +4,7 @@ use mathlib.Core.List.{List, _++_}
 use Prim.Native.Nat.{ℕ, _+_, _-_, _≤_}
 use native.Mathlib.Omega.{arith}
 use lib.ListN.{length, replicate}
-use Rattle.line.specs.Definition.Line.{placeOf, lineFrom, putLine, headingOf, opened, closed, linked}
+use Rattle.line.specs.Definition.Line.{placeOf, lineFrom, putLine, headingOf, afterOpen, afterClose, afterLink}
 use Rattle.line.proofs.Walks.{length-put, length-bytes, put-append}
 use Rattle.line.proofs.Held.{put-lower}
 
@@ -12,8 +12,8 @@ use Rattle.line.proofs.Held.{put-lower}
 pub closed-of : (chain : List ℕ) (room : ℕ) (ram₀ ram₁ ram₂ : List ℕ) (start gap total : ℕ) → start + gap ≤ total
     → ram₁ ≡ putLine chain room ram₀ start (lineFrom chain room ram₀ (start + gap) (total - gap - start))
     → ram₂ ≡ putLine chain room ram₁ (total - gap) (replicate (total - (total - gap)) 0)
-    → ram₂ ≡ closed chain room ram₀ start gap total
-unfolding closed
+    → ram₂ ≡ afterClose chain room ram₀ start gap total
+unfolding afterClose
 closed-of chain room ram₀ ram₁ ram₂ start gap total h e₁ e₂ =
     let xs = lineFrom chain room ram₀ (start + gap) (total - gap - start) in
     let n : total - (total - gap) ≡ gap = omega arith in
@@ -24,8 +24,8 @@ closed-of chain room ram₀ ram₁ ram₂ start gap total h e₁ e₂ =
 pub linked-of : (chain : List ℕ) (room m : ℕ) (ram₀ ram₁ ram₂ : List ℕ) (total : ℕ) → m ≤ room
     → ram₁ ≡ putLine chain room ram₀ m (lineFrom chain room ram₀ 0 total)
     → ram₂ ≡ putLine chain room ram₁ 0 (replicate (m - 0) 0)
-    → ram₂ ≡ linked chain room m ram₀ total
-unfolding linked
+    → ram₂ ≡ afterLink chain room m ram₀ total
+unfolding afterLink
 linked-of chain room m ram₀ ram₁ ram₂ total h e₁ e₂ =
     let a : m - 0 ≡ m = omega arith in
     let xs = lineFrom chain room ram₀ 0 total in
@@ -39,24 +39,24 @@ length-heading l channel device unit = refl
 pub opened-of : (chain : List ℕ) (room : ℕ) (ram₀ ram₁ ram₂ : List ℕ) (total number device unit n : ℕ)
     → ram₁ ≡ putLine chain room ram₀ total (headingOf (16 + n) number device unit)
     → ram₂ ≡ putLine chain room ram₁ (total + 16) (replicate (total + 16 + n - (total + 16)) 0)
-    → ram₂ ≡ opened chain room ram₀ total number device unit n
-unfolding opened headingOf
+    → ram₂ ≡ afterOpen chain room ram₀ total number device unit n
+unfolding afterOpen headingOf
 opened-of chain room ram₀ ram₁ ram₂ total number device unit n e₁ e₂ =
     let k : total + 16 + n - (total + 16) ≡ n = omega arith in
     e₂ ∙ rw (e₁, k) (sym (put-append (placeOf chain room) (headingOf (16 + n) number device unit) (replicate n 0) ram₀ total))
 
 -- no RAM changes its size
 
-pub length-closed : (chain : List ℕ) (room : ℕ) (ram : List ℕ) (start gap total : ℕ) → length (closed chain room ram start gap total) ≡ length ram
-unfolding closed
+pub length-closed : (chain : List ℕ) (room : ℕ) (ram : List ℕ) (start gap total : ℕ) → length (afterClose chain room ram start gap total) ≡ length ram
+unfolding afterClose
 length-closed chain room ram start gap total = length-put (placeOf chain room) (lineFrom chain room ram (start + gap) (total - gap - start) ++ replicate gap 0) ram start
 
-pub length-opened : (chain : List ℕ) (room : ℕ) (ram : List ℕ) (total number device unit n : ℕ) → length (opened chain room ram total number device unit n) ≡ length ram
-unfolding opened
+pub length-opened : (chain : List ℕ) (room : ℕ) (ram : List ℕ) (total number device unit n : ℕ) → length (afterOpen chain room ram total number device unit n) ≡ length ram
+unfolding afterOpen
 length-opened chain room ram total number device unit n = length-put (placeOf chain room) (headingOf (16 + n) number device unit ++ replicate n 0) ram total
 
-pub length-linked : (chain : List ℕ) (room m : ℕ) (ram : List ℕ) (total : ℕ) → length (linked chain room m ram total) ≡ length ram
-unfolding linked
+pub length-linked : (chain : List ℕ) (room m : ℕ) (ram : List ℕ) (total : ℕ) → length (afterLink chain room m ram total) ≡ length ram
+unfolding afterLink
 length-linked chain room m ram total =
     let moved = lineFrom chain room ram 0 total in
     length-put (placeOf chain room) (replicate m 0) (putLine chain (room - m) ram 0 moved) 0 ∙ length-put (placeOf chain (room - m)) moved ram 0

@@ -5,7 +5,7 @@ use Prim.Native.Nat.{ℕ, _+_, _-_, _<_, _≤_, _%_}
 use native.Mathlib.Nat.{add-zero, zero-add}
 use native.Mathlib.Omega.{arith}
 use Rattle.line.specs.Definition.Ram.{bytesFrom, putFrom}
-use Rattle.line.specs.Laws.Runs.{rise, Ahead, fall, reachOf}
+use Rattle.line.specs.Laws.Runs.{rise, Ahead, fall, runUpTo}
 use Rattle.line.specs.Definition.Line.{placeOf, lineFrom, putLine, Chain}
 use Rattle.line.proofs.Walks.{length-bytes, bytes-same, put-same}
 use Rattle.line.proofs.Loops.{move-next, copy-back}
@@ -89,8 +89,8 @@ pub record Down (chain : List ℕ) (room m total size p d s n : ℕ) : Type 0 wh
   pub on : p ≤ total
   pub from : s ≡ placeOf chain room (p - 1)
   pub to : d ≡ placeOf chain room (p - 1 + m)
-  pub here : n ≤ reachOf room (p - 1)
-  pub there : n ≤ reachOf room (p - 1 + m)
+  pub here : n ≤ runUpTo room (p - 1)
+  pub there : n ≤ runUpTo room (p - 1 + m)
   pub fits : n ≤ p
 
 module _ {chain : List ℕ} {room m total size p d s n : ℕ} (run : Down chain room m total size p d s n) where

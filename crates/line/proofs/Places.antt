@@ -8,7 +8,7 @@ use native.Mathlib.Omega.{arith}
 use lib.ListN.{getD}
 use borrow.Author.Tests.{lt-ltb, le-ltb}
 use Rattle.line.specs.Definition.Line.{chainIndexOf, offsetOf, placeOf, Chain}
-use Rattle.line.specs.Laws.Runs.{reachOf}
+use Rattle.line.specs.Laws.Runs.{runUpTo}
 
 -- the two cases of a position: in the room of the chain's first segment, or past it
 
@@ -37,12 +37,12 @@ pub place-high : (chain : List ℕ) (room p : ℕ) → room ≤ p
 unfolding placeOf
 place-high chain room p h = rw (link-high room p h, offset-high room p h)
 
-pub reach-low : (room p : ℕ) → p < room → reachOf room p ≡ p + 1
-unfolding reachOf
+pub reach-low : (room p : ℕ) → p < room → runUpTo room p ≡ p + 1
+unfolding runUpTo
 reach-low room p h = simp (lt-ltb p room h)
 
-pub reach-high : (room p : ℕ) → room ≤ p → reachOf room p ≡ (p - room) % 16384 + 1
-unfolding reachOf
+pub reach-high : (room p : ℕ) → room ≤ p → runUpTo room p ≡ (p - room) % 16384 + 1
+unfolding runUpTo
 reach-high room p h = simp (le-ltb p room h)
 
 -- a position's offset is within its segment
@@ -57,7 +57,7 @@ pub place-offset : (chain : List ℕ) (room p : ℕ) → room ≤ 16384 → plac
 unfolding placeOf
 place-offset chain room p small = omega (arith, offset-lt room p small)
 
-pub reach-some : (room p : ℕ) → 0 < reachOf room p
+pub reach-some : (room p : ℕ) → 0 < runUpTo room p
 reach-some room p =
     by-cases (decLt p room)
     (λ l. omega (arith, reach-low room p l))
@@ -152,7 +152,7 @@ place-fall chain room p i small h =
     (omega (arith, place-high chain room p g), omega (arith, place-high chain room p g, rw same at (place-high chain room (p + i) m))))
 
 -- from a position back, up to the head of its segment
-pub place-rise : (chain : List ℕ) (room p i : ℕ) → room ≤ 16384 → i < reachOf room p → placeOf chain room p + i ≡ placeOf chain room (p - i)
+pub place-rise : (chain : List ℕ) (room p i : ℕ) → room ≤ 16384 → i < runUpTo room p → placeOf chain room p + i ≡ placeOf chain room (p - i)
 place-rise chain room p i small h =
     by-cases (decLt p room)
     (λ l.

@@ -1,4 +1,4 @@
--- `closed` is the one RAM that `Closed` says byte by byte.
+-- `afterClose` is the one RAM that `Closed` says byte by byte.
 use mathlib.Core.Path.{_≡_, sym, ap, _∙_}
 use mathlib.Core.List.{List, _++_}
 use mathlib.Core.Logic.{by-cases}
@@ -6,15 +6,15 @@ use Prim.Native.Nat.{ℕ, _+_, _-_, _<_, _≤_}
 use native.Mathlib.Omega.{arith}
 use native.Mathlib.Decide.{decLt}
 use lib.ListN.{length, replicate, length-replicate, length-append, List·getD-append}
-use Rattle.line.specs.Definition.Line.{placeOf, lineFrom, closed, Chain}
+use Rattle.line.specs.Definition.Line.{placeOf, lineFrom, afterClose, Chain}
 use Rattle.line.specs.Laws.Points.{Closed}
 use Rattle.line.proofs.Walks.{length-bytes, bytes-at, length-put, put-elsewhere}
 use Rattle.line.proofs.Held.{held-at}
 use Rattle.line.proofs.Points.{one-ram, zero-after}
 
 pub closed-points : (chain : List ℕ) (room : ℕ) (ram : List ℕ) (start gap total : ℕ) → Chain chain room total (length ram) → start + gap ≤ total
-    → Closed chain room ram start gap total (closed chain room ram start gap total)
-unfolding closed
+    → Closed chain room ram start gap total (afterClose chain room ram start gap total)
+unfolding afterClose
 closed-points chain room ram start gap total good fits =
     let walk = placeOf chain room in
     let xs = lineFrom chain room ram (start + gap) (total - gap - start) in

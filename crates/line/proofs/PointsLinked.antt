@@ -1,4 +1,4 @@
--- `linked` is the one RAM that `Linked` says byte by byte.
+-- `afterLink` is the one RAM that `Linked` says byte by byte.
 use mathlib.Core.Path.{_≡_, sym, ap, _∙_}
 use mathlib.Core.List.{List}
 use mathlib.Core.Logic.{by-cases}
@@ -7,7 +7,7 @@ use native.Mathlib.Nat.{zero-add}
 use native.Mathlib.Omega.{arith}
 use native.Mathlib.Decide.{decLt}
 use lib.ListN.{length, getD, replicate, length-replicate, getD-replicate}
-use Rattle.line.specs.Definition.Line.{placeOf, lineFrom, putLine, linked, Chain}
+use Rattle.line.specs.Definition.Line.{placeOf, lineFrom, putLine, afterLink, Chain}
 use Rattle.line.specs.Laws.Points.{Linked}
 use Rattle.line.proofs.Walks.{length-bytes, bytes-at, length-put, put-elsewhere}
 use Rattle.line.proofs.Places.{place-low, place-apart, chain-less, place-shift}
@@ -19,8 +19,8 @@ lost : (chain : List ℕ) (room o : ℕ) → o < room → getD chain 0 0 * 16384
 lost chain room o h = omega (arith, place-low chain room (room - 1 - o) (omega arith))
 
 pub linked-points : (chain : List ℕ) (room m : ℕ) (ram : List ℕ) (total : ℕ) → Chain chain room (total + m) (length ram) → m ≤ room
-    → Linked chain room m ram total (linked chain room m ram total)
-unfolding linked
+    → Linked chain room m ram total (afterLink chain room m ram total)
+unfolding afterLink
 linked-points chain room m ram total good fits =
     let walk = placeOf chain room in
     let xs = lineFrom chain room ram 0 total in

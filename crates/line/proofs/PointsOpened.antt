@@ -1,4 +1,4 @@
--- `opened` is the one RAM that `Opened` says byte by byte.
+-- `afterOpen` is the one RAM that `Opened` says byte by byte.
 use mathlib.Core.Path.{_≡_, sym, _∙_}
 use mathlib.Core.List.{List, _++_}
 use mathlib.Core.Logic.{by-cases}
@@ -6,7 +6,7 @@ use Prim.Native.Nat.{ℕ, _+_, _-_}
 use native.Mathlib.Omega.{arith}
 use native.Mathlib.Decide.{decLt}
 use lib.ListN.{length, replicate, length-replicate, length-append, List·getD-append}
-use Rattle.line.specs.Definition.Line.{placeOf, headingOf, opened, Chain}
+use Rattle.line.specs.Definition.Line.{placeOf, headingOf, afterOpen, Chain}
 use Rattle.line.specs.Laws.Points.{Opened}
 use Rattle.line.proofs.Walks.{length-put, put-elsewhere}
 use Rattle.line.proofs.Held.{held-at}
@@ -14,8 +14,8 @@ use Rattle.line.proofs.Makes.{length-heading}
 use Rattle.line.proofs.Points.{one-ram, zero-after}
 
 pub opened-points : (chain : List ℕ) (room : ℕ) (ram : List ℕ) (total number device unit n : ℕ) → Chain chain room (total + 16 + n) (length ram)
-    → Opened chain room ram total number device unit n (opened chain room ram total number device unit n)
-unfolding opened
+    → Opened chain room ram total number device unit n (afterOpen chain room ram total number device unit n)
+unfolding afterOpen
 opened-points chain room ram total number device unit n good =
     let walk = placeOf chain room in
     let xs = headingOf (16 + n) number device unit in

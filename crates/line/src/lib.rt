@@ -3,8 +3,8 @@ ghost use mathlib.Core.Path.{_≡_};
 ghost use Prim.Native.Nat.{_+_, _-_, _*_, _<_, _≤_};
 ghost use lib.ListN.{length, replicate};
 ghost use Rattle.line.specs.Definition.Ram.{taken};
-ghost use Rattle.line.specs.Definition.Line.{placeOf, lineFrom, putLine, headingOf, closed, linked, opened, Chain};
-ghost use Rattle.line.specs.Laws.Runs.{reachOf};
+ghost use Rattle.line.specs.Definition.Line.{placeOf, lineFrom, putLine, headingOf, afterClose, afterLink, afterOpen, Chain};
+ghost use Rattle.line.specs.Laws.Runs.{runUpTo};
 ghost use Rattle.line.specs.Definition.Lent.{lentAt, partOf};
 
 pub mod ram;
@@ -43,7 +43,7 @@ pub fn place(chain: &[u8; 32], room: usize, p: usize) -> usize
 
 // How many positions up to p lie in its segment.
 fn reach(room: usize, p: usize) -> usize
-    ensures { λ r. ⌜ r ≡ reachOf room p ⌝ }
+    ensures { λ r. ⌜ r ≡ runUpTo room p ⌝ }
 {
     if p < room {
         p + 1
@@ -171,7 +171,7 @@ pub fn open_record(
     n: u16,
 )
     requires { ⌜ Chain (now chain) room (total + 16 + n) (length (now ram)) ⌝ }
-    ensures { λ _. ⌜ now (ram .exit) ≡ opened (now (chain .entry)) room (now (ram .entry)) total number device unit n ⌝ }
+    ensures { λ _. ⌜ now (ram .exit) ≡ afterOpen (now (chain .entry)) room (now (ram .entry)) total number device unit n ⌝ }
 {
     let head = heading(n, number, device, unit);
     put(ram, chain, room, total, &head);
@@ -189,7 +189,7 @@ pub fn close_line(
     total: usize,
 )
     requires { ⌜ (start + gap ≤ total) × Chain (now chain) room total (length (now ram)) ⌝ }
-    ensures { λ _. ⌜ now (ram .exit) ≡ closed (now (chain .entry)) room (now (ram .entry)) start gap total ⌝ }
+    ensures { λ _. ⌜ now (ram .exit) ≡ afterClose (now (chain .entry)) room (now (ram .entry)) start gap total ⌝ }
 {
     move_up(ram, chain, room, start, gap, total);
     clear(ram, chain, room, total - gap, total);
@@ -198,7 +198,7 @@ pub fn close_line(
 // The room falls by m under a line of total bytes.
 pub fn link_line(ram: &mut [u8], chain: &[u8; 32], room: usize, m: usize, total: usize)
     requires { ⌜ (m ≤ room) × Chain (now chain) room (total + m) (length (now ram)) ⌝ }
-    ensures { λ _. ⌜ now (ram .exit) ≡ linked (now (chain .entry)) room m (now (ram .entry)) total ⌝ }
+    ensures { λ _. ⌜ now (ram .exit) ≡ afterLink (now (chain .entry)) room m (now (ram .entry)) total ⌝ }
 {
     move_down(ram, chain, room, m, total);
     clear(ram, chain, room, 0, m);

@@ -4,8 +4,8 @@ ghost use Prim.Native.Nat.{_+_, _*_, _-_, _≤_, _<_, min};
 ghost use lib.ListN.{take};
 ghost use Rattle.names.specs.Definition.Grammar.{All, Digit, value};
 ghost use Rattle.names.specs.Definition.Words.{upper, wordOf};
-ghost use Rattle.names.specs.Definition.Tests.{ofKind, runOf, fileTest, nameTest, linkTest, defaultTest};
-ghost use Rattle.names.specs.Definition.Read.{capped, numberOf, withoutColon, reading};
+ghost use Rattle.names.specs.Definition.Tests.{ofKind, runOf, fileTest, lettersTest, linkNameTest, defaultNameTest};
+ghost use Rattle.names.specs.Definition.Read.{capped, cappedNumber, withoutColon, reading};
 ghost use Rattle.names.specs.Definition.Parts.{partsOf};
 ghost use Rattle.names.specs.Laws.Steps.{OfDigits, OfRest, OfHead};
 
@@ -99,7 +99,7 @@ fn value_of(digits: &[u8]) -> usize
 }
 
 fn number(digits: &[u8]) -> usize
-    ensures { λ r. ⌜ r ≡ numberOf (now (digits .entry)) ⌝ }
+    ensures { λ r. ⌜ r ≡ cappedNumber (now (digits .entry)) ⌝ }
 {
     if (1 <= digits.len()) & (run(digits, Kind::Digit) == digits.len()) {
         return value_of(digits);
@@ -216,19 +216,19 @@ pub fn word(s: &[u8], count: usize) -> [u8; 28]
 }
 
 fn is_name(s: &[u8], kind: Kind) -> bool
-    ensures { λ r. ⌜ r ≡ nameTest kind (now (s .entry)) ⌝ }
+    ensures { λ r. ⌜ r ≡ lettersTest kind (now (s .entry)) ⌝ }
 {
     (1 <= s.len()) & (s.len() <= 28) & (run(s, kind) == s.len())
 }
 
 pub fn link_name(s: &[u8]) -> bool
-    ensures { λ r. ⌜ r ≡ linkTest (now (s .entry)) ⌝ }
+    ensures { λ r. ⌜ r ≡ linkNameTest (now (s .entry)) ⌝ }
 {
     is_name(s, Kind::Capital)
 }
 
 pub fn default_name(s: &[u8]) -> bool
-    ensures { λ r. ⌜ r ≡ defaultTest (now (s .entry)) ⌝ }
+    ensures { λ r. ⌜ r ≡ defaultNameTest (now (s .entry)) ⌝ }
 {
     is_name(s, Kind::Letter)
 }

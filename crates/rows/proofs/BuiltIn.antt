@@ -10,7 +10,7 @@ use lib.Dec.{leb, ltb}
 use lib.ListN.{length, getD}
 use Rattle.rows.specs.Definition.Lists.{padded, below, upTo}
 use Rattle.rows.specs.Laws.Lists.{below-same, and-left, and-right}
-use Rattle.rows.specs.Definition.Devices.{noDevice, sameName, VIDEO, NET, KEYBOARD}
+use Rattle.rows.specs.Definition.Devices.{beyondDevices, sameName, VIDEO, NET, KEYBOARD}
 use Rattle.rows.specs.Definition.Tests.{letterRow, nameTest, aliasRow, agree, deviceRow, namedRow, builtTest}
 use Rattle.rows.specs.Laws.Good.{same-says}
 use Rattle.rows.specs.declared.Device.{Device}
@@ -21,7 +21,7 @@ someName name n = leb 1 n && nameTest name n
 -- a row of devices, the name asked for only behind the first three
 abbrev pub linkedRow : List Device → ℕ → ℕ → Bool
 linkedRow ds known i =
-    (ltb i 3 || someName (getD ds i noDevice .name) (getD ds i noDevice .length)) && agree (getD ds i noDevice .enabled) (upTo known (aliasRow ds i))
+    (ltb i 3 || someName (getD ds i beyondDevices .name) (getD ds i beyondDevices .length)) && agree (getD ds i beyondDevices .enabled) (upTo known (aliasRow ds i))
 
 same-tests : (n : ℕ) (p q : ℕ → Bool) → ((i : ℕ) → i < n → p i ≡ q i) → upTo n p ≡ upTo n q
 unfolding upTo
@@ -33,8 +33,8 @@ name-same a la b lb e =
     rw (s .long, same-tests 28 (letterRow a lb) (letterRow b lb) (λ k h. rw (s .bytes k h)))
 
 row-named : (ds : List Device) (i : ℕ) (s : List ℕ) → namedRow ds i s ≡ true → someName (padded 28 s) (length s) ≡ true
-    → someName (getD ds i noDevice .name) (getD ds i noDevice .length) ≡ true
-row-named ds i s e n = name-same (getD ds i noDevice .name) (getD ds i noDevice .length) (padded 28 s) (length s) e ∙ n
+    → someName (getD ds i beyondDevices .name) (getD ds i beyondDevices .length) ≡ true
+row-named ds i s e n = name-same (getD ds i beyondDevices .name) (getD ds i beyondDevices .length) (padded 28 s) (length s) e ∙ n
 
 video : someName (padded 28 VIDEO) (length VIDEO) ≡ true
 unfolding upTo
@@ -48,7 +48,7 @@ keyboard : someName (padded 28 KEYBOARD) (length KEYBOARD) ≡ true
 unfolding upTo
 keyboard = refl
 
-built-named : (ds : List Device) → builtTest ds ≡ true → (i : ℕ) → i < 3 → someName (getD ds i noDevice .name) (getD ds i noDevice .length) ≡ true
+built-named : (ds : List Device) → builtTest ds ≡ true → (i : ℕ) → i < 3 → someName (getD ds i beyondDevices .name) (getD ds i beyondDevices .length) ≡ true
 built-named ds t zero h = row-named ds 0 VIDEO (and-left _ _ (and-left _ _ t)) video
 built-named ds t (suc zero) h = row-named ds 1 NET (and-right (namedRow ds 0 VIDEO) _ (and-left _ _ t)) net
 built-named ds t (suc (suc zero)) h = row-named ds 2 KEYBOARD (and-right (namedRow ds 0 VIDEO && namedRow ds 1 NET) _ t) keyboard

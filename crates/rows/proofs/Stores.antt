@@ -12,8 +12,8 @@ use lib.ListN.{length, getD, take, set, replicate, getD-replicate, length-set, l
 use lib.Seq.{getD-set-same, getD-set-other, getD-take, ext-getD, getD-append-add}
 use Rattle.rows.specs.Definition.Lists.{at, padded, tally, below, upTo}
 use Rattle.rows.specs.Laws.Lists.{all-more, and-yes}
-use Rattle.rows.specs.Definition.Classes.{FREE, SYSTEM, fresh}
-use Rattle.rows.specs.Definition.Channels.{noChannel}
+use Rattle.rows.specs.Definition.Classes.{FREE, SYSTEM, startClasses}
+use Rattle.rows.specs.Definition.Channels.{zeroChannel}
 use Rattle.rows.specs.Definition.Tests.{differRow}
 use Rattle.rows.specs.declared.Channel.{Channel}
 use Rattle.rows.specs.Laws.Counts.{tally-more, tally-same}
@@ -167,15 +167,15 @@ module _ (i : ℕ) (rows : List ℕ) (m : Freed i rows) where
   }
 
 -- and the last row is system
-pub freed-end : (n : ℕ) (rows : List ℕ) → 2 ≤ n → n ≤ 32 → Freed (n - 1) rows → set rows (n - 1) SYSTEM ≡ fresh n
+pub freed-end : (n : ℕ) (rows : List ℕ) → 2 ≤ n → n ≤ 32 → Freed (n - 1) rows → set rows (n - 1) SYSTEM ≡ startClasses n
 freed-end n rows p q m =
-    ext-getD 0 (set rows (n - 1) SYSTEM) (fresh n) (length-set rows (n - 1) SYSTEM ∙ m .long ∙ sym (fresh-length n p q))
+    ext-getD 0 (set rows (n - 1) SYSTEM) (startClasses n) (length-set rows (n - 1) SYSTEM ∙ m .long ∙ sym (fresh-length n p q))
     (λ j h. elim (ℕ-discrete j (n - 1)) [
       | yes e ↦ rw e (getD-set-same rows (n - 1) SYSTEM 0 (omega (arith, m .long)) ∙ sym (fresh-last n p q (n - 1) refl))
       | no e ↦ getD-set-other rows (n - 1) j SYSTEM 0 e ∙ other j e
     ])
   where
-    other : (j : ℕ) → (j ≡ n - 1 → ⊥) → at rows j ≡ at (fresh n) j
+    other : (j : ℕ) → (j ≡ n - 1 → ⊥) → at rows j ≡ at (startClasses n) j
     other zero e = m .page
     other (suc j) e = elim (decLt (suc j) n) [
       | yes g ↦ m .free (suc j) (omega arith) (omega arith) ∙ sym (fresh-free n p q (suc j) (omega arith) (omega arith))
@@ -215,7 +215,7 @@ module _ {A : Type 0} (z : A) (n : ℕ) where
 -- the numbers that the first i channels have
 pub record Seen (cs : List Channel) (i : ℕ) (seen : List Bool) : Type 0 where
   pub long : length seen ≡ 256
-  pub each : (x : ℕ) → x < 256 → getD seen x false ≡ not (below i (λ j. not (eqb (getD cs j noChannel .number) x)))
+  pub each : (x : ℕ) → x < 256 → getD seen x false ≡ not (below i (λ j. not (eqb (getD cs j zeroChannel .number) x)))
 
 not-not : (b : Bool) → not (not b) ≡ b
 not-not true = refl
@@ -225,27 +225,27 @@ module _ (cs : List Channel) where
   pub seen-none : Seen cs 0 (replicate 256 false)
   seen-none = record { long = refl; each = λ x h. getD-replicate 256 x false false h }
 
-  module _ (i k : ℕ) (seen : List Bool) (e : k ≡ getD cs i noChannel .number) (h : k < 256) (m : Seen cs i seen) where
+  module _ (i k : ℕ) (seen : List Bool) (e : k ≡ getD cs i zeroChannel .number) (h : k < 256) (m : Seen cs i seen) where
     -- the number of row i is new
     pub unseen : not (getD seen k false) ≡ upTo i (differRow cs i)
     unfolding upTo
     unseen =
-        let others : ℕ → Bool = λ x. below i (λ j. not (eqb (getD cs j noChannel .number) x)) in
+        let others : ℕ → Bool = λ x. below i (λ j. not (eqb (getD cs j zeroChannel .number) x)) in
         ap not (m .each k h) ∙ not-not (others k) ∙ ap others e
 
     pub seen-more : Seen cs (i + 1) (set seen k true)
     seen-more = record {
       long = length-set seen k true ∙ m .long;
       each = λ x l.
-          let p : ℕ → Bool = λ j. not (eqb (getD cs j noChannel .number) x) in
+          let p : ℕ → Bool = λ j. not (eqb (getD cs j zeroChannel .number) x) in
           let next : below i p && p i ≡ below (i + 1) p = all-more p i (below i p) refl in
           elim (ℕ-discrete x k) [
             | yes q ↦
-                let hit : p i ≡ false = rw (eq-eqb (getD cs i noChannel .number) x (sym e ∙ sym q)) in
+                let hit : p i ≡ false = rw (eq-eqb (getD cs i zeroChannel .number) x (sym e ∙ sym q)) in
                 let all : below (i + 1) p ≡ false = sym next ∙ ap (λ (b : Bool). below i p && b) hit ∙ and-false (below i p) in
                 ap (λ (y : ℕ). getD (set seen k true) y false) q ∙ getD-set-same seen k true false (omega (arith, m .long)) ∙ ap not (sym all)
             | no q ↦
-                let miss : p i ≡ true = rw (ne-eqb (getD cs i noChannel .number) x (λ f. q (sym f ∙ sym e))) in
+                let miss : p i ≡ true = rw (ne-eqb (getD cs i zeroChannel .number) x (λ f. q (sym f ∙ sym e))) in
                 getD-set-other seen k x true false q ∙ m .each x l ∙ ap not (and-yes (below i p) (p i) miss ∙ next)
           ];
     }

@@ -3,7 +3,7 @@ ghost use mathlib.Core.Path.{_≡_};
 ghost use Prim.Native.Nat.{ℕ, _≤_, _<_};
 ghost use lib.ListN.{take, getD, replicate};
 ghost use Rattle.rows.specs.Definition.Lists.{without, upTo};
-ghost use Rattle.rows.specs.Definition.Channels.{noChannel, sumOf, rowIn, foundAt};
+ghost use Rattle.rows.specs.Definition.Channels.{zeroChannel, sumOf, rowIn, foundAt};
 ghost use Rattle.rows.specs.Definition.Tests.{restChannel, channelRow, channelTest};
 use super::Channel;
 use super::Lookup;
@@ -44,7 +44,7 @@ pub fn channel_row(channels: [Channel; 32], opened: usize, ch: u8) -> Lookup
 // The rows without the one at `i`, the later ones moved up, and an empty row at the end.
 pub fn without_row(channels: [Channel; 32], i: usize) -> [Channel; 32]
     requires { ⌜ i < 32 ⌝ }
-    ensures { λ r. ⌜ r ≡ without i channels noChannel ⌝ }
+    ensures { λ r. ⌜ r ≡ without i channels zeroChannel ⌝ }
 {
     let mut rows = channels;
     let mut j = i;
@@ -64,8 +64,8 @@ pub fn without_row(channels: [Channel; 32], i: usize) -> [Channel; 32]
 
 // The rows with the first `opened` empty, those behind them being empty already.
 pub fn emptied(channels: [Channel; 32], opened: usize) -> [Channel; 32]
-    requires { ⌜ (opened ≤ 32) × ((i : ℕ) → opened ≤ i → i < 32 → getD channels i noChannel ≡ noChannel) ⌝ }
-    ensures { λ r. ⌜ r ≡ replicate 32 noChannel ⌝ }
+    requires { ⌜ (opened ≤ 32) × ((i : ℕ) → opened ≤ i → i < 32 → getD channels i zeroChannel ≡ zeroChannel) ⌝ }
+    ensures { λ r. ⌜ r ≡ replicate 32 zeroChannel ⌝ }
 {
     let mut rows = channels;
     let mut i: usize = 0;

@@ -4,7 +4,7 @@ ghost use mathlib.Core.List.{map};
 ghost use Prim.Native.Nat.{ℕ, _≤_, _<_};
 ghost use lib.ListN.{getD, take};
 ghost use Rattle.rows.specs.Definition.Lists.{firstOf, lastOf, tally, padded, upTo};
-ghost use Rattle.rows.specs.Definition.Classes.{released, fresh};
+ghost use Rattle.rows.specs.Definition.Classes.{released, startClasses};
 ghost use Rattle.rows.specs.Definition.Tests.{restRow, riseRow, classRow, chainRow, exactRow, listTest, classTest, chainTest, roomTest, userTest};
 use super::numbers::wide;
 
@@ -218,7 +218,7 @@ pub fn lay(s: &[u8]) -> [u8; 32]
 // The classes of `n` segments after a start.
 pub fn fresh_classes(n: usize) -> [u8; 32]
     requires { ⌜ (2 ≤ n) × (n ≤ 32) ⌝ }
-    ensures { λ r. ⌜ r ≡ fresh n ⌝ }
+    ensures { λ r. ⌜ r ≡ startClasses n ⌝ }
 {
     let mut rows = [0u8; 32];
     let mut i: usize = 1;

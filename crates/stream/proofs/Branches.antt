@@ -7,27 +7,27 @@ use borrow.Author.Tests.{eq-eqb, ne-eqb, lt-ltb, le-ltb}
 use lib.ListN.{length}
 use Rattle.events.specs.Definition.Records.{u8At, u16At}
 use Rattle.stream.specs.Numbers.{u32At}
-use Rattle.stream.specs.Requests.{lentAt, requestIn}
+use Rattle.stream.specs.Requests.{callAt, requestIn}
 use Rattle.stream.specs.declared.Request.{Request}
 use Rattle.stream.specs.declared.Found.{Found}
 use Rattle.stream.specs.declared.Found.the-variants.{Whole, Part, Bad}
 
 module _ (bytes : List ℕ) (at : ℕ) where
-  pub head-cut : length bytes < at + 4 → Part ≡ lentAt bytes at
-  unfolding lentAt
+  pub head-cut : length bytes < at + 4 → Part ≡ callAt bytes at
+  unfolding callAt
   head-cut h = rw (lt-ltb (length bytes) (at + 4) h)
 
   module _ (h : at + 4 ≤ length bytes) (n : ℕ) (e : n ≡ u16At bytes (at + 2)) where
-    pub kind-cut : at + 4 + n < at + 4 + 2 → Bad ≡ lentAt bytes at
-    unfolding lentAt
+    pub kind-cut : at + 4 + n < at + 4 + 2 → Bad ≡ callAt bytes at
+    unfolding callAt
     kind-cut k = rw (← e, le-ltb (length bytes) (at + 4) h, lt-ltb (at + 4 + n) (at + 4 + 2) k)
 
-    pub record-cut : at + 4 + 2 ≤ at + 4 + n → length bytes < at + 4 + n → Part ≡ lentAt bytes at
-    unfolding lentAt
+    pub record-cut : at + 4 + 2 ≤ at + 4 + n → length bytes < at + 4 + n → Part ≡ callAt bytes at
+    unfolding callAt
     record-cut k l = rw (← e, le-ltb (length bytes) (at + 4) h, le-ltb (at + 4 + n) (at + 4 + 2) k, lt-ltb (length bytes) (at + 4 + n) l)
 
-    pub all-there : at + 4 + 2 ≤ at + 4 + n → at + 4 + n ≤ length bytes → (out : ℕ) → out ≡ u16At bytes at → Whole (record { out = out; start = at + 4; end = at + 4 + n }) ≡ lentAt bytes at
-    unfolding lentAt
+    pub all-there : at + 4 + 2 ≤ at + 4 + n → at + 4 + n ≤ length bytes → (out : ℕ) → out ≡ u16At bytes at → Whole (record { out = out; start = at + 4; end = at + 4 + n }) ≡ callAt bytes at
+    unfolding callAt
     all-there k l out o = rw (← e, ← o, le-ltb (length bytes) (at + 4) h, le-ltb (at + 4 + n) (at + 4 + 2) k, le-ltb (length bytes) (at + 4 + n) l)
 
 module _ (bytes : List ℕ) where
@@ -36,7 +36,7 @@ module _ (bytes : List ℕ) where
   none h = rw (lt-ltb (length bytes) 1 h)
 
   module _ (h : 1 ≤ length bytes) where
-    pub goes-on : u8At bytes 0 ≡ 0 → lentAt bytes 1 ≡ requestIn bytes
+    pub goes-on : u8At bytes 0 ≡ 0 → callAt bytes 1 ≡ requestIn bytes
     unfolding requestIn
     goes-on a = rw (le-ltb (length bytes) 1 h, eq-eqb (u8At bytes 0) 0 a)
 
@@ -55,6 +55,6 @@ module _ (bytes : List ℕ) where
           unfolding requestIn
           too-large k = rw (← e, le-ltb (length bytes) 1 h, ne-eqb (u8At bytes 0) 0 a, eq-eqb (u8At bytes 0) 1 b, le-ltb (length bytes) 785 l, lt-ltb 524288 n k)
 
-          pub brings : n ≤ 524288 → lentAt bytes 785 ≡ requestIn bytes
+          pub brings : n ≤ 524288 → callAt bytes 785 ≡ requestIn bytes
           unfolding requestIn
           brings k = rw (← e, le-ltb (length bytes) 1 h, ne-eqb (u8At bytes 0) 0 a, eq-eqb (u8At bytes 0) 1 b, le-ltb (length bytes) 785 l, le-ltb 524288 n k)

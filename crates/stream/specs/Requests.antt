@@ -12,8 +12,8 @@ use Rattle.stream.specs.declared.Found.{Found}
 use Rattle.stream.specs.declared.Found.the-variants.{Whole, Part, Bad}
 
 -- the output's length and the event record's length, of 2 bytes each, and the event record, of 2 bytes or more
-unfoldable pub lentAt : (bytes : List ℕ) (at : ℕ) → Found
-lentAt bytes at =
+unfoldable pub callAt : (bytes : List ℕ) (at : ℕ) → Found
+callAt bytes at =
     let start = at + 4 in
     let end = start + u16At bytes (at + 2) in
     cond (ltb (length bytes) start) Part
@@ -23,14 +23,14 @@ lentAt bytes at =
 
 -- what bytes begin with; docs/STREAM.md has the stream in words
 unfoldable pub requestIn : List ℕ → Found
-unfolding lentAt
+unfolding callAt
 requestIn bytes =
     cond (ltb (length bytes) 1) Part
-    (cond (eqb (u8At bytes 0) 0) (lentAt bytes 1)
+    (cond (eqb (u8At bytes 0) 0) (callAt bytes 1)
     (cond (not (eqb (u8At bytes 0) 1)) Bad
     (cond (ltb (length bytes) 785) Part
     (cond (ltb 524288 (u32At bytes 777)) Bad
-    (lentAt bytes 785)))))
+    (callAt bytes 785)))))
 
 -- the event record has a kind and lies in the bytes, and the output's length fits two bytes
 pub record Spans (bytes : List ℕ) (q : Request) : Type 0 where

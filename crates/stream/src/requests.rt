@@ -1,7 +1,7 @@
 // Where a request ends.
 ghost use mathlib.Core.Path.{_≡_};
 ghost use Prim.Native.Nat.{_+_, _<_};
-ghost use Rattle.stream.specs.Requests.{lentAt, requestIn, Lent, Fits};
+ghost use Rattle.stream.specs.Requests.{callAt, requestIn, Lent, Fits};
 use super::Found;
 use super::Request;
 use super::bytes::u32_at;
@@ -11,7 +11,7 @@ use events::fields::u16_at;
 // The output's length, the event record's length and the event record.
 fn lent_at(bytes: &[u8], at: usize) -> Found
     requires { ⌜ at < 1000 ⌝ }
-    ensures { λ r. ⌜ (r ≡ lentAt (now (bytes .entry)) at) × Lent (now (bytes .entry)) r ⌝ }
+    ensures { λ r. ⌜ (r ≡ callAt (now (bytes .entry)) at) × Lent (now (bytes .entry)) r ⌝ }
 {
     let start = at + 4;
     if bytes.len() < start {

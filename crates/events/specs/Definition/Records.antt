@@ -4,7 +4,7 @@ use mathlib.Core.List.{List}
 use Prim.Native.Nat.{ℕ, _+_, _*_}
 use lib.ListN.{length, getD, drop}
 use lib.Dec.{ltb, eqb}
-use Rattle.kernel.specs.Definition.Calls.{Call, start, reset, «open», close, read, write, default, status, link, boundary, set-user-boundary, allocate, free, store, load, unknown, short-start}
+use Rattle.kernel.specs.Definition.Calls.{Call, start, reset, «open», close, read, write, default, status, link, boundary, set-user-boundary, allocate, free, store, load, no-call, short-start}
 use Rattle.kernel.specs.Definition.Step.{Result, step}
 use Rattle.kernel.specs.declared.Tables.{Tables}
 
@@ -17,11 +17,11 @@ u16At body i = u8At body i + 256 * u8At body (i + 1)
 
 -- 2 CALL: "body short of its fixed fields": these are n bytes, and a name, data or list is the rest of the body
 abbrev pub atLeast : (n : ℕ) (body : List ℕ) → Call → Call
-atLeast n body c = cond (ltb (length body) n) unknown c
+atLeast n body c = cond (ltb (length body) n) no-call c
 
 -- "or longer without name, data or list": the fixed fields are the whole body
 abbrev pub exactly : (n : ℕ) (body : List ℕ) → Call → Call
-exactly n body c = cond (eqb (length body) n) c unknown
+exactly n body c = cond (eqb (length body) n) c no-call
 
 -- "256 start | R u16, list". TABLES is "not for start", also where the body is short
 unfoldable pub startIn : List ℕ → Call
@@ -101,7 +101,7 @@ decode kind body =
     (cond (eqb kind 25) (freeIn body)
     (cond (eqb kind 257) (storeIn body)
     (cond (eqb kind 258) (loadIn body)
-    unknown))))))))))))))
+    no-call))))))))))))))
 
 -- what an event record leaves of the tables, the RAM and the lent output
 abbrev pub stepOf : Tables → (ram : List ℕ) (kind : ℕ) (body out : List ℕ) → Result

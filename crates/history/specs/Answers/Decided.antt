@@ -8,7 +8,7 @@ use Rattle.rows.specs.Laws.Good.{Says, says-eq, says-and, says-or, says-not, sa
 use Rattle.kernel.specs.Definition.Tables.{ramSize}
 use Rattle.kernel.specs.Definition.Good.{Sized, Good}
 use Rattle.kernel.specs.Definition.Answers.{gives}
-use Rattle.kernel.specs.Definition.Calls.{Call, start, reset, «open», close, read, write, default, status, link, boundary, set-user-boundary, allocate, free, store, load, unknown, short-start, isStart, onBoundary}
+use Rattle.kernel.specs.Definition.Calls.{Call, start, reset, «open», close, read, write, default, status, link, boundary, set-user-boundary, allocate, free, store, load, no-call, short-start, isStart, onBoundary}
 use Rattle.kernel.specs.Definition.Refusals.{Row, tables-bad, ram-wrong, call-unknown, start-short}
 use Rattle.kernel.specs.Definition.Step.{accepted, heard, decided}
 use Rattle.kernel.specs.Laws.Fields.{Fields}
@@ -49,7 +49,7 @@ module _ (t : Tables) (ram output : ℕ) where
   unfolding onBoundary
   boundary-lowest = by-none boundary _ refl refl
 
-  unknown-lowest : Below (Row t ram output unknown) 2 → Lowest (Row t ram output unknown) (gives BadCall t)
+  unknown-lowest : Below (Row t ram output no-call) 2 → Lowest (Row t ram output no-call) (gives BadCall t)
   unknown-lowest low = record { answer = refused call-unknown low }
 
   short-lowest : Below (Row t ram output short-start) 2 → Lowest (Row t ram output short-start) (gives BadCall t)
@@ -76,7 +76,7 @@ module _ (t : Tables) (ram output : ℕ) where
   heard-lowest (free caller segment) f h low = free-lowest t (heard-good (free caller segment) refl h) ram output caller segment low
   heard-lowest (store segment offset bytes) f h low = store-lowest t (heard-good (store segment offset bytes) refl h) ram output segment offset bytes low
   heard-lowest (load segment offset size) f h low = load-lowest t (heard-good (load segment offset size) refl h) ram output segment offset size low
-  heard-lowest unknown f h low = unknown-lowest low
+  heard-lowest no-call f h low = unknown-lowest low
   heard-lowest short-start f h low = short-lowest low
 
   pub decided-lowest : (c : Call) → Sized t → Fields c → Lowest (Row t ram output c) (decided t ram output c)

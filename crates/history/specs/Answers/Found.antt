@@ -13,15 +13,16 @@ use lib.ListN.{length, getD, take, length-take}
 use lib.Seq.{getD-take}
 use Rattle.rows.specs.Definition.Lists.{at, firstWhere}
 use Rattle.rows.specs.Laws.Lists.{where-found, where-absent}
-use Rattle.rows.specs.Definition.Channels.{noChannel}
-use Rattle.rows.specs.Definition.Devices.{noDevice, answers}
+use Rattle.rows.specs.Definition.Channels.{zeroChannel}
+use Rattle.rows.specs.Definition.Devices.{beyondDevices, answers}
 use Rattle.rows.specs.Definition.Good.{ListGood, Same}
 use Rattle.rows.specs.Laws.Good.{Says, says-lt, says-and, says-as, same-says}
 use Rattle.rows.specs.declared.Channel.{Channel}
 use Rattle.rows.specs.declared.Device.{Device}
 use Rattle.kernel.specs.Definition.Tables.{rowOf, channelAt}
 use Rattle.kernel.specs.Definition.Good.{Good}
-use Rattle.kernel.specs.Definition.Names.{Wanted, deviceFor}
+use Rattle.kernel.specs.Definition.Names.{deviceFor}
+use Rattle.kernel.specs.declared.open.Wanted.{Wanted}
 use Rattle.kernel.specs.Definition.Refusals.{OpenAt, NotOpen, InList, Some, Enabled}
 use Rattle.kernel.specs.declared.Tables.{Tables}
 
@@ -56,14 +57,14 @@ module _ (t : Tables) (g : Good t) where
   -- channels
   pub open-says : (channel : ℕ) → Says (ltb (channelAt t channel) (t .opened)) ((i : ℕ) × OpenAt t channel i)
   open-says channel =
-      says-as (search-says (λ (c : Channel). eqb (c .number) channel) (t .channels) noChannel (t .opened) (omega (arith, g .sized .channels, g .channels .most)))
+      says-as (search-says (λ (c : Channel). eqb (c .number) channel) (t .channels) zeroChannel (t .opened) (omega (arith, g .sized .channels, g .channels .most)))
       (λ (i, h, e). (i, record { row = h; number = eqb-true _ _ e }))
       (λ (i, o). (i, o .row, eq-eqb _ _ (o .number)))
 
   pub open-at : (channel : ℕ) → channelAt t channel < t .opened → OpenAt t channel (channelAt t channel)
   open-at channel h = record {
     row = h;
-    number = eqb-true _ _ (search-at (λ (c : Channel). eqb (c .number) channel) (t .channels) noChannel (t .opened) (omega (arith, g .sized .channels, g .channels .most)) h);
+    number = eqb-true _ _ (search-at (λ (c : Channel). eqb (c .number) channel) (t .channels) zeroChannel (t .opened) (omega (arith, g .sized .channels, g .channels .most)) h);
   }
 
   pub open-one : (channel i : ℕ) → OpenAt t channel i → channelAt t channel ≡ i
@@ -124,6 +125,6 @@ module _ (t : Tables) (g : Good t) where
 
   pub enabled-says : (w : Wanted) → Says (ltb (deviceFor t w) (t .known)) ((i : ℕ) × Enabled t w i)
   enabled-says w =
-      says-as (search-says (answers (w .name) (w .length)) (t .devices) noDevice (t .known) (omega (arith, g .sized .devices, g .devices .most)))
-      (λ (i, h, e). let a = answers-says w (getD (t .devices) i noDevice) .yes e in (i, record { known = h; named = a .0; enabled = a .1 .0; same = a .1 .1 }))
-      (λ (i, o). (i, o .known, answers-says w (getD (t .devices) i noDevice) .make (o .named, (o .enabled, o .same))))
+      says-as (search-says (answers (w .name) (w .length)) (t .devices) beyondDevices (t .known) (omega (arith, g .sized .devices, g .devices .most)))
+      (λ (i, h, e). let a = answers-says w (getD (t .devices) i beyondDevices) .yes e in (i, record { known = h; named = a .0; enabled = a .1 .0; same = a .1 .1 }))
+      (λ (i, o). (i, o .known, answers-says w (getD (t .devices) i beyondDevices) .make (o .named, (o .enabled, o .same))))

@@ -5,7 +5,7 @@ use mathlib.Core.List.{List, [], _∷_}
 use mathlib.Core.Logic.{inl, inr}
 use Prim.Native.Nat.{ℕ}
 use Rattle.kernel.specs.Definition.Answers.{granted, Refusal, unless}
-use Rattle.kernel.specs.Definition.Calls.{Call, start, reset, «open», close, read, write, default, status, link, boundary, set-user-boundary, allocate, free, store, load, unknown, short-start, isStart}
+use Rattle.kernel.specs.Definition.Calls.{Call, start, reset, «open», close, read, write, default, status, link, boundary, set-user-boundary, allocate, free, store, load, no-call, short-start, isStart}
 use Rattle.kernel.specs.Definition.Refusals.{Row, tables-bad, ram-wrong, call-unknown, start-short, allocate-caller, free-caller, open-channel, close-channel, read-channel, write-channel, open-exists, open-name, link-name, default-name, open-device, open-driver, open-full, link-full, open-room, link-low, link-room, allocate-none, free-owner, store-owner, load-owner, bound-none, bound-above, read-end, read-output, write-end, status-output, store-end, load-end, load-output, store-guard, reset-flags, start-list, start-low, start-high, start-ram}
 use Rattle.kernel.specs.declared.Tables.{Tables}
 use Rattle.kernel.specs.declared.Outcome.{Outcome}
@@ -27,7 +27,7 @@ numbers (allocate caller) = 1 ∷ 2 ∷ 10 ∷ []
 numbers (free caller segment) = 1 ∷ 2 ∷ 11 ∷ []
 numbers (store segment offset bytes) = 1 ∷ 11 ∷ 13 ∷ 14 ∷ []
 numbers (load segment offset size) = 1 ∷ 11 ∷ 13 ∷ []
-numbers unknown = 1 ∷ 2 ∷ []
+numbers no-call = 1 ∷ 2 ∷ []
 numbers short-start = 2 ∷ []
 
 -- no row has the number 0
@@ -47,7 +47,7 @@ numbers-some (allocate caller) = refl
 numbers-some (free caller segment) = refl
 numbers-some (store segment offset bytes) = refl
 numbers-some (load segment offset size) = refl
-numbers-some unknown = refl
+numbers-some no-call = refl
 numbers-some short-start = refl
 
 -- row 1 speaks of every call but start
@@ -67,7 +67,7 @@ not-start (allocate caller) e = inl refl
 not-start (free caller segment) e = inl refl
 not-start (store segment offset bytes) e = inl refl
 not-start (load segment offset size) e = inl refl
-not-start unknown e = inl refl
+not-start no-call e = inl refl
 not-start short-start e = absurd (false≢true (sym e))
 
 module _ {t : Tables} {ram output : ℕ} where

@@ -12,10 +12,10 @@ use lib.ListN.{length, getD, take, drop, replicate, length-take, length-append, 
 use lib.Seq.{take-append-le, take-take, take-set-le, getD-take, getD-drop, getD-append-add, getD-set-other}
 use Rattle.rows.specs.Definition.Lists.{at, without}
 use Rattle.rows.specs.Laws.Lists.{and-left, where-found}
-use Rattle.rows.specs.Definition.Channels.{noChannel, sumOf}
+use Rattle.rows.specs.Definition.Channels.{zeroChannel, sumOf}
 use Rattle.rows.specs.Laws.ChannelRows.{from, from-low, from-high, without-at, sum-without, sum-more}
 use Rattle.rows.specs.declared.Channel.{Channel}
-use Rattle.line.specs.Definition.Line.{chainIndexOf, placeOf, putLine, linked, Chain}
+use Rattle.line.specs.Definition.Line.{chainIndexOf, placeOf, putLine, afterLink, Chain}
 use Rattle.line.specs.Definition.Ram.{putAt}
 use Rattle.line.proofs.Walks.{put-elsewhere}
 use Rattle.line.proofs.Places.{place-apart}
@@ -40,7 +40,7 @@ use Rattle.history.specs.Bytes.Changes.{Opens, opens-row, opens-total, C
 
 -- the number of the channel in row i, and byte k of its buffer where it lies
 abbrev pub channelIn : Tables → ℕ → ℕ
-channelIn t i = getD (t .channels) i noChannel .number
+channelIn t i = getD (t .channels) i zeroChannel .number
 
 abbrev pub byteAt : Tables → List ℕ → (i k : ℕ) → ℕ
 byteAt t ram i k = getD ram (placeOf (t .chain) (t .room) (bufferAt t i + k)) 0
@@ -60,14 +60,14 @@ sum-rises (x ∷ xs) (suc i) (suc n) h = omega (arith, sum-rises xs i n (le-of-s
 -- a record ends before a later one starts
 record-before : (t : Tables) (i j : ℕ) → Good t → i < j → j ≤ t .opened → recordAt t i + (16 + sizeAt t i) ≤ recordAt t j
 record-before t i j g h l =
-    omega (arith, sum-more (t .channels) i noChannel (omega (arith, g .sized .channels, g .channels .most)), sum-rises (t .channels) (i + 1) j (omega arith))
+    omega (arith, sum-more (t .channels) i zeroChannel (omega (arith, g .sized .channels, g .channels .most)), sum-rises (t .channels) (i + 1) j (omega arith))
 
 -- the rows before one that is taken out
-take-less : (xs : List Channel) (i j : ℕ) → i ≤ j → j ≤ length xs → take i (without j xs noChannel) ≡ take i xs
+take-less : (xs : List Channel) (i j : ℕ) → i ≤ j → j ≤ length xs → take i (without j xs zeroChannel) ≡ take i xs
 take-less xs i j h l =
     let n : length (take j xs) ≡ j = omega (arith, length-take j xs) in
     let m : length (take j xs ++ drop (suc j) xs) ≡ length (take j xs) + length (drop (suc j) xs) = length-append (take j xs) (drop (suc j) xs) in
-    take-append-le i (take j xs ++ drop (suc j) xs) (noChannel ∷ []) (omega arith)
+    take-append-le i (take j xs ++ drop (suc j) xs) (zeroChannel ∷ []) (omega arith)
     ∙ take-append-le i (take j xs) (drop (suc j) xs) (omega arith)
     ∙ take-take i j xs h
 
@@ -124,7 +124,7 @@ module _ (t : Tables) (ram : List ℕ) (r : Ready t (length ram)) (f : ℕ → �
   found channel h =
       let cs = take (t .opened) (t .channels) in
       let n : length cs ≡ t .opened = omega (arith, length-take (t .opened) (t .channels), r .good .sized .channels, r .good .channels .most) in
-      eqb-true _ _ (rw (getD-take (t .opened) (t .channels) (channelAt t channel) noChannel h) at (where-found (λ (c : Channel). eqb (c .number) channel) cs noChannel (omega arith)))
+      eqb-true _ _ (rw (getD-take (t .opened) (t .channels) (channelAt t channel) zeroChannel h) at (where-found (λ (c : Channel). eqb (c .number) channel) cs zeroChannel (omega arith)))
 
   -- two rows have two numbers
   one-row : (i j : ℕ) → i < t .opened → j < t .opened → channelIn t i ≡ channelIn t j → i ≡ j
@@ -189,21 +189,21 @@ module _ (t : Tables) (ram : List ℕ) (r : Ready t (length ram)) (f : ℕ → �
 
   -- open appends a buffer of zeros and keeps the others
   module _ (u : Tables) (c : Channel) (o : Opens t u c) (few : t .opened < 32) (s : Ready u (length ram)) where
-    new-row : getD (u .channels) (t .opened) noChannel ≡ c
+    new-row : getD (u .channels) (t .opened) zeroChannel ≡ c
     new-row = opens-row (r .good) o few
 
-    old-row : (i : ℕ) → i < t .opened → getD (u .channels) i noChannel ≡ getD (t .channels) i noChannel
-    old-row i h = rw (o .channels) (getD-set-other (t .channels) (t .opened) i c noChannel (λ e. omega arith))
+    old-row : (i : ℕ) → i < t .opened → getD (u .channels) i zeroChannel ≡ getD (t .channels) i zeroChannel
+    old-row i h = rw (o .channels) (getD-set-other (t .channels) (t .opened) i c zeroChannel (λ e. omega arith))
 
     starts-same : (i : ℕ) → i ≤ t .opened → recordAt u i ≡ recordAt t i
     starts-same i h = rw (o .channels) (ap sumOf (take-set-le i (t .channels) (t .opened) c h))
 
-    open-chain : Chain (u .chain) (t .room) (totalOf t + 16 + getD (u .channels) (t .opened) noChannel .n) (length ram)
+    open-chain : Chain (u .chain) (t .room) (totalOf t + 16 + getD (u .channels) (t .opened) zeroChannel .n) (length ram)
     open-chain = rw (opens-total (r .good) o few, o .room) at (good-chain u (length ram) (s .good) (s .size))
 
     pub open-law : Holds (λ d k. cond (eqb (c .number) d) 0 (f d k)) u (ramOpened t u ram)
     open-law i a k b =
-        let d = getD (u .channels) (t .opened) noChannel in
+        let d = getD (u .channels) (t .opened) zeroChannel in
         let points = opened-points (u .chain) (t .room) ram (totalOf t) (d .number) (d .device) (d .unit) (d .n) open-chain in
         elim (decLt i (t .opened)) [
           | yes h ↦
@@ -238,7 +238,7 @@ module _ (t : Tables) (ram : List ℕ) (r : Ready t (length ram)) (f : ℕ → �
         let n : length cs ≡ 32 = r .good .sized .channels in
         let most = r .good .channels .most in
         let less : i < t .opened - 1 = rw (o .opened) at a in
-        let row : getD (u .channels) i noChannel ≡ getD cs (from j i) noChannel = rw (o .channels) (without-at noChannel noChannel j cs i (omega arith) (omega arith)) in
+        let row : getD (u .channels) i zeroChannel ≡ getD cs (from j i) zeroChannel = rw (o .channels) (without-at zeroChannel zeroChannel j cs i (omega arith) (omega arith)) in
         let gap = 16 + sizeAt t j in
         let points = closed-points (t .chain) (t .room) ram (recordAt t j) gap (totalOf t) chained (record-within t j (r .good) have) in
         let p = bufferAt u i + k in
@@ -248,7 +248,7 @@ module _ (t : Tables) (ram : List ℕ) (r : Ready t (length ram)) (f : ℕ → �
         place-same (u .chain) (t .chain) (u .room) p (o .chain (chainIndexOf (u .room) p) link) ∙ ap (λ (x : ℕ). placeOf (t .chain) x p) (o .room) in
         elim (decLt i j) [
           | yes h ↦
-              let same : getD (u .channels) i noChannel ≡ getD cs i noChannel = row ∙ ap (λ (x : ℕ). getD cs x noChannel) (from-low j i h) in
+              let same : getD (u .channels) i zeroChannel ≡ getD cs i zeroChannel = row ∙ ap (λ (x : ℕ). getD cs x zeroChannel) (from-low j i h) in
               let number : channelIn u i ≡ channelIn t i = ap (λ (x : Channel). x .number) same in
               let size : sizeAt u i ≡ sizeAt t i = ap (λ (x : Channel). x .n) same in
               let begin : recordAt u i ≡ recordAt t i = rw (o .channels) (ap sumOf (take-less cs i j (omega arith) (omega arith))) in
@@ -262,10 +262,10 @@ module _ (t : Tables) (ram : List ℕ) (r : Ready t (length ram)) (f : ℕ → �
               omega arith)
               ∙ holds i (omega arith) k (omega arith))
           | no h ↦
-              let same : getD (u .channels) i noChannel ≡ getD cs (suc i) noChannel = row ∙ ap (λ (x : ℕ). getD cs x noChannel) (from-high j i (omega arith)) in
+              let same : getD (u .channels) i zeroChannel ≡ getD cs (suc i) zeroChannel = row ∙ ap (λ (x : ℕ). getD cs x zeroChannel) (from-high j i (omega arith)) in
               let number : channelIn u i ≡ channelIn t (suc i) = ap (λ (x : Channel). x .number) same in
               let size : sizeAt u i ≡ sizeAt t (suc i) = ap (λ (x : Channel). x .n) same in
-              let begin : recordAt u i + gap ≡ recordAt t (suc i) = rw (o .channels) (sum-without noChannel noChannel j cs i (omega arith) (omega arith)) in
+              let begin : recordAt u i + gap ≡ recordAt t (suc i) = rw (o .channels) (sum-without zeroChannel zeroChannel j cs i (omega arith) (omega arith)) in
               let later : recordAt t j + gap ≤ recordAt t (suc i) = record-before t j (suc i) (r .good) (omega arith) (omega arith) in
               let buffer : bufferAt u i + k + gap ≡ bufferAt t (suc i) + k = omega arith in
               let end : bufferAt t (suc i) + k < totalOf t = inside (suc i) k (omega arith) (omega arith) in
@@ -276,7 +276,7 @@ module _ (t : Tables) (ram : List ℕ) (r : Ready t (length ram)) (f : ℕ → �
         ]
 
   -- link keeps all buffers
-  pub link-law : (u : Tables) (m : ℕ) → Links t u m → m ≤ t .room → Ready u (length ram) → Holds f u (linked (u .chain) (t .room) m ram (totalOf t))
+  pub link-law : (u : Tables) (m : ℕ) → Links t u m → m ≤ t .room → Ready u (length ram) → Holds f u (afterLink (u .chain) (t .room) m ram (totalOf t))
   link-law u m o le s i a k b =
       let total : totalOf u ≡ totalOf t = rw (o .opened, o .channels) in
       let few : i < t .opened = rw (o .opened) at a in

@@ -11,7 +11,7 @@ use lib.Seq.{getD-set-same}
 use Rattle.names.specs.Definition.Words.{wordOf}
 use Rattle.rows.specs.Definition.Lists.{at, without}
 use Rattle.rows.specs.Definition.Classes.{SHARED}
-use Rattle.rows.specs.Definition.Channels.{noChannel}
+use Rattle.rows.specs.Definition.Channels.{zeroChannel}
 use Rattle.rows.specs.Definition.Devices.{added}
 use Rattle.rows.specs.Laws.ChannelRows.{sum-set}
 use Rattle.rows.specs.Definition.Sizes.{chainLength}
@@ -77,10 +77,10 @@ opening-opens t c =
       chain = λ i h. grown-chain n v i h;
     }
 
-pub opens-row : {t u : Tables} {c : Channel} → Good t → Opens t u c → t .opened < 32 → getD (u .channels) (t .opened) noChannel ≡ c
-opens-row {t} {u} {c} g o few = rw (o .channels) (getD-set-same (t .channels) (t .opened) c noChannel (omega (arith, g .sized .channels)))
+pub opens-row : {t u : Tables} {c : Channel} → Good t → Opens t u c → t .opened < 32 → getD (u .channels) (t .opened) zeroChannel ≡ c
+opens-row {t} {u} {c} g o few = rw (o .channels) (getD-set-same (t .channels) (t .opened) c zeroChannel (omega (arith, g .sized .channels)))
 
-pub opens-total : {t u : Tables} {c : Channel} → Good t → Opens t u c → t .opened < 32 → totalOf u ≡ totalOf t + 16 + getD (u .channels) (t .opened) noChannel .n
+pub opens-total : {t u : Tables} {c : Channel} → Good t → Opens t u c → t .opened < 32 → totalOf u ≡ totalOf t + 16 + getD (u .channels) (t .opened) zeroChannel .n
 opens-total {t} {u} {c} g o few =
     let e : totalOf u ≡ totalOf t + (16 + c .n) = rw (o .opened, o .channels) (sum-set (t .channels) (t .opened) c (omega (arith, g .sized .channels))) in
     rw (opens-row g o few) (omega arith)
@@ -90,13 +90,13 @@ pub record Closes (t u : Tables) (j : ℕ) : Type 0 where
   pub listed : Listed t u
   pub room : u .room ≡ t .room
   pub opened : u .opened ≡ t .opened - 1
-  pub channels : u .channels ≡ without j (t .channels) noChannel
+  pub channels : u .channels ≡ without j (t .channels) zeroChannel
   pub chain : (i : ℕ) → i < u .held → at (u .chain) i ≡ at (t .chain) i
 
 pub closing-closes : (t : Tables) (j : ℕ) → Closes t (closing t j) j
 unfolding closing
 closing-closes t j =
-    let v = withChannels t (t .opened - 1) (without j (t .channels) noChannel) in
+    let v = withChannels t (t .opened - 1) (without j (t .channels) zeroChannel) in
     let n = t .held - chainLength (t .room) (totalOf v) in
     let k : Keeps v (shrunk n v) = shrunk-keeps n v in
     record {
@@ -132,7 +132,7 @@ linking-links t m name size =
 emptying-keeps : (t : Tables) → Listed t (emptying t)
 unfolding emptying
 emptying-keeps t =
-    let k = shrunk-keeps (t .held - 1) (withChannels t 0 (replicate 32 noChannel)) in
+    let k = shrunk-keeps (t .held - 1) (withChannels t 0 (replicate 32 zeroChannel)) in
     record { segments = k .segments; list = k .list }
 
 -- the three flags by clauses

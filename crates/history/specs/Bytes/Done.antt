@@ -9,7 +9,7 @@ use lib.Dec.{eqb, ltb, leb}
 use lib.ListN.{length}
 use Rattle.names.specs.Definition.Grammar.{Reading}
 use Rattle.names.specs.Definition.Read.{reading}
-use Rattle.names.specs.Definition.Tests.{linkTest, defaultTest}
+use Rattle.names.specs.Definition.Tests.{linkNameTest, defaultNameTest}
 use Rattle.names.specs.Definition.Words.{wordOf}
 use Rattle.rows.specs.declared.Channel.{Channel}
 use Rattle.kernel.specs.Definition.Tables.{rowOf, sharing, channelAt, withDefault}
@@ -17,9 +17,10 @@ use Rattle.kernel.specs.Definition.Line.{totalOf, sizeAt, boundaryOf, roomFor, 
 use Rattle.kernel.specs.Definition.Segments.{someFree, mayShare, mayFree, granting, sharingLast, freeing, bounding, mayReach, reachOf, guarded}
 use Rattle.kernel.specs.Definition.Devices.{linking}
 use Rattle.kernel.specs.Definition.Reset.{otherBits, resetting}
-use Rattle.kernel.specs.Definition.Names.{Wanted, wanted, deviceFor}
+use Rattle.kernel.specs.Definition.Names.{wanted, deviceFor}
+use Rattle.kernel.specs.declared.open.Wanted.{Wanted}
 use Rattle.kernel.specs.Definition.Answers.{granted, gives}
-use Rattle.kernel.specs.Definition.Calls.{Call, start, reset, «open», close, read, write, default, status, link, boundary, set-user-boundary, allocate, free, store, load, unknown, short-start, isStart, onReset, onOpenTo, onOpenNamed, onOpen, onClose, onRead, onWrite, onDefault, onStatus, onLink, onBoundary, onSetUserBoundary, onAllocate, onFree, onStore, onLoad}
+use Rattle.kernel.specs.Definition.Calls.{Call, start, reset, «open», close, read, write, default, status, link, boundary, set-user-boundary, allocate, free, store, load, no-call, short-start, isStart, onReset, onOpenTo, onOpenNamed, onOpen, onClose, onRead, onWrite, onDefault, onStatus, onLink, onBoundary, onSetUserBoundary, onAllocate, onFree, onStore, onLoad}
 use Rattle.kernel.specs.Definition.Step.{heard}
 use Rattle.kernel.specs.declared.Tables.{Tables}
 use Rattle.kernel.specs.declared.Answer.{Answer}
@@ -109,7 +110,7 @@ module _ (t : Tables) (output : ℕ) where
 
   default-done : (unit : ℕ) (name : List ℕ) → Leaves t output (default unit name) (onDefault t unit name)
   unfolding onDefault
-  default-done unit name = past (default unit name) (not (defaultTest name)) _ _ refl (λ _ _. names)
+  default-done unit name = past (default unit name) (not (defaultNameTest name)) _ _ refl (λ _ _. names)
 
   status-done : Leaves t output status (onStatus t output)
   unfolding onStatus
@@ -119,7 +120,7 @@ module _ (t : Tables) (output : ℕ) where
   unfolding onLink
   link-done m name =
       let c = link m name in
-      past c (not (linkTest name)) _ _ refl (λ _.
+      past c (not (linkNameTest name)) _ _ refl (λ _.
       past c (leb 16 (t .known)) _ _ refl (λ _.
       past c (ltb (t .room) (256 + m) || not (roomFor t (t .room - m) (totalOf t))) _ _ refl (λ e _.
       links (ltb-false _ _ (or-no-left _ (not (roomFor t (t .room - m) (totalOf t))) e)))))
@@ -183,5 +184,5 @@ module _ (t : Tables) (output : ℕ) where
   heard-done ram (free caller segment) s = free-done caller segment
   heard-done ram (store segment offset bytes) s = store-done segment offset bytes
   heard-done ram (load segment offset size) s = load-done segment offset size
-  heard-done ram unknown s = λ g. absurd (false≢true g)
+  heard-done ram no-call s = λ g. absurd (false≢true g)
   heard-done ram short-start s = absurd (false≢true (sym s))

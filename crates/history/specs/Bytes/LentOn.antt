@@ -16,7 +16,7 @@ use Rattle.line.proofs.Lending.{lies, lent-byte, lent-length, lent-link}
 use Rattle.kernel.specs.Definition.Tables.{channelAt}
 use Rattle.kernel.specs.Definition.Line.{totalOf, sizeAt, bufferAt}
 use Rattle.kernel.specs.Definition.Step.{accepted}
-use Rattle.kernel.specs.Definition.Lend.{lentOn, lentFrom, partFrom}
+use Rattle.kernel.specs.Definition.Lend.{lentOnGood, lentOn, partOn}
 use Rattle.kernel.specs.Laws.Chains.{good-chain}
 use Rattle.kernel.specs.Laws.Records.{record-within}
 use Rattle.kernel.specs.Laws.Ready.{Ready, ready-accepted}
@@ -45,15 +45,15 @@ module _ (t : Tables) (ram : List ℕ) (r : Ready t (length ram)) (channel : ℕ
       (omega (arith, record-within t (channelAt t channel) (r .good) h)) refl (good-chain t (length ram) (r .good) (r .size))
 
   -- what is lent of a channel that is open, and of one that is not
-  lent-open : channelAt t channel < t .opened → lentFrom t (length ram) channel ≡ lentAt (t .chain) (t .room) (bufferOf t channel) (sizeOf t channel)
-  unfolding lentFrom lentOn
+  lent-open : channelAt t channel < t .opened → lentOn t (length ram) channel ≡ lentAt (t .chain) (t .room) (bufferOf t channel) (sizeOf t channel)
+  unfolding lentOn lentOnGood
   lent-open h = rw (ready-accepted r, lt-ltb (channelAt t channel) (t .opened) h)
 
-  lent-closed : t .opened ≤ channelAt t channel → lentFrom t (length ram) channel ≡ Nothing
-  unfolding lentFrom lentOn
+  lent-closed : t .opened ≤ channelAt t channel → lentOn t (length ram) channel ≡ Nothing
+  unfolding lentOn lentOnGood
   lent-closed h = rw (ready-accepted r, le-ltb (channelAt t channel) (t .opened) h)
 
-  one-lent : OneSegment t channel → Part (placeOf (t .chain) (t .room) (bufferOf t channel + sizeOf t channel - 1)) ≡ lentFrom t (length ram) channel
+  one-lent : OneSegment t channel → Part (placeOf (t .chain) (t .room) (bufferOf t channel + sizeOf t channel - 1)) ≡ lentOn t (length ram) channel
   unfolding lentAt
   one-lent o =
       let end = bufferOf t channel + sizeOf t channel - 1 in
@@ -61,7 +61,7 @@ module _ (t : Tables) (ram : List ℕ) (r : Ready t (length ram)) (channel : ℕ
       let same : chainIndexOf (t .room) end ≡ chainIndexOf (t .room) (bufferOf t channel) = rw last at (o .same (sizeOf t channel - 1) (omega (arith, o .some))) in
       rw (lent-open (o .known), lt-ltb 0 (sizeOf t channel) (o .some), eq-eqb (chainIndexOf (t .room) (bufferOf t channel)) (chainIndexOf (t .room) end) (sym same))
 
-  module _ (at : ℕ) (e : Part at ≡ lentFrom t (length ram) channel) where
+  module _ (at : ℕ) (e : Part at ≡ lentOn t (length ram) channel) where
     known : channelAt t channel < t .opened
     known = elim (decLt (channelAt t channel) (t .opened)) [ yes h ↦ h | no h ↦ absurd (never (e ∙ lent-closed (omega arith))) ]
       where
@@ -78,28 +78,28 @@ module _ (t : Tables) (ram : List ℕ) (r : Ready t (length ram)) (channel : ℕ
       same = lent-link (t .chain) (t .room) (bufferOf t channel) (sizeOf t channel) at ram (chained known) lent;
     }
 
-    lent-size : length (partFrom t ram channel) ≡ sizeOf t channel
-    unfolding partFrom
+    lent-size : length (partOn t ram channel) ≡ sizeOf t channel
+    unfolding partOn
     lent-size = rw (← e) (lent-length (t .chain) (t .room) (bufferOf t channel) (sizeOf t channel) at ram (chained known) lent)
 
-    lent-holds : (f : ℕ → ℕ → ℕ) → Holds f t ram → (k : ℕ) → k < sizeOf t channel → getD (partFrom t ram channel) (sizeOf t channel - 1 - k) 0 ≡ f channel k
-    unfolding partFrom
+    lent-holds : (f : ℕ → ℕ → ℕ) → Holds f t ram → (k : ℕ) → k < sizeOf t channel → getD (partOn t ram channel) (sizeOf t channel - 1 - k) 0 ≡ f channel k
+    unfolding partOn
     lent-holds f holds k h =
         let n = sizeOf t channel in
         let back : n - 1 - (n - 1 - k) ≡ k = omega arith in
         let byte : getD (partOf ram n (Part at)) (n - 1 - k) 0 ≡ getD (lineFrom (t .chain) (t .room) ram (bufferOf t channel) n) k 0 =
         rw back at (lent-byte (t .chain) (t .room) (bufferOf t channel) n at ram (chained known) lent (n - 1 - k) (omega arith)) in
-        let part : getD (partFrom t ram channel) (n - 1 - k) 0 ≡ getD (partOf ram n (Part at)) (n - 1 - k) 0 = rw (← e) in
+        let part : getD (partOn t ram channel) (n - 1 - k) 0 ≡ getD (partOf ram n (Part at)) (n - 1 - k) 0 = rw (← e) in
         part ∙ byte
         ∙ bytes-at (placeOf (t .chain) (t .room)) ram (bufferOf t channel) n k h
         ∙ holds (channelAt t channel) known k h
         ∙ ap (λ (x : ℕ). f x k) (found t ram r f holds channel known)
 
-  none-lent : ¬ OneSegment t channel → partFrom t ram channel ≡ []
-  unfolding partFrom partOf
-  none-lent apart = go (lentFrom t (length ram) channel) refl
+  none-lent : ¬ OneSegment t channel → partOn t ram channel ≡ []
+  unfolding partOn partOf
+  none-lent apart = go (lentOn t (length ram) channel) refl
     where
-      go : (l : Lent) → l ≡ lentFrom t (length ram) channel → partOf ram (sizeOf t channel) l ≡ []
+      go : (l : Lent) → l ≡ lentOn t (length ram) channel → partOf ram (sizeOf t channel) l ≡ []
       go (Part at) e = absurd (apart (lent-one at e))
       go Nothing e = refl
 
@@ -107,23 +107,23 @@ module _ (t : Tables) (ram : List ℕ) (r : Ready t (length ram)) (channel : ℕ
 module _ {h : History} {s : State} (r : Run h s) (channel : ℕ) where
   -- a part is lent where all bytes of the buffer lie in one segment, from the place of the last byte on
   pub lent-there : OneSegment (s .tables) channel
-      → Part (placeOf (s .tables .chain) (s .tables .room) (bufferOf (s .tables) channel + sizeOf (s .tables) channel - 1)) ≡ lentFrom (s .tables) (length (s .ram)) channel
+      → Part (placeOf (s .tables .chain) (s .tables .room) (bufferOf (s .tables) channel + sizeOf (s .tables) channel - 1)) ≡ lentOn (s .tables) (length (s .ram)) channel
   lent-there = one-lent (s .tables) (s .ram) (run-holds (r .started) (r .runs) .0) channel
 
   -- no byte is lent where they do not
-  pub lent-nowhere : ¬ OneSegment (s .tables) channel → partFrom (s .tables) (s .ram) channel ≡ []
+  pub lent-nowhere : ¬ OneSegment (s .tables) channel → partOn (s .tables) (s .ram) channel ≡ []
   lent-nowhere = none-lent (s .tables) (s .ram) (run-holds (r .started) (r .runs) .0) channel
 
-  module _ (at : ℕ) (e : Part at ≡ lentFrom (s .tables) (length (s .ram)) channel) where
+  module _ (at : ℕ) (e : Part at ≡ lentOn (s .tables) (length (s .ram)) channel) where
     -- so that a part is lent only where they do
     pub lent-only : OneSegment (s .tables) channel
     lent-only = lent-one (s .tables) (s .ram) (run-holds (r .started) (r .runs) .0) channel at e
 
     -- "and nothing else": the part has as many bytes as the buffer
-    pub lent-alone : length (partFrom (s .tables) (s .ram) channel) ≡ sizeOf (s .tables) channel
+    pub lent-alone : length (partOn (s .tables) (s .ram) channel) ≡ sizeOf (s .tables) channel
     lent-alone = lent-size (s .tables) (s .ram) (run-holds (r .started) (r .runs) .0) channel at e
 
     -- byte k of the buffer stands in it, the last byte first: the one last written there through that channel since its opening, or zero if none was
     pub lent-written : (k : ℕ) → k < sizeOf (s .tables) channel
-        → getD (partFrom (s .tables) (s .ram) channel) (sizeOf (s .tables) channel - 1 - k) 0 ≡ lastWritten h channel k
+        → getD (partOn (s .tables) (s .ram) channel) (sizeOf (s .tables) channel - 1 - k) 0 ≡ lastWritten h channel k
     lent-written = let b = run-holds (r .started) (r .runs) in lent-holds (s .tables) (s .ram) (b .0) channel at e (lastWritten h) (b .1)

@@ -6,7 +6,7 @@ use Prim.Native.Nat.{ℕ, _+_, _-_}
 use lib.Dec.{leb, ltb, eqb}
 use lib.ListN.{length, getD}
 use Rattle.kernel.specs.Definition.Answers.{granted}
-use Rattle.kernel.specs.Definition.Calls.{Call, start, reset, «open», close, read, write, default, status, link, boundary, set-user-boundary, allocate, free, store, load, unknown, short-start, isStart}
+use Rattle.kernel.specs.Definition.Calls.{Call, start, reset, «open», close, read, write, default, status, link, boundary, set-user-boundary, allocate, free, store, load, no-call, short-start, isStart}
 use Rattle.kernel.specs.Definition.Step.{step}
 use Rattle.kernel.specs.Laws.Fields.{Fields}
 use Rattle.kernel.specs.declared.Tables.{Tables}
@@ -88,7 +88,7 @@ written (allocate caller) channel k old = old
 written (free caller segment) channel k old = old
 written (store segment offset bytes) channel k old = old
 written (load segment offset size) channel k old = old
-written unknown channel k old = old
+written no-call channel k old = old
 written short-start channel k old = old
 
 -- "the one last written there through that channel since its opening, or zero if none was"
@@ -115,7 +115,7 @@ stored (allocate caller) segment offset old = old
 stored (free caller s) segment offset old = old
 stored (store s o bytes) segment offset old = cond (eqb s segment) (patched o bytes offset old) old
 stored (load s o size) segment offset old = old
-stored unknown segment offset old = old
+stored no-call segment offset old = old
 stored short-start segment offset old = old
 
 -- the byte last stored there, or `first` if none was

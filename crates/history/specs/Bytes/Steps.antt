@@ -8,7 +8,7 @@ use borrow.Author.Tests.{ltb-true}
 use lib.Dec.{ltb}
 use lib.ListN.{length, take, drop, replicate, length-append, length-take, length-drop, length-replicate}
 use Rattle.rows.specs.Laws.Lists.{and-left}
-use Rattle.line.specs.Definition.Line.{placeOf, putLine, opened, closed, linked}
+use Rattle.line.specs.Definition.Line.{placeOf, putLine, afterOpen, afterClose, afterLink}
 use Rattle.line.specs.Definition.Ram.{putAt}
 use Rattle.line.proofs.Walks.{length-put}
 use Rattle.kernel.specs.Definition.Tables.{rowOf}
@@ -57,7 +57,7 @@ length-reset t ram false true = length-put (placeOf (t .chain) (t .cold)) _ _ 0 
 length-reset t ram false false = refl
 
 pub done-length : {t u : Tables} {output : ℕ} {c : Call} (ram : List ℕ) → Ready t (length ram) → Done t output c u → length (ramAfter t u ram c) ≡ length ram
-unfolding ramAfter opened closed linked
+unfolding ramAfter afterOpen afterClose afterLink
 done-length {t} ram r (resets {flags}) = length-reset t ram (bit4 flags) (bit5 flags)
 done-length ram r (opens c e h) = length-put (placeOf _ _) _ ram _
 done-length ram r (closes h) = length-put (placeOf _ _) _ ram _

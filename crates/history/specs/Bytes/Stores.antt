@@ -11,10 +11,10 @@ use lib.ListN.{length, getD, take, replicate, length-append, length-replicate, l
 use Rattle.names.specs.Definition.Words.{wordOf}
 use Rattle.rows.specs.Definition.Lists.{at}
 use Rattle.rows.specs.Laws.Lists.{and-left}
-use Rattle.rows.specs.Definition.Channels.{noChannel}
+use Rattle.rows.specs.Definition.Channels.{zeroChannel}
 use Rattle.rows.specs.Laws.Counts.{first-found}
 use Rattle.rows.specs.declared.Channel.{Channel}
-use Rattle.line.specs.Definition.Line.{placeOf, putLine, headingOf, opened, linked, Chain}
+use Rattle.line.specs.Definition.Line.{placeOf, putLine, headingOf, afterOpen, afterLink, Chain}
 use Rattle.line.specs.Definition.Ram.{putAt}
 use Rattle.line.proofs.Walks.{put-elsewhere}
 use Rattle.line.proofs.Makes.{length-heading}
@@ -73,9 +73,9 @@ module _ (t u : Tables) (ram : List ℕ) (r : Ready t (length ram)) (s : Ready u
   write-user p bytes h = put-elsewhere (placeOf (t .chain) (t .room)) bytes ram p x (λ k l e. off-line t (r .good) row offset before (p + k) (omega arith) e)
 
   open-user : (c : Channel) → Opens t u c → t .opened < 32 → getD (ramOpened t u ram) x 0 ≡ old
-  unfolding opened
+  unfolding afterOpen
   open-user c o few =
-      let d = getD (u .channels) (t .opened) noChannel in
+      let d = getD (u .channels) (t .opened) zeroChannel in
       let heading = headingOf (16 + d .n) (d .number) (d .device) (d .unit) in
       let total = opens-total (r .good) o few in
       let n : length (heading ++ replicate (d .n) 0) ≡ 16 + d .n =
@@ -88,7 +88,7 @@ module _ (t u : Tables) (ram : List ℕ) (r : Ready t (length ram)) (s : Ready u
       closed-points (t .chain) (t .room) ram (recordAt t j) (16 + sizeAt t j) (totalOf t) (good-chain t (length ram) (r .good) (r .size)) (record-within t j (r .good) h) .kept x
       (λ p _ l e. off-line t (r .good) row offset before p l e)
 
-  link-user : (m : ℕ) → Links t u m → m ≤ t .room → getD (linked (u .chain) (t .room) m ram (totalOf t)) x 0 ≡ old
+  link-user : (m : ℕ) → Links t u m → m ≤ t .room → getD (afterLink (u .chain) (t .room) m ram (totalOf t)) x 0 ≡ old
   link-user m o h =
       let total : totalOf u ≡ totalOf t = rw (o .opened, o .channels) in
       let small : t .room ≤ 16384 = omega (arith, r .good .room .most, r .good .room .top) in

@@ -8,7 +8,7 @@ use native.Mathlib.Omega.{arith}
 use borrow.Author.Tests.{eq-eqb, ne-eqb}
 use lib.ListN.{length, getD}
 use Rattle.kernel.specs.Definition.Answers.{granted}
-use Rattle.kernel.specs.Definition.Calls.{Call, start, reset, «open», close, read, write, default, status, link, boundary, set-user-boundary, allocate, free, store, load, unknown, short-start}
+use Rattle.kernel.specs.Definition.Calls.{Call, start, reset, «open», close, read, write, default, status, link, boundary, set-user-boundary, allocate, free, store, load, no-call, short-start}
 use Rattle.history.specs.Bytes.Runs.{Event, History, patched, written, lastWritten, stored, lastStored}
 use Rattle.history.specs.Bytes.Buffers.{patched-in, patched-low, patched-high}
 
@@ -56,7 +56,7 @@ call-unwritten channel k old (allocate caller) f g = refl
 call-unwritten channel k old (free caller segment) f g = refl
 call-unwritten channel k old (store segment offset bytes) f g = refl
 call-unwritten channel k old (load segment offset size) f g = refl
-call-unwritten channel k old unknown f g = refl
+call-unwritten channel k old no-call f g = refl
 call-unwritten channel k old short-start f g = refl
 
 pub unwritten : (channel k : ℕ) (later h : History) → Unwritten channel k later → lastWritten (later ++ h) channel k ≡ lastWritten h channel k
@@ -112,7 +112,7 @@ call-unstored segment k old (store s offset bytes) g =
       | no q ↦ rw (ne-eqb s segment q)
     ]
 call-unstored segment k old (load s offset size) g = refl
-call-unstored segment k old unknown g = refl
+call-unstored segment k old no-call g = refl
 call-unstored segment k old short-start g = refl
 
 pub unstored : (segment k first : ℕ) (later h : History) → Unstored segment k later → lastStored (later ++ h) segment k first ≡ lastStored h segment k first

@@ -13,19 +13,20 @@ use lib.ListN.{length, getD, take, length-take}
 use lib.Seq.{getD-take}
 use Rattle.names.specs.Definition.Grammar.{Reading}
 use Rattle.names.specs.Definition.Read.{reading}
-use Rattle.names.specs.Definition.Tests.{linkTest}
+use Rattle.names.specs.Definition.Tests.{linkNameTest}
 use Rattle.names.specs.Laws.Right.{reading-right, unread-right}
 use Rattle.names.specs.Laws.Runs.{link-finds}
 use Rattle.names.specs.Definition.Words.{wordOf}
 use Rattle.rows.specs.Laws.Lists.{where-found, where-absent}
-use Rattle.rows.specs.Definition.Channels.{noChannel}
-use Rattle.rows.specs.Definition.Devices.{noDevice, answers}
+use Rattle.rows.specs.Definition.Channels.{zeroChannel}
+use Rattle.rows.specs.Definition.Devices.{beyondDevices, answers}
 use Rattle.rows.specs.Laws.Good.{same-yes}
 use Rattle.rows.specs.declared.Channel.{Channel}
 use Rattle.kernel.specs.Definition.Tables.{ramSize, channelAt}
 use Rattle.kernel.specs.Definition.Line.{totalOf, roomFor}
 use Rattle.kernel.specs.Definition.Devices.{linking}
-use Rattle.kernel.specs.Definition.Names.{Wanted, wanted, deviceFor}
+use Rattle.kernel.specs.Definition.Names.{wanted, deviceFor}
+use Rattle.kernel.specs.declared.open.Wanted.{Wanted}
 use Rattle.kernel.specs.Definition.Answers.{numberOf, granted, gives}
 use Rattle.kernel.specs.Definition.Good.{Sized, Good, goodTest}
 use Rattle.kernel.specs.Definition.Calls.{Call, «open», link, onOpen, onOpenNamed, onOpenTo, onLink}
@@ -50,11 +51,11 @@ is-true true h = refl
 is-true false h = absurd (h refl)
 
 -- what is left of a call: refused for room exactly when it does not fit, and done when it does
-pub record Left (answer : Answer) (Fits : Type 0) : Type 0 where
+pub record OnlyRoom (answer : Answer) (Fits : Type 0) : Type 0 where
   pub refused : (answer ≡ NoRoom) ↔ ¬ Fits
   pub done : Fits → granted answer ≡ true
 
-left-by : (fits : Bool) (x y : ℕ) (t u : Tables) → Left (cond (not fits) (gives NoRoom t) (gives (Done x y) u) .answer) (fits ≡ true)
+left-by : (fits : Bool) (x y : ℕ) (t u : Tables) → OnlyRoom (cond (not fits) (gives NoRoom t) (gives (Done x y) u) .answer) (fits ≡ true)
 left-by true x y t u = record { refused = (λ e. absurd (omega (arith, ap numberOf e)), λ e. absurd (e refl)); done = λ _. refl }
 left-by false x y t u = record { refused = (λ _ e. false≢true e, λ _. refl); done = λ e. absurd (false≢true e) }
 
@@ -72,9 +73,9 @@ none-enabled : (t : Tables) → Good t → (w : Wanted) → t .known ≤ deviceF
 none-enabled t g w h i e =
     let ds = take (t .known) (t .devices) in
     let l : length ds ≡ t .known = omega (arith, length-take (t .known) (t .devices), g .sized .devices, g .devices .most) in
-    let d = getD (t .devices) i noDevice in
+    let d = getD (t .devices) i beyondDevices in
     let no : answers (w .name) (w .length) d ≡ false =
-    rw (getD-take (t .known) (t .devices) i noDevice (e .known)) at (where-absent (answers (w .name) (w .length)) ds noDevice (omega arith) i (omega (arith, e .known))) in
+    rw (getD-take (t .known) (t .devices) i beyondDevices (e .known)) at (where-absent (answers (w .name) (w .length)) ds beyondDevices (omega arith) i (omega (arith, e .known))) in
     let is : answers (w .name) (w .length) d ≡ true = rw (lt-ltb 0 (w .length) (e .named), e .enabled, same-yes (d .name) (d .length) (w .name) (w .length) (e .same)) in
     false≢true (sym no ∙ is)
 
@@ -83,9 +84,9 @@ found-open : (t : Tables) → Good t → (channel : ℕ) → channelAt t channel
 found-open t g channel h =
     let cs = take (t .opened) (t .channels) in
     let l : length cs ≡ t .opened = omega (arith, length-take (t .opened) (t .channels), g .sized .channels, g .channels .most) in
-    let f : eqb (getD cs (channelAt t channel) noChannel .number) channel ≡ true =
-    where-found (λ (c : Channel). eqb (c .number) channel) cs noChannel (omega arith) in
-    record { row = h; number = eqb-true _ _ (rw (getD-take (t .opened) (t .channels) (channelAt t channel) noChannel h) at f) }
+    let f : eqb (getD cs (channelAt t channel) zeroChannel .number) channel ≡ true =
+    where-found (λ (c : Channel). eqb (c .number) channel) cs zeroChannel (omega arith) in
+    record { row = h; number = eqb-true _ _ (rw (getD-take (t .opened) (t .channels) (channelAt t channel) zeroChannel h) at f) }
 
 module _ (t : Tables) (ram output channel driver n : ℕ) (name : List ℕ) (s : Sized t) (p : Passes t ram output («open» channel driver n name)) where
   ready : Ready t ram
@@ -104,12 +105,12 @@ module _ (t : Tables) (ram output channel driver n : ℕ) (name : List ℕ) (s :
   few = is-false _ (λ e. p 8 (omega arith) (open-full (leb-true _ _ e)))
 
   -- it is done, or the room rule refuses it
-  pub open-left : Left (decided t ram output («open» channel driver n name) .answer) (roomFor t (t .room) (totalOf t + (16 + n)) ≡ true)
+  pub open-left : OnlyRoom (decided t ram output («open» channel driver n name) .answer) (roomFor t (t .room) (totalOf t + (16 + n)) ≡ true)
   unfolding heard onOpen onOpenNamed onOpenTo
   open-left = go (reading name) refl
     where
       go : (o : Option Reading) → reading name ≡ o
-          → Left (decided t ram output («open» channel driver n name) .answer) (roomFor t (t .room) (totalOf t + (16 + n)) ≡ true)
+          → OnlyRoom (decided t ram output («open» channel driver n name) .answer) (roomFor t (t .room) (totalOf t + (16 + n)) ≡ true)
       go none e = absurd (p 5 (omega arith) (open-name (unread-right name e)))
       go (some r) e =
           let w = wanted t r in
@@ -122,21 +123,21 @@ module _ (t : Tables) (ram output m : ℕ) (name : List ℕ) (s : Sized t) (p : 
   link-ready : Ready t ram
   link-ready = passes-ready t ram output (link m name) s refl p
 
-  capitals : linkTest name ≡ true
+  capitals : linkNameTest name ≡ true
   capitals = is-true _ (λ e. p 5 (omega arith) (link-name (λ h. false≢true (sym e ∙ link-finds name h))))
 
   room-left : leb 16 (t .known) ≡ false
   room-left = is-false _ (λ e. p 8 (omega arith) (link-full (leb-true _ _ e)))
 
   -- it is done, or R - m < 256 or the room rule refuses it
-  pub link-left : Left (decided t ram output (link m name) .answer) ((256 + m ≤ t .room) × (roomFor t (t .room - m) (totalOf t) ≡ true))
+  pub link-left : OnlyRoom (decided t ram output (link m name) .answer) ((256 + m ≤ t .room) × (roomFor t (t .room - m) (totalOf t) ≡ true))
   unfolding heard onLink
   link-left =
       rw (ready-heard t ram output (link m name) link-ready, capitals, room-left)
       (both-by (ltb (t .room) (256 + m)) (roomFor t (t .room - m) (totalOf t)) refl)
     where
       both-by : (low fits : Bool) → ltb (t .room) (256 + m) ≡ low
-          → Left (cond (low || not fits) (gives NoRoom t) (gives (Done (t .known) (t .room - m)) (linking t m (wordOf name) (length name))) .answer)
+          → OnlyRoom (cond (low || not fits) (gives NoRoom t) (gives (Done (t .known) (t .room - m)) (linking t m (wordOf name) (length name))) .answer)
           ((256 + m ≤ t .room) × (fits ≡ true))
       both-by true fits e =
           let h : t .room < 256 + m = ltb-true _ _ e in

@@ -3,7 +3,7 @@ use mathlib.Core.Path.{_≡_, refl}
 use mathlib.Core.List.{[], _∷_}
 use Prim.Native.Nat.{_-_}
 use native.Mathlib.Omega.{arith}
-use Rattle.names.specs.Definition.Tests.{nameTest}
+use Rattle.names.specs.Definition.Tests.{lettersTest}
 use Rattle.rows.specs.Definition.Lists.{upTo}
 use Rattle.rows.specs.Definition.Sizes.{chainLength, boundaryAt}
 use Rattle.kernel.specs.Definition.Reset.{noTables}
@@ -22,12 +22,12 @@ shared = decided (decided noTables 32768 0 (start 11074 (254 ∷ 255 ∷ [])) .t
 
 -- a link with 1 byte is refused for room
 pub link-refused : decided shared 32768 0 (link 1 (65 ∷ [])) .answer ≡ NoRoom
-unfolding shared decided noTables nameTest upTo chainLength boundaryAt grown shrunk
+unfolding shared decided noTables lettersTest upTo chainLength boundaryAt grown shrunk
 link-refused = refl
 
 -- and there is a layout with R - 1
 pub link-layout : Layout (records shared) (Outside shared (shared .room - 1) (offered shared))
-unfolding shared decided noTables nameTest upTo chainLength boundaryAt grown shrunk
+unfolding shared decided noTables lettersTest upTo chainLength boundaryAt grown shrunk
 link-layout = record {
   placed = λ i k. record { row = 0; offset = 0 };
   inside = λ i k b. absurd (omega arith);

@@ -21,14 +21,14 @@ use Rattle.history.specs.Room.Places.{lengthsOf, records, offered, Outsi
 use Rattle.history.specs.Room.Counts.{total-records}
 use Rattle.history.specs.Room.Bounds.{room-small, top-clear}
 use Rattle.history.specs.Room.RoomRule.{Clear, room-layout, layout-clear}
-use Rattle.history.specs.Room.Earlier.{Passes, Left, passes-ready, open-left, link-left}
+use Rattle.history.specs.Room.Earlier.{Passes, OnlyRoom, passes-ready, open-left, link-left}
 
 -- the open records and a new one with a buffer of n bytes
 abbrev pub recordsAnd : Tables → ℕ → List ℕ
 recordsAnd t n = records t ++ ((16 + n) ∷ [])
 
 -- what fits, said otherwise
-left-as : {answer : Answer} {P Q : Type 0} → Left answer P → P ↔ Q → Left answer Q
+left-as : {answer : Answer} {P Q : Type 0} → OnlyRoom answer P → P ↔ Q → OnlyRoom answer Q
 left-as l e = record { refused = (λ a q. l .refused .0 a (e .1 q), λ n. l .refused .1 (λ x. n (e .0 x))); done = λ q. l .done (e .1 q) }
 
 -- the first record has 16 bytes and more
@@ -39,7 +39,7 @@ first-record (c ∷ cs) (suc n) h l = (omega arith, omega arith)
 
 -- of an open that passes every earlier check: "in the places the system holds outside the user's part and, if nothing is shared, in the free segments"
 pub open-exactly : (t : Tables) (ram output channel driver n : ℕ) (name : List ℕ) → Sized t → Passes t ram output («open» channel driver n name)
-    → Left (decided t ram output («open» channel driver n name) .answer) (Layout (recordsAnd t n) (Outside t (t .room) (offered t)))
+    → OnlyRoom (decided t ram output («open» channel driver n name) .answer) (Layout (recordsAnd t n) (Outside t (t .room) (offered t)))
 open-exactly t ram output channel driver n name s p =
     let g : Good t = passes-ready t ram output («open» channel driver n name) s refl p .good in
     let long : total (recordsAnd t n) ≡ totalOf t + (16 + n) =
@@ -67,7 +67,7 @@ module _ (t : Tables) (ram output m : ℕ) (name : List ℕ) (s : Sized t) (p : 
   chain : t .held ≤ chainLength (t .room - m) (total (records t))
   chain = no-shorter t good (t .room - m) (total (records t)) (omega arith) (omega (arith, long))
 
-  pub link-exactly : Left (decided t ram output (link m name) .answer) (LinkFits t m)
+  pub link-exactly : OnlyRoom (decided t ram output (link m name) .answer) (LinkFits t m)
   link-exactly =
       let rule = room-layout t good (t .room - m) small (records t) chain in
       left-as (link-left t ram output m name s p) (
@@ -77,7 +77,7 @@ module _ (t : Tables) (ram output m : ℕ) (name : List ℕ) (s : Sized t) (p : 
 
   -- with a channel open, the layout alone says that the m bytes are no part of the user's
   pub link-exactly-open : 1 ≤ t .opened
-      → Left (decided t ram output (link m name) .answer) ((256 + m ≤ t .room) × Layout (records t) (Outside t (t .room - m) (offered t)))
+      → OnlyRoom (decided t ram output (link m name) .answer) ((256 + m ≤ t .room) × Layout (records t) (Outside t (t .room - m) (offered t)))
   link-exactly-open some =
       let first : (1 ≤ length (records t)) × (1 ≤ at (records t) 0) = first-record (t .channels) (t .opened) some (omega (arith, good .sized .channels)) in
       left-as link-exactly (

@@ -32,9 +32,9 @@ abbrev pub runAt : (xs : List ℕ) (at n : ℕ) → List ℕ
 runAt xs at n = take n (drop at xs)
 
 -- rows one after the other
-abbrev pub bytesOf : {A : Type 0} → (A → List ℕ) → List A → List ℕ
-bytesOf row [] = []
-bytesOf row (a ∷ rest) = row a ++ bytesOf row rest
+abbrev pub rowsBytes : {A : Type 0} → (A → List ℕ) → List A → List ℕ
+rowsBytes row [] = []
+rowsBytes row (a ∷ rest) = row a ++ rowsBytes row rest
 
 -- n rows of so many bytes each
 abbrev pub rowsOf : {A : Type 0} → (List ℕ → A) → (width n : ℕ) → List ℕ → List A
@@ -45,15 +45,15 @@ rowsOf row width (suc n) xs = row xs ∷ rowsOf row width n (drop width xs)
 abbrev pub channelBytes : Channel → List ℕ
 channelBytes c = u8Bytes (c .number) ++ u8Bytes (c .device) ++ u8Bytes (c .unit) ++ u16Bytes (c .n)
 
-abbrev pub channelOf : List ℕ → Channel
-channelOf xs = record { number = u8At xs 0; device = u8At xs 1; unit = u8At xs 2; n = u16At xs 3 }
+abbrev pub channelFrom : List ℕ → Channel
+channelFrom xs = record { number = u8At xs 0; device = u8At xs 1; unit = u8At xs 2; n = u16At xs 3 }
 
 -- 30 bytes
 abbrev pub deviceBytes : Device → List ℕ
 deviceBytes d = d .name ++ u8Bytes (d .length) ++ u8Bytes (bitOf (d .enabled))
 
-abbrev pub deviceOf : List ℕ → Device
-deviceOf xs = record { name = take 28 xs; length = u8At xs 28; enabled = flagOf (u8At xs 29) }
+abbrev pub deviceFrom : List ℕ → Device
+deviceFrom xs = record { name = take 28 xs; length = u8At xs 28; enabled = flagOf (u8At xs 29) }
 
 -- offsets 0 to 97
 unfoldable pub segmentBytes : Tables → List ℕ
@@ -65,7 +65,7 @@ boundaryBytes t = u16Bytes (t .user) ++ u16Bytes (t .room) ++ u16Bytes (t .cold)
 
 -- 104 to 745
 unfoldable pub rowBytes : Tables → List ℕ
-rowBytes t = u8Bytes (t .opened) ++ bytesOf channelBytes (t .channels) ++ u8Bytes (t .known) ++ bytesOf deviceBytes (t .devices)
+rowBytes t = u8Bytes (t .opened) ++ rowsBytes channelBytes (t .channels) ++ u8Bytes (t .known) ++ rowsBytes deviceBytes (t .devices)
 
 -- 746 to 775
 unfoldable pub defaultBytes : Tables → List ℕ
@@ -86,9 +86,9 @@ tablesOf xs =
       room = u16At xs 100;
       cold = u16At xs 102;
       opened = u8At xs 104;
-      channels = rowsOf channelOf 5 32 (drop 105 xs);
+      channels = rowsOf channelFrom 5 32 (drop 105 xs);
       known = u8At xs 265;
-      devices = rowsOf deviceOf 30 16 (drop 266 xs);
+      devices = rowsOf deviceFrom 30 16 (drop 266 xs);
       name = runAt xs 746 28;
       length = u8At xs 774;
       unit = u8At xs 775;

@@ -6,20 +6,20 @@ use Prim.Native.Nat.{ℕ, zero, suc, _+_, _*_, _/_, _%_, _<_, suc-le-suc}
 use native.Mathlib.Omega.{arith}
 use lib.ListN.{length, getD, take, drop, length-append}
 use lib.Seq.{getD-drop, drop-drop, drop-at, take-at}
-use Rattle.rows.specs.Definition.Channels.{noChannel}
-use Rattle.rows.specs.Definition.Devices.{noDevice}
+use Rattle.rows.specs.Definition.Channels.{zeroChannel}
+use Rattle.rows.specs.Definition.Devices.{beyondDevices}
 use Rattle.rows.specs.declared.Channel.{Channel}
 use Rattle.rows.specs.declared.Device.{Device}
 use Rattle.kernel.specs.Definition.Good.{Sized}
 use Rattle.kernel.specs.declared.Tables.{Tables}
 use Rattle.events.specs.Definition.Records.{u8At, u16At}
-use Rattle.image.specs.Definition.Image.{SIZE, u8Bytes, u16Bytes, bitOf, flagOf, runAt, bytesOf, rowsOf, channelBytes, channelOf, deviceBytes, deviceOf, segmentBytes, boundaryBytes, rowBytes, defaultBytes, imageOf, tablesOf}
+use Rattle.image.specs.Definition.Image.{SIZE, u8Bytes, u16Bytes, bitOf, flagOf, runAt, rowsBytes, rowsOf, channelBytes, channelFrom, deviceBytes, deviceFrom, segmentBytes, boundaryBytes, rowBytes, defaultBytes, imageOf, tablesOf}
 
 -- the arrays have their types' lengths
 pub record Whole (t : Tables) : Type 0 where
   pub sized : Sized t
   pub name : length (t .name) ≡ 28
-  pub names : (i : ℕ) → i < 16 → length (getD (t .devices) i noDevice .name) ≡ 28
+  pub names : (i : ℕ) → i < 16 → length (getD (t .devices) i beyondDevices .name) ≡ 28
 
 -- from `at` on stand the bytes ys, and then zs
 record At (xs : List ℕ) (at : ℕ) (ys zs : List ℕ) : Type 0 where
@@ -53,22 +53,22 @@ u16-is {xs} {zs} {at} v p =
 -- rows that tell themselves are told one after the other
 module _ {A : Type 0} (row : A → List ℕ) (read : List ℕ → A) (width : ℕ) (none : A) (P : A → Type 0)
     (long : (a : A) → P a → length (row a) ≡ width) (back : (a : A) (zs : List ℕ) → P a → read (row a ++ zs) ≡ a) where
-  rows-length : (rows : List A) → ((i : ℕ) → i < length rows → P (getD rows i none)) → length (bytesOf row rows) ≡ width * length rows
+  rows-length : (rows : List A) → ((i : ℕ) → i < length rows → P (getD rows i none)) → length (rowsBytes row rows) ≡ width * length rows
   rows-length [] h = omega arith
   rows-length (a ∷ rows) h =
       let l = long a (h 0 (omega arith)) in
       let m = rows-length rows (λ i g. h (suc i) (suc-le-suc g)) in
       let e : width + width * length rows ≡ width * suc (length rows) = omega arith in
-      length-append (row a) (bytesOf row rows) ∙ rw (l, m) e
+      length-append (row a) (rowsBytes row rows) ∙ rw (l, m) e
 
-  rows-back : (rows : List A) (zs : List ℕ) → ((i : ℕ) → i < length rows → P (getD rows i none)) → rowsOf read width (length rows) (bytesOf row rows ++ zs) ≡ rows
+  rows-back : (rows : List A) (zs : List ℕ) → ((i : ℕ) → i < length rows → P (getD rows i none)) → rowsOf read width (length rows) (rowsBytes row rows ++ zs) ≡ rows
   rows-back [] zs h = refl
   rows-back (a ∷ rows) zs h =
       let p = h 0 (omega arith) in
-      let more = bytesOf row rows ++ zs in
-      rw (append-assoc (row a) (bytesOf row rows) zs, back a more p, drop-at (row a) more width (long a p), rows-back rows zs (λ i g. h (suc i) (suc-le-suc g)))
+      let more = rowsBytes row rows ++ zs in
+      rw (append-assoc (row a) (rowsBytes row rows) zs, back a more p, drop-at (row a) more width (long a p), rows-back rows zs (λ i g. h (suc i) (suc-le-suc g)))
 
-channel-back : (c : Channel) (zs : List ℕ) → Unit {0} → channelOf (channelBytes c ++ zs) ≡ c
+channel-back : (c : Channel) (zs : List ℕ) → Unit {0} → channelFrom (channelBytes c ++ zs) ≡ c
 channel-back c zs u = let e : c .n % 256 + 256 * (c .n / 256) ≡ c .n = omega arith in rw e
 
 abbrev Named : Device → Type 0
@@ -84,7 +84,7 @@ flag-back false = refl
 device-is : (d : Device) (name : List ℕ) (long : ℕ) (enabled : Bool) → name ≡ d .name → long ≡ d .length → enabled ≡ d .enabled → _≡_ {A = Device} (record { name = name; length = long; enabled = enabled }) d
 device-is d name long enabled a b c = rw (a, b, c)
 
-device-back : (d : Device) (zs : List ℕ) → Named d → deviceOf (deviceBytes d ++ zs) ≡ d
+device-back : (d : Device) (zs : List ℕ) → Named d → deviceFrom (deviceBytes d ++ zs) ≡ d
 device-back d zs h =
     let b = bitOf (d .enabled) in
     let xs = deviceBytes d ++ zs in
@@ -127,10 +127,10 @@ rows-then o k a b rest = ap (λ (l : List ℕ). o ∷ l) (append-assoc (a ++ (k 
 
 module _ (t : Tables) where
   abbrev cs : List ℕ
-  cs = bytesOf channelBytes (t .channels)
+  cs = rowsBytes channelBytes (t .channels)
 
   abbrev ds : List ℕ
-  ds = bytesOf deviceBytes (t .devices)
+  ds = rowsBytes deviceBytes (t .devices)
 
   abbrev default : List ℕ
   default = t .name ++ (t .length ∷ t .unit ∷ [])
@@ -150,15 +150,15 @@ module _ (t : Tables) where
       (rows-then (t .opened) (t .known) cs ds (defaultBytes t) ∙ ap (λ (l : List ℕ). t .opened ∷ (cs ++ (t .known ∷ (ds ++ l)))) (append-assoc (t .name) (t .length ∷ []) (t .unit ∷ [])))
 
   module _ (w : Whole t) where
-    named : (i : ℕ) → i < length (t .devices) → Named (getD (t .devices) i noDevice)
+    named : (i : ℕ) → i < length (t .devices) → Named (getD (t .devices) i beyondDevices)
     named i h = w .names i (omega (arith, w .sized .devices))
 
     channels-length : length cs ≡ 160
     channels-length =
-        rows-length channelBytes channelOf 5 noChannel (λ c. Unit {0}) (λ c u. refl) channel-back (t .channels) (λ i h. tt) ∙ rw (w .sized .channels)
+        rows-length channelBytes channelFrom 5 zeroChannel (λ c. Unit {0}) (λ c u. refl) channel-back (t .channels) (λ i h. tt) ∙ rw (w .sized .channels)
 
     devices-length : length ds ≡ 480
-    devices-length = rows-length deviceBytes deviceOf 30 noDevice Named device-long device-back (t .devices) named ∙ rw (w .sized .devices)
+    devices-length = rows-length deviceBytes deviceFrom 30 beyondDevices Named device-long device-back (t .devices) named ∙ rw (w .sized .devices)
 
     pub image-length : length (imageOf t) ≡ SIZE
     unfolding imageOf segmentBytes boundaryBytes rowBytes defaultBytes
@@ -185,11 +185,11 @@ module _ (t : Tables) where
         let q₂ : At xs 746 (t .name) (t .length ∷ t .unit ∷ []) = next q₁ 480 devices-length refl in
         let q₃ : At xs 774 (t .length ∷ []) (t .unit ∷ []) = next q₂ 28 (w .name) refl in
         let q₄ : At xs 775 (t .unit ∷ []) [] = next q₃ 1 refl refl in
-        let c : rowsOf channelOf 5 32 (drop 105 xs) ≡ t .channels =
-        ap (rowsOf channelOf 5 32) (p₉ .is) ∙ ap (λ (n : ℕ). rowsOf channelOf 5 n (cs ++ (t .known ∷ (ds ++ default)))) (sym (w .sized .channels))
-        ∙ rows-back channelBytes channelOf 5 noChannel (λ c. Unit {0}) (λ c u. refl) channel-back (t .channels) (t .known ∷ (ds ++ default)) (λ i h. tt) in
-        let d : rowsOf deviceOf 30 16 (drop 266 xs) ≡ t .devices =
-        ap (rowsOf deviceOf 30 16) (q₁ .is) ∙ ap (λ (n : ℕ). rowsOf deviceOf 30 n (ds ++ default)) (sym (w .sized .devices))
-        ∙ rows-back deviceBytes deviceOf 30 noDevice Named device-long device-back (t .devices) default named in
+        let c : rowsOf channelFrom 5 32 (drop 105 xs) ≡ t .channels =
+        ap (rowsOf channelFrom 5 32) (p₉ .is) ∙ ap (λ (n : ℕ). rowsOf channelFrom 5 n (cs ++ (t .known ∷ (ds ++ default)))) (sym (w .sized .channels))
+        ∙ rows-back channelBytes channelFrom 5 zeroChannel (λ c. Unit {0}) (λ c u. refl) channel-back (t .channels) (t .known ∷ (ds ++ default)) (λ i h. tt) in
+        let d : rowsOf deviceFrom 30 16 (drop 266 xs) ≡ t .devices =
+        ap (rowsOf deviceFrom 30 16) (q₁ .is) ∙ ap (λ (n : ℕ). rowsOf deviceFrom 30 n (ds ++ default)) (sym (w .sized .devices))
+        ∙ rows-back deviceBytes deviceFrom 30 beyondDevices Named device-long device-back (t .devices) default named in
         tables-is t _ _ _ _ _ _ _ _ _ _ _ _ _ _ _ (u8-is p₀) (run-is p₁ 32 (w .sized .list)) (run-is p₂ 32 (w .sized .classes)) (u8-is p₃) (run-is p₄ 32 (w .sized .chain)) (u16-is (t .user) p₅)
         (u16-is (t .room) p₆) (u16-is (t .cold) p₇) (u8-is p₈) c (u8-is q₀) d (run-is q₂ 28 (w .name)) (u8-is q₃) (u8-is q₄)

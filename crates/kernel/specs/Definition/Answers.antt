@@ -1,7 +1,8 @@
 -- The answers: 01's number and values for each, and the rule that the lowest number wins.
-use mathlib.Core.Bool.{Bool, true, false, cond}
+use mathlib.Core.Bool.{Bool, cond, _||_}
 use mathlib.Core.List.{List, [], _∷_}
 use Prim.Native.Nat.{ℕ}
+use lib.Dec.{eqb}
 use Rattle.kernel.specs.declared.Tables.{Tables}
 use Rattle.kernel.specs.declared.Answer.{Answer}
 use Rattle.kernel.specs.declared.Answer.the-variants.{Done, BadTables, BadCall, NoChannel, Exists, BadName, NoDevice, Driver, Full, NoRoom, NoSegment, NotOwner, BadBoundary, BadRange, Guarded, BadFlags, BadStart, Shared}
@@ -70,24 +71,7 @@ bOf (Shared a b) = b
 
 -- "0 is done. 17 SHARED is a grant": the call was done, and not refused
 abbrev pub granted : Answer → Bool
-granted (Done a b) = true
-granted BadTables = false
-granted BadCall = false
-granted NoChannel = false
-granted Exists = false
-granted BadName = false
-granted NoDevice = false
-granted (Driver s) = false
-granted Full = false
-granted NoRoom = false
-granted NoSegment = false
-granted NotOwner = false
-granted BadBoundary = false
-granted BadRange = false
-granted Guarded = false
-granted BadFlags = false
-granted BadStart = false
-granted (Shared a b) = true
+granted answer = eqb (numberOf answer) 0 || eqb (numberOf answer) 17
 
 abbrev pub gives : Answer → Tables → Outcome
 gives answer t = record { answer = answer; tables = t }

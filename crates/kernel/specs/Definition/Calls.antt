@@ -8,14 +8,15 @@ use lib.Dec.{leb, ltb, eqb}
 use lib.ListN.{length}
 use Rattle.names.specs.Definition.Grammar.{Reading}
 use Rattle.names.specs.Definition.Read.{reading}
-use Rattle.names.specs.Definition.Tests.{linkTest, defaultTest}
+use Rattle.names.specs.Definition.Tests.{linkNameTest, defaultNameTest}
 use Rattle.names.specs.Definition.Words.{wordOf}
 use Rattle.kernel.specs.Definition.Tables.{SEGMENT, numberAt, rowOf, lowestFree, sharing, lastRow, channelAt, withDefault}
 use Rattle.kernel.specs.Definition.Line.{totalOf, sizeAt, boundaryOf, roomFor, opening, closing}
 use Rattle.kernel.specs.Definition.Segments.{someFree, mayShare, granting, sharingLast, mayFree, freeing, bounding, mayReach, reachOf, guarded}
 use Rattle.kernel.specs.Definition.Devices.{linking}
 use Rattle.kernel.specs.Definition.Reset.{otherBits, resetting, startTest, started}
-use Rattle.kernel.specs.Definition.Names.{Wanted, wanted, deviceFor}
+use Rattle.kernel.specs.Definition.Names.{wanted, deviceFor}
+use Rattle.kernel.specs.declared.open.Wanted.{Wanted}
 use Rattle.kernel.specs.Definition.Answers.{gives, unless, _when_}
 use Rattle.kernel.specs.declared.Tables.{Tables}
 use Rattle.kernel.specs.declared.Answer.the-variants.{Done, BadCall, NoChannel, Exists, BadName, NoDevice, Driver, Full, NoRoom, NoSegment, NotOwner, BadBoundary, BadRange, Guarded, BadFlags, BadStart, Shared}
@@ -39,7 +40,7 @@ pub data Call : Type 0 where
   store : (segment offset : ℕ) (bytes : List ℕ) → Call
   load : (segment offset size : ℕ) → Call
   -- no call: "kind unknown; body short of its fixed fields, or longer without name, data or list"
-  unknown : Call
+  no-call : Call
   -- a start whose body is short of its fixed field
   short-start : Call
 
@@ -59,7 +60,7 @@ isStart (allocate caller) = false
 isStart (free caller segment) = false
 isStart (store segment offset bytes) = false
 isStart (load segment offset size) = false
-isStart unknown = false
+isStart no-call = false
 isStart short-start = true
 
 -- `ram` and `output` are how many bytes are lent. Each call is first its refusals in the order of their numbers, then a, b "when done", quoted above it, and
@@ -129,7 +130,7 @@ onWrite t channel offset size =
 unfoldable pub onDefault : Tables → (unit : ℕ) (name : List ℕ) → Outcome
 unfolding wordOf
 onDefault t unit name =
-    unless (BadName when not (defaultTest name) ∷ []) t
+    unless (BadName when not (defaultNameTest name) ∷ []) t
     (gives (Done 0 0) (withDefault t (wordOf name) (length name) unit))
 
 -- "0, 5"
@@ -141,7 +142,7 @@ unfoldable pub onLink : Tables → (m : ℕ) (name : List ℕ) → Outcome
 unfolding wordOf roomFor linking
 onLink t m name =
     unless
-    (BadName when not (linkTest name)
+    (BadName when not (linkNameTest name)
     ∷ Full when leb 16 (t .known)
     ∷ NoRoom when (ltb (t .room) (256 + m) || not (roomFor t (t .room - m) (totalOf t)))
     ∷ []) t

@@ -12,23 +12,23 @@ use Rattle.kernel.specs.Definition.Line.{sizeAt, bufferAt}
 use Rattle.kernel.specs.Definition.Step.{accepted}
 use Rattle.kernel.specs.declared.Tables.{Tables}
 
--- where the part starts that is lent of a channel's buffer; nothing is lent where the channel is not open
-unfoldable pub lentOn : Tables → (channel : ℕ) → Lent
+-- of good tables: where the part starts that is lent of a channel's buffer; nothing is lent where the channel is not open
+unfoldable pub lentOnGood : Tables → (channel : ℕ) → Lent
 unfolding lentAt
-lentOn t channel =
+lentOnGood t channel =
     let i = channelAt t channel in
     cond (ltb i (t .opened)) (lentAt (t .chain) (t .room) (bufferAt t i) (sizeAt t i)) Nothing
 
--- the part, in the order of the RAM: the buffer's last byte first
+-- of any tables, with `ram` bytes lent: nothing where the tables are not good or the RAM has another length
+unfoldable pub lentOn : Tables → (ram channel : ℕ) → Lent
+unfolding lentOnGood
+lentOn t ram channel = cond (accepted t ram) (lentOnGood t channel) Nothing
+
+-- the part itself, in the order of the RAM: the buffer's last byte first
+unfoldable pub partOnGood : Tables → (ram : List ℕ) (channel : ℕ) → List ℕ
+unfolding lentOnGood partOf
+partOnGood t ram channel = partOf ram (sizeAt t (channelAt t channel)) (lentOnGood t channel)
+
 unfoldable pub partOn : Tables → (ram : List ℕ) (channel : ℕ) → List ℕ
 unfolding lentOn partOf
-partOn t ram channel = partOf ram (sizeAt t (channelAt t channel)) (lentOn t channel)
-
--- what is lent, of any tables and any RAM; the two above serve good tables alone. Nothing is lent where the tables are not good or the RAM has another length (`ram`: how many bytes are lent)
-unfoldable pub lentFrom : Tables → (ram channel : ℕ) → Lent
-unfolding lentOn
-lentFrom t ram channel = cond (accepted t ram) (lentOn t channel) Nothing
-
-unfoldable pub partFrom : Tables → (ram : List ℕ) (channel : ℕ) → List ℕ
-unfolding lentFrom partOf
-partFrom t ram channel = partOf ram (sizeAt t (channelAt t channel)) (lentFrom t (length ram) channel)
+partOn t ram channel = partOf ram (sizeAt t (channelAt t channel)) (lentOn t (length ram) channel)

@@ -5,7 +5,7 @@ use lib.Dec.{leb, eqb}
 use lib.ListN.{getD, take, set}
 use Rattle.rows.specs.Definition.Lists.{lastOf, without}
 use Rattle.rows.specs.Definition.Classes.{FREE, USER, SYSTEM, SHARED}
-use Rattle.rows.specs.Definition.Channels.{noChannel, sumOf}
+use Rattle.rows.specs.Definition.Channels.{zeroChannel, sumOf}
 use Rattle.rows.specs.Definition.Sizes.{chainLength, boundaryAt}
 use Rattle.rows.specs.declared.Channel.{Channel}
 use Rattle.kernel.specs.Definition.Tables.{SEGMENT, classAt, countOf, sharing, lastRow, withSegments, withChannels}
@@ -21,7 +21,7 @@ totalOf t = recordAt t (t .opened)
 
 -- "a 16-byte heading and then its buffer of n bytes": n, and the position where the buffer starts
 abbrev pub sizeAt : Tables → ℕ → ℕ
-sizeAt t i = getD (t .channels) i noChannel .n
+sizeAt t i = getD (t .channels) i zeroChannel .n
 
 abbrev pub bufferAt : Tables → ℕ → ℕ
 bufferAt t i = recordAt t i + 16
@@ -69,5 +69,5 @@ opening t c =
 -- "Close removes one": the row i
 unfoldable pub closing : Tables → ℕ → Tables
 closing t i =
-    let u = withChannels t (t .opened - 1) (without i (t .channels) noChannel) in
+    let u = withChannels t (t .opened - 1) (without i (t .channels) zeroChannel) in
     shrunk (t .held - chainLength (t .room) (totalOf u)) u

@@ -9,12 +9,7 @@ use Rattle.names.specs.declared.UnitNumber.{UnitNumber}
 use Rattle.names.specs.declared.UnitNumber.the-variants.{Given, Absent}
 use Rattle.rows.specs.Definition.Devices.{deviceIn}
 use Rattle.kernel.specs.declared.Tables.{Tables}
-
--- a device's name in 28 bytes with its length, and a unit
-pub record Wanted : Type 0 where
-  pub name : List ℕ
-  pub length : ℕ
-  pub unit : ℕ
+use Rattle.kernel.specs.declared.open.Wanted.{Wanted}
 
 -- "Device: up to 28 letters, upper-cased." "Name without unit means unit 0; unit without name means the default name; neither means the default name and unit."
 abbrev pub wantedBy : Tables → (letters : List ℕ) → UnitNumber → Wanted

@@ -10,22 +10,23 @@ use Rattle.names.specs.Definition.Grammar.{Reading, Reads}
 use Rattle.names.specs.Definition.Words.{LinkName, DefaultName}
 use Rattle.rows.specs.Definition.Lists.{padded}
 use Rattle.rows.specs.Definition.Classes.{FREE, USER, DEVICE, SHARED}
-use Rattle.rows.specs.Definition.Channels.{noChannel}
-use Rattle.rows.specs.Definition.Devices.{noDevice}
+use Rattle.rows.specs.Definition.Channels.{zeroChannel}
+use Rattle.rows.specs.Definition.Devices.{beyondDevices}
 use Rattle.rows.specs.Definition.Sizes.{chainLength, boundaryAt}
 use Rattle.rows.specs.Definition.Good.{ListGood, Same}
 use Rattle.kernel.specs.Definition.Tables.{SEGMENT, ramSize, numberAt, classAt, countOf}
 use Rattle.kernel.specs.Definition.Good.{Good}
 use Rattle.kernel.specs.Definition.Line.{totalOf, sizeAt, boundaryOf}
 use Rattle.kernel.specs.Definition.Segments.{reachOf}
-use Rattle.kernel.specs.Definition.Names.{Wanted, wanted}
-use Rattle.kernel.specs.Definition.Calls.{Call, start, reset, «open», close, read, write, default, status, link, set-user-boundary, allocate, free, store, load, unknown, short-start, isStart}
+use Rattle.kernel.specs.Definition.Names.{wanted}
+use Rattle.kernel.specs.declared.open.Wanted.{Wanted}
+use Rattle.kernel.specs.Definition.Calls.{Call, start, reset, «open», close, read, write, default, status, link, set-user-boundary, allocate, free, store, load, no-call, short-start, isStart}
 use Rattle.kernel.specs.declared.Tables.{Tables}
 
 -- the channel is open, and its row is i
 pub record OpenAt (t : Tables) (channel i : ℕ) : Type 0 where
   pub row : i < t .opened
-  pub number : getD (t .channels) i noChannel .number ≡ channel
+  pub number : getD (t .channels) i zeroChannel .number ≡ channel
 
 -- "255, or not open"
 abbrev pub NotOpen : Tables → ℕ → Type 0
@@ -44,8 +45,8 @@ Some t class = (row : ℕ) × (row < t .segments) × (classAt t row ≡ class)
 pub record Enabled (t : Tables) (w : Wanted) (i : ℕ) : Type 0 where
   pub known : i < t .known
   pub named : 1 ≤ w .length
-  pub enabled : getD (t .devices) i noDevice .enabled ≡ true
-  pub same : Same (getD (t .devices) i noDevice .name) (getD (t .devices) i noDevice .length) (w .name) (w .length)
+  pub enabled : getD (t .devices) i beyondDevices .enabled ≡ true
+  pub same : Same (getD (t .devices) i beyondDevices .name) (getD (t .devices) i beyondDevices .length) (w .name) (w .length)
 
 -- "Room rule", for a line of length n at the room r
 pub record Room (t : Tables) (r n : ℕ) : Type 0 where
@@ -67,7 +68,7 @@ Reached t row = (row ≡ 0) ⊎ ((classAt t row ≡ USER) ⊎ (classAt t row ≡
 pub record GuardedByte (offset : ℕ) : Type 0 where
   pub from : 48 ≤ offset
   pub to : offset ≤ 91
-  pub free : (offset ≢ 61) × (offset ≢ 62)
+  pub save : (offset ≢ 61) × (offset ≢ 62)
 
 -- "a bit other than 4, 5, 6"
 pub record OtherBit (flags k : ℕ) : Type 0 where
@@ -84,7 +85,7 @@ pub data Row (t : Tables) (ram output : ℕ) : (c : Call) (k : ℕ) → Type 0 w
   tables-bad : {c : Call} → NotStart c → ¬ Good t → Row t ram output c 1
   ram-wrong : {c : Call} → NotStart c → ram ≢ ramSize t → Row t ram output c 1
   -- 2 CALL: "kind unknown; body short of its fixed fields, or longer without name, data or list; caller not 0 or 1"
-  call-unknown : Row t ram output unknown 2
+  call-unknown : Row t ram output no-call 2
   start-short : Row t ram output short-start 2
   allocate-caller : {caller : ℕ} → 1 < caller → Row t ram output (allocate caller) 2
   free-caller : {caller segment : ℕ} → 1 < caller → Row t ram output (free caller segment) 2

@@ -5,8 +5,8 @@ use Prim.Native.Nat.{ℕ, _-_, _*_, _/_, _%_}
 use lib.Dec.{ltb, leb, eqb}
 use lib.ListN.{length, replicate}
 use Rattle.rows.specs.Definition.Lists.{padded}
-use Rattle.rows.specs.Definition.Classes.{fresh, released}
-use Rattle.rows.specs.Definition.Channels.{noChannel}
+use Rattle.rows.specs.Definition.Classes.{startClasses, released}
+use Rattle.rows.specs.Definition.Channels.{zeroChannel}
 use Rattle.rows.specs.Definition.Devices.{zeroDevice, builtIn}
 use Rattle.rows.specs.Definition.Tests.{listTest}
 use Rattle.rows.specs.declared.Device.{Device}
@@ -33,7 +33,7 @@ closesAll flags = bit4 flags || bit5 flags
 
 -- "bit 4 closes all channels"
 unfoldable pub emptying : Tables → Tables
-emptying t = shrunk (t .held - 1) (withChannels t 0 (replicate 32 noChannel))
+emptying t = shrunk (t .held - 1) (withChannels t 0 (replicate 32 zeroChannel))
 
 -- "then removes devices after 2, enables 0 to 2 and restores the cold R"
 unfoldable pub restoring : Tables → Tables
@@ -60,14 +60,14 @@ started room list =
     record {
       segments = length list;
       list = padded 32 list;
-      classes = fresh (length list);
+      classes = startClasses (length list);
       held = 1;
       chain = (length list - 1) ∷ replicate 31 0;
       user = 0;
       room = room;
       cold = room;
       opened = 0;
-      channels = replicate 32 noChannel;
+      channels = replicate 32 zeroChannel;
       known = 3;
       devices = builtIn;
       name = replicate {A = ℕ} 28 0;
@@ -88,7 +88,7 @@ noTables =
       room = 0;
       cold = 0;
       opened = 0;
-      channels = replicate 32 noChannel;
+      channels = replicate 32 zeroChannel;
       known = 0;
       devices = replicate {A = Device} 16 zeroDevice;
       name = replicate {A = ℕ} 28 0;

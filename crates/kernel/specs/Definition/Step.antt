@@ -4,16 +4,16 @@ use mathlib.Core.List.{List, [], _∷_}
 use Prim.Native.Nat.{ℕ, _+_, _-_, _*_}
 use lib.Dec.{eqb}
 use lib.ListN.{length, getD, take, drop, replicate}
-use Rattle.line.specs.Definition.Line.{lineFrom, putLine, opened, closed, linked}
+use Rattle.line.specs.Definition.Line.{lineFrom, putLine, afterOpen, afterClose, afterLink}
 use Rattle.line.specs.Definition.Ram.{putAt, taken}
 use Rattle.rows.specs.Definition.Classes.{FREE, USER, SYSTEM, DEVICE, SHARED}
-use Rattle.rows.specs.Definition.Channels.{noChannel}
+use Rattle.rows.specs.Definition.Channels.{zeroChannel}
 use Rattle.kernel.specs.Definition.Tables.{SEGMENT, ramSize, countOf, rowOf, channelAt}
 use Rattle.kernel.specs.Definition.Good.{goodTest}
 use Rattle.kernel.specs.Definition.Line.{totalOf, recordAt, sizeAt, bufferAt}
 use Rattle.kernel.specs.Definition.Reset.{closesAll, bit5}
 use Rattle.kernel.specs.Definition.Answers.{granted, gives, unless, _when_}
-use Rattle.kernel.specs.Definition.Calls.{Call, start, reset, «open», close, read, write, default, status, link, boundary, set-user-boundary, allocate, free, store, load, unknown, short-start, isStart, onStart, onReset, onOpen, onClose, onRead, onWrite, onDefault, onStatus, onLink, onBoundary, onSetUserBoundary, onAllocate, onFree, onStore, onLoad}
+use Rattle.kernel.specs.Definition.Calls.{Call, start, reset, «open», close, read, write, default, status, link, boundary, set-user-boundary, allocate, free, store, load, no-call, short-start, isStart, onStart, onReset, onOpen, onClose, onRead, onWrite, onDefault, onStatus, onLink, onBoundary, onSetUserBoundary, onAllocate, onFree, onStore, onLoad}
 use Rattle.kernel.specs.declared.Tables.{Tables}
 use Rattle.kernel.specs.declared.Answer.{Answer}
 use Rattle.kernel.specs.declared.Answer.the-variants.{BadTables, BadCall}
@@ -41,7 +41,7 @@ heard t ram output (allocate caller) = onAllocate t caller
 heard t ram output (free caller segment) = onFree t caller segment
 heard t ram output (store segment offset bytes) = onStore t segment offset (length bytes)
 heard t ram output (load segment offset size) = onLoad t output segment offset size
-heard t ram output unknown = gives BadCall t
+heard t ram output no-call = gives BadCall t
 heard t ram output short-start = gives BadCall t
 
 -- 1 TABLES: "not for start: tables not good, or RAM length wrong". The answer and the next tables depend on no byte of the RAM or the output:
@@ -53,12 +53,12 @@ decided t ram output c = unless (BadTables when not (isStart c || accepted t ram
 -- "Open appends a record, its buffer zero": the record of the row that the next tables have and these have not, at the end of the line
 abbrev pub ramOpened : (t u : Tables) → List ℕ → List ℕ
 ramOpened t u ram =
-    let c = getD (u .channels) (t .opened) noChannel in
-    opened (u .chain) (t .room) ram (totalOf t) (c .number) (c .device) (c .unit) (c .n)
+    let c = getD (u .channels) (t .opened) zeroChannel in
+    afterOpen (u .chain) (t .room) ram (totalOf t) (c .number) (c .device) (c .unit) (c .n)
 
 -- "Close removes one; later records move up and keep all their bytes": the record of row i
 abbrev pub ramClosed : Tables → List ℕ → ℕ → List ℕ
-ramClosed t ram i = closed (t .chain) (t .room) ram (recordAt t i) (16 + sizeAt t i) (totalOf t)
+ramClosed t ram i = afterClose (t .chain) (t .room) ram (recordAt t i) (16 + sizeAt t i) (totalOf t)
 
 -- "closes all channels": "positions that leave the line become zero"; "restores the cold R, the RAM gained becoming zero": offsets R to cold R - 1
 abbrev pub ramReset : Tables → List ℕ → ℕ → List ℕ
@@ -81,14 +81,14 @@ ramAfter t u ram (read channel offset size) = ram
 ramAfter t u ram (write channel offset bytes) = putLine (t .chain) (t .room) ram (bufferAt t (channelAt t channel) + offset) bytes
 ramAfter t u ram (default unit name) = ram
 ramAfter t u ram status = ram
-ramAfter t u ram (link m name) = linked (u .chain) (t .room) m ram (totalOf t)
+ramAfter t u ram (link m name) = afterLink (u .chain) (t .room) m ram (totalOf t)
 ramAfter t u ram boundary = ram
 ramAfter t u ram (set-user-boundary value) = ram
 ramAfter t u ram (allocate caller) = ram
 ramAfter t u ram (free caller segment) = ram
 ramAfter t u ram (store segment offset bytes) = putAt ram (segmentAt (rowOf t segment) + offset) bytes
 ramAfter t u ram (load segment offset size) = ram
-ramAfter t u ram unknown = ram
+ramAfter t u ram no-call = ram
 ramAfter t u ram short-start = ram
 
 -- "Status writes the counts free, user, system, device, shared."
@@ -112,7 +112,7 @@ outputAfter t ram (allocate caller) out = out
 outputAfter t ram (free caller segment) out = out
 outputAfter t ram (store segment offset bytes) out = out
 outputAfter t ram (load segment offset size) out = taken size (take size (drop (segmentAt (rowOf t segment) + offset) ram)) out
-outputAfter t ram unknown out = out
+outputAfter t ram no-call out = out
 outputAfter t ram short-start out = out
 
 -- what a call leaves

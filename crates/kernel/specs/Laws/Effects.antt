@@ -10,7 +10,7 @@ use lib.Dec.{eqb, ltb, leb}
 use lib.ListN.{length}
 use Rattle.names.specs.Definition.Grammar.{Reading}
 use Rattle.names.specs.Definition.Read.{reading}
-use Rattle.names.specs.Definition.Tests.{linkTest, defaultTest}
+use Rattle.names.specs.Definition.Tests.{linkNameTest, defaultNameTest}
 use Rattle.names.specs.Definition.Words.{wordOf, LinkName, DefaultName}
 use Rattle.names.specs.Laws.Runs.{link-right, default-right}
 use Rattle.rows.specs.Laws.Lists.{and-left, and-right}
@@ -21,9 +21,10 @@ use Rattle.kernel.specs.Definition.Line.{totalOf, sizeAt, boundaryOf, ro
 use Rattle.kernel.specs.Definition.Segments.{classFor, someFree, mayShare, mayFree, granting, sharingLast, freeing, bounding, mayReach, reachOf, guarded}
 use Rattle.kernel.specs.Definition.Devices.{linking}
 use Rattle.kernel.specs.Definition.Reset.{otherBits, resetting, startTest, started}
-use Rattle.kernel.specs.Definition.Names.{Wanted, wanted, deviceFor}
+use Rattle.kernel.specs.Definition.Names.{wanted, deviceFor}
+use Rattle.kernel.specs.declared.open.Wanted.{Wanted}
 use Rattle.kernel.specs.Definition.Answers.{numberOf, granted, gives}
-use Rattle.kernel.specs.Definition.Calls.{Call, start, reset, «open», close, read, write, default, status, link, boundary, set-user-boundary, allocate, free, store, load, unknown, short-start, isStart, onStart, onReset, onOpenTo, onOpenNamed, onOpen, onClose, onRead, onWrite, onDefault, onStatus, onLink, onBoundary, onSetUserBoundary, onAllocate, onFree, onStore, onLoad}
+use Rattle.kernel.specs.Definition.Calls.{Call, start, reset, «open», close, read, write, default, status, link, boundary, set-user-boundary, allocate, free, store, load, no-call, short-start, isStart, onStart, onReset, onOpenTo, onOpenNamed, onOpen, onClose, onRead, onWrite, onDefault, onStatus, onLink, onBoundary, onSetUserBoundary, onAllocate, onFree, onStore, onLoad}
 use Rattle.kernel.specs.Definition.Step.{accepted, heard, decided}
 use Rattle.kernel.specs.Laws.Fields.{Fields}
 use Rattle.kernel.specs.declared.Tables.{Tables}
@@ -123,7 +124,7 @@ module _ (t : Tables) (ram : ℕ) where
 
   default-effect : (unit : ℕ) (name : List ℕ) → Effect t ram (onDefault t unit name)
   unfolding onDefault
-  default-effect unit name = past (not (defaultTest name)) _ _ refl (λ e. names _ _ unit name (default-right name (not-false _ e)))
+  default-effect unit name = past (not (defaultNameTest name)) _ _ refl (λ e. names _ _ unit name (default-right name (not-false _ e)))
 
   status-effect : (output : ℕ) → Effect t ram (onStatus t output)
   unfolding onStatus
@@ -132,7 +133,7 @@ module _ (t : Tables) (ram : ℕ) where
   link-effect : (m : ℕ) (name : List ℕ) → Effect t ram (onLink t m name)
   unfolding onLink
   link-effect m name =
-      past (not (linkTest name)) _ _ refl (λ e.
+      past (not (linkNameTest name)) _ _ refl (λ e.
       past (leb 16 (t .known)) _ _ refl (λ few.
       past (ltb (t .room) (256 + m) || not (roomFor t (t .room - m) (totalOf t))) _ _ refl (λ fits.
       links _ _ m name (link-right name (not-false _ e)) (leb-false _ _ few)
@@ -205,7 +206,7 @@ module _ (t : Tables) (ram : ℕ) where
   heard-effect output (free caller segment) f = free-effect caller segment
   heard-effect output (store segment offset bytes) f = store-effect segment offset (length bytes)
   heard-effect output (load segment offset size) f = load-effect output segment offset size
-  heard-effect output unknown f = refuses BadCall refl
+  heard-effect output no-call f = refuses BadCall refl
   heard-effect output short-start f = refuses BadCall refl
 
   barred : (starting right : Bool) (o : Outcome) → accepted t ram ≡ right → Effect t ram o → Effect t ram (cond (not (starting || right)) (gives BadTables t) o)

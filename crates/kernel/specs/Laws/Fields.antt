@@ -1,6 +1,6 @@
 -- What the numbers of a call's body can be.
 use Prim.Native.Nat.{ℕ, _<_}
-use Rattle.kernel.specs.Definition.Calls.{Call, start, reset, «open», close, read, write, default, status, link, boundary, set-user-boundary, allocate, free, store, load, unknown, short-start}
+use Rattle.kernel.specs.Definition.Calls.{Call, start, reset, «open», close, read, write, default, status, link, boundary, set-user-boundary, allocate, free, store, load, no-call, short-start}
 
 -- "u8, u16 below"
 abbrev pub U8 : ℕ → Type 0
@@ -25,5 +25,5 @@ Fields (allocate caller) = U8 caller
 Fields (free caller segment) = U8 caller × U8 segment
 Fields (store segment offset bytes) = U8 segment × U16 offset
 Fields (load segment offset size) = U8 segment × U16 offset × U16 size
-Fields unknown = Unit {0}
+Fields no-call = Unit {0}
 Fields short-start = Unit {0}

@@ -10,7 +10,7 @@ use lib.Seq.{getD-take}
 use Rattle.rows.specs.Definition.Lists.{firstOf, without}
 use Rattle.rows.specs.Laws.Lists.{and-left, and-right}
 use Rattle.rows.specs.Definition.Classes.{FREE, SHARED}
-use Rattle.rows.specs.Definition.Channels.{noChannel, sumOf}
+use Rattle.rows.specs.Definition.Channels.{zeroChannel, sumOf}
 use Rattle.rows.specs.Definition.Sizes.{chainLength, boundaryAt}
 use Rattle.rows.specs.Laws.Sizes.{length-mono, edge-falls, chain-most}
 use Rattle.rows.specs.Laws.Counts.{first-found, first-none}
@@ -73,7 +73,7 @@ pub fill : (t : Tables) → Body t → t .held ≤ chainLength (t .room) (totalO
 fill t b h e = fill-by t (chainLength (t .room) (totalOf t) - t .held) b (omega arith) e (sharing t) refl
 
 pub opening-keeps : (t : Tables) (c : Channel) → Good t → t .opened < 32 → c .number < 255 → c .device < t .known
-    → ((i : ℕ) → i < t .opened → getD (t .channels) i noChannel .number ≡ c .number → ⊥)
+    → ((i : ℕ) → i < t .opened → getD (t .channels) i zeroChannel .number ≡ c .number → ⊥)
     → roomFor t (t .room) (totalOf t + (16 + c .n)) ≡ true → Good (opening t c)
 unfolding opening roomFor
 opening-keeps t c g h a b new e =
@@ -92,17 +92,17 @@ unfolding closing
 closing-keeps t i g h =
     let m = g .channels .most in
     let l = g .sized .channels in
-    let cs = without i (t .channels) noChannel in
+    let cs = without i (t .channels) zeroChannel in
     let u = withChannels t (t .opened - 1) cs in
     let e : t .opened ≡ suc (t .opened - 1) = omega arith in
     let s : totalOf u ≤ totalOf t =
     omega (
       arith,
-      sum-without noChannel noChannel i (t .channels) (t .opened - 1) (omega arith) (omega arith),
+      sum-without zeroChannel zeroChannel i (t .channels) (t .opened - 1) (omega arith) (omega arith),
       ap (λ (k : ℕ). sumOf (take k (t .channels))) e,
     ) in
     cut u
-    (body-channels t (t .opened - 1) cs (length-without noChannel noChannel i (t .channels) (omega arith) ∙ l)
+    (body-channels t (t .opened - 1) cs (length-without zeroChannel zeroChannel i (t .channels) (omega arith) ∙ l)
     (channels-less (t .channels) (t .opened) (t .known) i l h (g .channels)) (body t g))
     (omega (arith, g .line, length-mono (t .room) (t .room) (totalOf u) (totalOf t) (omega arith) s))
     (λ q. omega (arith, g .user .most, edge-falls (t .room) (totalOf u) (totalOf t) s (q ∙ g .line)))

@@ -8,7 +8,7 @@ use native.Mathlib.Omega.{arith}
 use lib.ListN.{length, replicate, length-map, length-replicate}
 use Rattle.rows.specs.Definition.Lists.{padded}
 use Rattle.rows.specs.Definition.Classes.{released}
-use Rattle.rows.specs.Definition.Channels.{noChannel}
+use Rattle.rows.specs.Definition.Channels.{zeroChannel}
 use Rattle.rows.specs.Definition.Devices.{builtIn}
 use Rattle.rows.specs.Definition.Sizes.{chainLength}
 use Rattle.rows.specs.Laws.Sizes.{length-mono, length-low, edge-low, edge-falls}
@@ -31,15 +31,15 @@ use Rattle.kernel.specs.declared.Tables.{Tables}
 pub emptying-keeps : (t : Tables) → Good t → Good (emptying t)
 unfolding emptying
 emptying-keeps t g =
-    let cs : List Channel = replicate 32 noChannel in
+    let cs : List Channel = replicate 32 zeroChannel in
     let low : chainLength (t .room) 0 ≡ 1 = length-low (t .room) 0 (omega arith) in
-    rw low at (cut (withChannels t 0 cs) (body-channels t 0 cs (length-replicate 32 noChannel) (no-channels (t .known)) (body t g))
+    rw low at (cut (withChannels t 0 cs) (body-channels t 0 cs (length-replicate 32 zeroChannel) (no-channels (t .known)) (body t g))
     (omega (arith, g .line, length-mono (t .room) (t .room) 0 (totalOf t) (omega arith) (omega arith)))
     (λ q. omega (arith, g .user .most, edge-falls (t .room) 0 (totalOf t) (omega arith) (q ∙ g .line))))
 
 pub emptying-opened : (t : Tables) → emptying t .opened ≡ 0
 unfolding emptying
-emptying-opened t = shrunk-rest (t .held - 1) (withChannels t 0 (replicate 32 noChannel)) .opened
+emptying-opened t = shrunk-rest (t .held - 1) (withChannels t 0 (replicate 32 zeroChannel)) .opened
 
 -- bit 5, once the channels are closed
 pub restoring-keeps : (t : Tables) → Good t → t .opened ≡ 0 → Good (restoring t)

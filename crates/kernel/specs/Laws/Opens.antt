@@ -7,7 +7,7 @@ use native.Mathlib.Omega.{arith}
 use lib.Dec.{leb}
 use lib.ListN.{getD, set}
 use lib.Seq.{getD-set-same}
-use Rattle.rows.specs.Definition.Channels.{noChannel}
+use Rattle.rows.specs.Definition.Channels.{zeroChannel}
 use Rattle.rows.specs.Laws.ChannelRows.{sum-set}
 use Rattle.rows.specs.Definition.Sizes.{chainLength}
 use Rattle.rows.specs.declared.Channel.{Channel}
@@ -63,12 +63,12 @@ module _ (t : Tables) (c : Channel) (g : Good t) (new : New t c) (fits : Fits t 
   pub opening-held : t .held + (chainLength (t .room) (totalOf t + (16 + c .n)) - t .held) ≤ 32
   opening-held = omega (arith, opening-good .chain .most, opening-rest .held)
 
-  pub opening-row : getD (opening t c .channels) (t .opened) noChannel ≡ c
+  pub opening-row : getD (opening t c .channels) (t .opened) zeroChannel ≡ c
   unfolding opening
   opening-row =
       let k = chainLength (t .room) (totalOf t + (16 + c .n)) - t .held in
       let u = withChannels t (t .opened + 1) (set (t .channels) (t .opened) c) in
-      rw (grown-channels k u) (getD-set-same (t .channels) (t .opened) c noChannel (omega (arith, g .sized .channels, fits .few)))
+      rw (grown-channels k u) (getD-set-same (t .channels) (t .opened) c zeroChannel (omega (arith, g .sized .channels, fits .few)))
 
   pub opening-chain : (size : ℕ) → size ≡ ramSize t → Chain (opening t c .chain) (t .room) (totalOf t + (16 + c .n)) size
   opening-chain size e =

@@ -11,7 +11,7 @@ use lib.ListN.{length, set, replicate}
 use Rattle.rows.specs.Definition.Lists.{padded, without}
 use Rattle.rows.specs.Laws.Lists.{and-left, and-right}
 use Rattle.rows.specs.Definition.Classes.{SHARED}
-use Rattle.rows.specs.Definition.Channels.{noChannel}
+use Rattle.rows.specs.Definition.Channels.{zeroChannel}
 use Rattle.rows.specs.Definition.Devices.{added}
 use Rattle.rows.specs.Definition.Sizes.{chainLength}
 use Rattle.rows.specs.Definition.Tests.{listTest}
@@ -81,7 +81,7 @@ opening-size t c =
 closing-size : (t : Tables) (i : ℕ) → closing t i .segments ≡ t .segments
 unfolding closing
 closing-size t i =
-    let u = withChannels t (t .opened - 1) (without i (t .channels) noChannel) in
+    let u = withChannels t (t .opened - 1) (without i (t .channels) zeroChannel) in
     shrunk-rest (t .held - chainLength (t .room) (totalOf u)) u .segments
 
 linking-size : (t : Tables) (m : ℕ) (name : List ℕ) (n : ℕ) → linking t m name n .segments ≡ t .segments
@@ -95,7 +95,7 @@ freeing-size t row = elim (ℕ-discrete (classAt t row) SHARED) [ yes q ↦ rw (
 
 emptying-size : (t : Tables) → emptying t .segments ≡ t .segments
 unfolding emptying
-emptying-size t = shrunk-rest (t .held - 1) (withChannels t 0 (replicate 32 noChannel)) .segments
+emptying-size t = shrunk-rest (t .held - 1) (withChannels t 0 (replicate 32 zeroChannel)) .segments
 
 cond-size : (b : Bool) (u v : Tables) (n : ℕ) → u .segments ≡ n → v .segments ≡ n → cond b u v .segments ≡ n
 cond-size true u v n e f = e

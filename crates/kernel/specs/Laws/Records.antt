@@ -4,7 +4,7 @@ use Prim.Native.Nat.{ℕ, zero, suc, _+_, _≤_, _<_}
 use native.Mathlib.Nat.{not-suc-le-zero, le-of-suc-le-suc}
 use native.Mathlib.Omega.{arith}
 use lib.ListN.{take}
-use Rattle.rows.specs.Definition.Channels.{noChannel, sumOf}
+use Rattle.rows.specs.Definition.Channels.{zeroChannel, sumOf}
 use Rattle.rows.specs.Laws.ChannelRows.{sum-more}
 use Rattle.rows.specs.declared.Channel.{Channel}
 use Rattle.kernel.specs.Definition.Good.{Good}
@@ -20,4 +20,4 @@ sum-mono (x ∷ xs) (suc i) (suc n) h = omega (arith, sum-mono xs i n (le-of-suc
 
 pub record-within : (t : Tables) (i : ℕ) → Good t → i < t .opened → recordAt t i + (16 + sizeAt t i) ≤ totalOf t
 record-within t i g h =
-    omega (arith, sum-more (t .channels) i noChannel (omega (arith, g .sized .channels, g .channels .most)), sum-mono (t .channels) (i + 1) (t .opened) (omega arith))
+    omega (arith, sum-more (t .channels) i zeroChannel (omega (arith, g .sized .channels, g .channels .most)), sum-mono (t .channels) (i + 1) (t .opened) (omega arith))

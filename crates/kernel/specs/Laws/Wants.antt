@@ -12,12 +12,8 @@ use Rattle.names.specs.Definition.Parts.{device, unit, partsOf}
 use Rattle.names.specs.Laws.Places.{parts-read}
 use Rattle.names.specs.declared.UnitNumber.{UnitNumber}
 use Rattle.names.specs.declared.Parts.the-variants.{Read}
-use Rattle.kernel.specs.Definition.Names.{Wanted, wanted, wantedBy}
-use Rattle.kernel.specs.declared.open.Sought.{Sought}
+use Rattle.kernel.specs.Definition.Names.{wanted, wantedBy}
 use Rattle.kernel.specs.declared.Tables.{Tables}
-
-abbrev pub wantedOf : Sought → Wanted
-wantedOf w = record { name = w .name; length = w .length; unit = w .unit }
 
 -- a device's letters are few
 few-letters : (s : List ℕ) (r : Reading) → Reads s r → length (device r) ≤ 28

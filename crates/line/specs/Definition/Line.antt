@@ -52,19 +52,19 @@ headingOf length channel device unit =
     ∷ []
 
 -- "Open appends a record, its buffer zero." "length L = 16 + n"
-unfoldable pub opened : List ℕ → ℕ → List ℕ → (total number device unit n : ℕ) → List ℕ
-opened chain room ram total number device unit n =
+unfoldable pub afterOpen : List ℕ → ℕ → List ℕ → (total number device unit n : ℕ) → List ℕ
+afterOpen chain room ram total number device unit n =
     putLine chain room ram total (headingOf (16 + n) number device unit ++ replicate n 0)
 
 -- "Close removes one; later records move up and keep all their bytes; positions that leave the line become zero."
 -- The record is the gap bytes from position start of a line of total bytes.
-unfoldable pub closed : List ℕ → ℕ → List ℕ → (start gap total : ℕ) → List ℕ
-closed chain room ram start gap total =
+unfoldable pub afterClose : List ℕ → ℕ → List ℕ → (start gap total : ℕ) → List ℕ
+afterClose chain room ram start gap total =
     putLine chain room ram start (lineFrom chain room ram (start + gap) (total - gap - start) ++ replicate gap 0)
 
 -- "R falls by m, the line keeps its positions and so moves down, and offsets from the new R to the old R - 1 become zero."
-unfoldable pub linked : List ℕ → (room m : ℕ) → List ℕ → (total : ℕ) → List ℕ
-linked chain room m ram total =
+unfoldable pub afterLink : List ℕ → (room m : ℕ) → List ℕ → (total : ℕ) → List ℕ
+afterLink chain room m ram total =
     putLine chain room (putLine chain (room - m) ram 0 (lineFrom chain room ram 0 total)) 0 (replicate m 0)
 
 -- a chain that holds a line of total bytes in a RAM of size bytes: the segments that it holds are in the RAM, no two are the same, and the line is no longer than they

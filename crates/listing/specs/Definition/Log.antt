@@ -64,13 +64,13 @@ turn more t ram out (found kind body rest) =
     let r = logStep t ram out kind body in lineAfter kind r ++ more (r .tables) (r .ram) (r .output) rest
 
 -- at most k records
-unfoldable pub run : (k : ℕ) → Tables → (ram out xs : List ℕ) → List ℕ
-run zero t ram out xs = []
-run (suc k) t ram out xs = turn (run k) t ram out (next xs)
+unfoldable pub textIn : (k : ℕ) → Tables → (ram out xs : List ℕ) → List ℕ
+textIn zero t ram out xs = []
+textIn (suc k) t ram out xs = turn (textIn k) t ram out (next xs)
 
 -- the text of a log, from tables, RAM and output as they stand; a record takes four bytes, so that there are turns enough
 unfoldable pub textFrom : Tables → (ram out xs : List ℕ) → List ℕ
-textFrom t ram out xs = run (length xs) t ram out xs
+textFrom t ram out xs = textIn (length xs) t ram out xs
 
 -- "It reads event records .., lends at most four segments and 4,096 bytes of output, and prints a line a record"
 unfoldable pub listing : List ℕ → List ℕ

@@ -11,7 +11,7 @@ use lib.Seq.{getD-set-same, getD-set-other}
 use Rattle.rows.specs.Definition.Lists.{upTo}
 use Rattle.rows.specs.Definition.Sizes.{chainLength, boundaryAt}
 use Rattle.line.specs.Definition.Ram.{bytesFrom, putFrom, taken}
-use Rattle.line.specs.Definition.Line.{chainIndexOf, offsetOf, placeOf, opened, closed}
+use Rattle.line.specs.Definition.Line.{chainIndexOf, offsetOf, placeOf, afterOpen, afterClose}
 use Rattle.line.proofs.Walks.{length-put}
 use Rattle.kernel.specs.Definition.Line.{grown, shrunk}
 use Rattle.kernel.specs.Definition.Calls.{Call}
@@ -125,7 +125,7 @@ unfolding left next lentTo lineOf showsOf fieldsOf decimalOf decimalIn
 said-7 = says Any Any 7 refl refl refl (λ ram out h g p. record { line-is = refl; ram-length = h; output-length = g; such = tt }) said-8
 
 said-6 : Says Any 6
-unfolding left next lentTo lineOf showsOf fieldsOf decimalOf decimalIn closed
+unfolding left next lentTo lineOf showsOf fieldsOf decimalOf decimalIn afterClose
 said-6 =
     says Any Any 6 refl refl refl
     (λ ram out h g p. record { line-is = refl; ram-length = length-put _ _ ram _ ∙ h; output-length = g; such = tt }) said-7
@@ -167,7 +167,7 @@ unfolding left next lentTo lineOf showsOf fieldsOf decimalOf decimalIn
 said-2 = says Any Any 2 refl refl refl (λ ram out h g p. record { line-is = refl; ram-length = h; output-length = g; such = tt }) said-3
 
 said-1 : Says Any 1
-unfolding left next lentTo lineOf showsOf fieldsOf decimalOf decimalIn opened
+unfolding left next lentTo lineOf showsOf fieldsOf decimalOf decimalIn afterOpen
 said-1 =
     says Any Any 1 refl refl refl
     (λ ram out h g p. record { line-is = refl; ram-length = length-put _ _ ram _ ∙ h; output-length = g; such = tt }) said-2

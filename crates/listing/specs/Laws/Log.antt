@@ -11,7 +11,7 @@ use borrow.Author.Tests.{eq-eqb, eqb-false}
 use Rattle.kernel.specs.Definition.Step.{decided, completed, step}
 use Rattle.kernel.specs.declared.Tables.{Tables}
 use Rattle.events.specs.Definition.Records.{u16At, decode}
-use Rattle.listing.specs.Definition.Log.{logStep, lineAfter, lentTo, Next, finished, broken, found, next, turn, run, textFrom, badText}
+use Rattle.listing.specs.Definition.Log.{logStep, lineAfter, lentTo, Next, finished, broken, found, next, turn, textIn, textFrom, badText}
 
 only : (b₁ b₂ b₃ b₄ b₅ : Bool) (k k′ : ℕ) (b b′ r r′ : List ℕ)
     → cond b₁ finished (cond b₂ broken (cond b₃ broken (cond b₄ broken (cond b₅ broken (found k b r))))) ≡ found k′ b′ r′ → (b₁ ≡ false) × (r ≡ r′)
@@ -49,21 +49,21 @@ same-on f g t ram out (found kind body rest) h =
     ap (λ (l : List ℕ). lineAfter kind r ++ l) (h (r .tables) (r .ram) (r .output) kind body rest refl)
 
 -- more turns than bytes change nothing
-enough : (k m : ℕ) (t : Tables) (ram out xs : List ℕ) → length xs ≤ k → length xs ≤ m → run k t ram out xs ≡ run m t ram out xs
-unfolding run turn
+enough : (k m : ℕ) (t : Tables) (ram out xs : List ℕ) → length xs ≤ k → length xs ≤ m → textIn k t ram out xs ≡ textIn m t ram out xs
+unfolding textIn turn
 enough zero zero t ram out xs h g = refl
 enough zero (suc m) t ram out xs h g = rw (next-none xs h)
 enough (suc k) zero t ram out xs h g = rw (next-none xs g)
 enough (suc k) (suc m) t ram out xs h g =
-    same-on (run k) (run m) t ram out (next xs)
+    same-on (textIn k) (textIn m) t ram out (next xs)
     (λ t′ ram′ out′ kind body rest e. enough k m t′ ram′ out′ rest (omega (arith, shorter xs kind body rest e)) (omega (arith, shorter xs kind body rest e)))
 
 -- the whole log is one turn on its front, and the text of the rest: no record is left out
 pub text-turn : (t : Tables) (ram out xs : List ℕ) → textFrom t ram out xs ≡ turn textFrom t ram out (next xs)
-unfolding textFrom run turn
+unfolding textFrom textIn turn
 text-turn t ram out [] = rw (next-none [] (omega arith))
 text-turn t ram out (x ∷ xs) =
-    same-on (run (length xs)) textFrom t ram out (next (x ∷ xs))
+    same-on (textIn (length xs)) textFrom t ram out (next (x ∷ xs))
     (λ t′ ram′ out′ kind body rest e. enough (length xs) (length rest) t′ ram′ out′ rest (omega (arith, shorter (x ∷ xs) kind body rest e)) (omega arith))
 
 pub text-found : (t : Tables) (ram out xs : List ℕ) (kind : ℕ) (body rest : List ℕ) → next xs ≡ found kind body rest
@@ -76,7 +76,7 @@ unfolding turn
 text-broken t ram out xs e = text-turn t ram out xs ∙ rw e
 
 pub text-finished : (t : Tables) (ram out : List ℕ) → textFrom t ram out [] ≡ []
-unfolding textFrom run
+unfolding textFrom textIn
 text-finished t ram out = refl
 
 -- a call that is lent all four segments: what it leaves, by their length alone

@@ -5,7 +5,7 @@ use borrow.Author.Tests.{eqb-true}
 use mathlib.Core.Path.{sym, _∙_}
 use mathlib.Core.Bool.{and-eq-true-iff}
 use Rattle.names.specs.Definition.Tests.{allOf}
-use Rattle.names.specs.Definition.Read.{numberOf}
+use Rattle.names.specs.Definition.Read.{cappedNumber}
 use Rattle.names.specs.Laws.Runs.{all-run}
 use Rattle.names.specs.declared.Kind.the-variants.{Digit}
 use borrow.Author.Needs.{needs}
@@ -23,11 +23,11 @@ value-of-requires c κs =
     all-run Digit s (sym (c .before .run .ensures) ∙ eqb-true n (length s) all)
 
 returns : tie.Need-returns
-unfolding numberOf allOf
+unfolding cappedNumber allOf
 returns c = rw (← c .before .before .run .ensures, c .before .if1 .taken) (c .value-of .ensures)
 
 returns-2 : tie.Need-returns-2
-unfolding numberOf allOf
+unfolding cappedNumber allOf
 returns-2 c = rw (← c .before .run .ensures, c .if1 .left)
 
 pub number-spec : {M : Type 1} → statement M

@@ -14,13 +14,13 @@ unfoldable pub capped : ℕ → ℕ
 capped n = cond (leb n 256) n 256
 
 -- the number of one or more digits, capped; 256 where the bytes are no digits
-unfoldable pub numberOf : List ℕ → ℕ
+unfoldable pub cappedNumber : List ℕ → ℕ
 unfolding capped allOf
-numberOf ds = cond (leb 1 (length ds) && allOf Digit ds) (capped (value 0 ds)) 256
+cappedNumber ds = cond (leb 1 (length ds) && allOf Digit ds) (capped (value 0 ds)) 256
 
 unfoldable pub withDigits : List ℕ → UnitPart → List ℕ → List ℕ → Option Reading
-unfolding numberOf
-withDigits d u ds f = cond (leb (numberOf ds) 255) (some (full d u f)) none
+unfolding cappedNumber
+withDigits d u ds f = cond (leb (cappedNumber ds) 255) (some (full d u f)) none
 
 -- `rest` is what stands between the device and the colon
 unfoldable pub withUnit : List ℕ → List ℕ → List ℕ → Option Reading

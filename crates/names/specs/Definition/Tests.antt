@@ -28,12 +28,12 @@ unfolding allOf
 fileTest bs = leb (length bs) 28 && allOf FileByte bs
 
 -- 1 to 28 bytes of the kind
-unfoldable pub nameTest : Kind → List ℕ → Bool
+unfoldable pub lettersTest : Kind → List ℕ → Bool
 unfolding allOf
-nameTest k bs = leb 1 (length bs) && leb (length bs) 28 && allOf k bs
+lettersTest k bs = leb 1 (length bs) && leb (length bs) 28 && allOf k bs
 
-abbrev pub linkTest : List ℕ → Bool
-linkTest = nameTest Capital
+abbrev pub linkNameTest : List ℕ → Bool
+linkNameTest = lettersTest Capital
 
-abbrev pub defaultTest : List ℕ → Bool
-defaultTest = nameTest Letter
+abbrev pub defaultNameTest : List ℕ → Bool
+defaultNameTest = lettersTest Letter

@@ -12,7 +12,7 @@ use native.Mathlib.Numerals.{add-one}
 use native.Mathlib.Decide.{decLe}
 use Rattle.names.specs.Definition.Grammar.{All, value, DigitsRule}
 use Rattle.names.specs.Definition.Tests.{allOf}
-use Rattle.names.specs.Definition.Read.{capped, numberOf}
+use Rattle.names.specs.Definition.Read.{capped, cappedNumber}
 use Rattle.names.specs.Laws.Runs.{all-right, all-finds}
 use Rattle.names.specs.declared.Kind.the-variants.{Digit}
 
@@ -69,14 +69,14 @@ all-at P [] i a h = absurd (omega arith)
 all-at P (b ∷ bs) zero a h = a .0
 all-at P (b ∷ bs) (suc i) a h = all-at P bs i (a .1) (omega arith)
 
--- ---- numberOf and the rule
+-- ---- cappedNumber and the rule
 
-pub number-finds : (ds : List ℕ) → DigitsRule ds → numberOf ds ≡ value 0 ds
-unfolding numberOf
+pub number-finds : (ds : List ℕ) → DigitsRule ds → cappedNumber ds ≡ value 0 ds
+unfolding cappedNumber
 number-finds ds h = rw (le-leb 1 (length ds) (h .0), all-finds Digit ds (h .1)) (capped-low (value 0 ds) (omega arith))
 
-pub number-right : (ds : List ℕ) → numberOf ds ≤ 255 → DigitsRule ds
-unfolding numberOf
+pub number-right : (ds : List ℕ) → cappedNumber ds ≤ 255 → DigitsRule ds
+unfolding cappedNumber
 number-right ds h = go (leb 1 (length ds) && allOf Digit ds) refl
   where
     go : (t : Bool) → (leb 1 (length ds) && allOf Digit ds) ≡ t → DigitsRule ds

@@ -13,7 +13,7 @@ use native.Mathlib.Numerals.{add-one}
 use Rattle.names.specs.Definition.Grammar as grammar
 use Rattle.names.specs.Definition.Grammar.{All, FileRule}
 use Rattle.names.specs.Definition.Words.{LinkName, DefaultName}
-use Rattle.names.specs.Definition.Tests.{ofKind, runOf, allOf, fileTest, nameTest, linkTest, defaultTest}
+use Rattle.names.specs.Definition.Tests.{ofKind, runOf, allOf, fileTest, lettersTest, linkNameTest, defaultNameTest}
 use Rattle.names.specs.declared.Kind.{Kind}
 use Rattle.names.specs.declared.Kind.the-variants.{Capital, Letter, Digit, FileByte, BeforeColon}
 
@@ -178,26 +178,26 @@ pub file-finds : (bs : List ℕ) → FileRule bs → fileTest bs ≡ true
 unfolding fileTest
 file-finds bs h = rw (le-leb (length bs) 28 (h .1), all-finds FileByte bs (h .0))
 
-name-right : (k : Kind) (bs : List ℕ) → nameTest k bs ≡ true → (1 ≤ length bs) × (length bs ≤ 28) × All (kindRule k) bs
-unfolding nameTest
+name-right : (k : Kind) (bs : List ℕ) → lettersTest k bs ≡ true → (1 ≤ length bs) × (length bs ≤ 28) × All (kindRule k) bs
+unfolding lettersTest
 name-right k bs e =
     let (p, q) = and-eq-true-iff (leb 1 (length bs) && leb (length bs) 28) (allOf k bs) .0 e in
     let (l, h) = between-right 1 28 (length bs) p in
     (l, h, all-right k bs q)
 
-name-finds : (k : Kind) (bs : List ℕ) → 1 ≤ length bs → length bs ≤ 28 → All (kindRule k) bs → nameTest k bs ≡ true
-unfolding nameTest
+name-finds : (k : Kind) (bs : List ℕ) → 1 ≤ length bs → length bs ≤ 28 → All (kindRule k) bs → lettersTest k bs ≡ true
+unfolding lettersTest
 name-finds k bs l h a = rw (between-finds 1 28 (length bs) l h, all-finds k bs a)
 
 -- Link's test and default's are their rules.
-pub link-right : (s : List ℕ) → linkTest s ≡ true → LinkName s
+pub link-right : (s : List ℕ) → linkNameTest s ≡ true → LinkName s
 link-right s e = name-right Capital s e
 
-pub link-finds : (s : List ℕ) → LinkName s → linkTest s ≡ true
+pub link-finds : (s : List ℕ) → LinkName s → linkNameTest s ≡ true
 link-finds s h = name-finds Capital s (h .0) (h .1) (h .2)
 
-pub default-right : (s : List ℕ) → defaultTest s ≡ true → DefaultName s
+pub default-right : (s : List ℕ) → defaultNameTest s ≡ true → DefaultName s
 default-right s e = name-right Letter s e
 
-pub default-finds : (s : List ℕ) → DefaultName s → defaultTest s ≡ true
+pub default-finds : (s : List ℕ) → DefaultName s → defaultNameTest s ≡ true
 default-finds s h = name-finds Letter s (h .0) (h .1) (h .2)

@@ -9,7 +9,7 @@ use lib.Dec.{eqb}
 use lib.ListN.{length, getD, take, drop}
 use lib.Seq.{getD-drop}
 use Rattle.kernel.specs.Definition.Answers.{granted}
-use Rattle.kernel.specs.Definition.Calls.{Call, start, reset, «open», close, read, write, default, status, link, boundary, set-user-boundary, allocate, free, store, load, unknown, short-start, isStart}
+use Rattle.kernel.specs.Definition.Calls.{Call, start, reset, «open», close, read, write, default, status, link, boundary, set-user-boundary, allocate, free, store, load, no-call, short-start, isStart}
 use Rattle.kernel.specs.Definition.Step.{Result, heard, decided, completed, step}
 use Rattle.events.specs.Definition.Records.{decode}
 use Rattle.events.specs.Laws.Bodies.{Bytes, decode-fields}
@@ -95,7 +95,7 @@ start-run s (allocate caller) output e = absurd (false≢true e)
 start-run s (free caller segment) output e = absurd (false≢true e)
 start-run s (store segment offset bytes) output e = absurd (false≢true e)
 start-run s (load segment offset size) output e = absurd (false≢true e)
-start-run s unknown output e = absurd (false≢true e)
+start-run s no-call output e = absurd (false≢true e)
 start-run s short-start output e = absurd (false≢true e)
 
 module _ (m : Result) (r : EventRecord) where

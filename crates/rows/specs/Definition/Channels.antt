@@ -9,8 +9,8 @@ use Rattle.rows.specs.declared.Lookup.{Lookup}
 use Rattle.rows.specs.declared.Lookup.the-variants.{At, Nowhere}
 
 -- "Unused rows and bytes of the tables are zero"
-abbrev pub noChannel : Channel
-noChannel = record { number = 0; device = 0; unit = 0; n = 0 }
+abbrev pub zeroChannel : Channel
+zeroChannel = record { number = 0; device = 0; unit = 0; n = 0 }
 
 -- "length L = 16 + n"; "T is the sum of their lengths"
 abbrev pub sumOf : List Channel → ℕ

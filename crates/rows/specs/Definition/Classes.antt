@@ -30,8 +30,8 @@ abbrev pub timesHeld : ℕ → ℕ
 timesHeld c = cond (inChain c) 1 0
 
 -- "all but page zero and 255 free": the classes of n segments after a start
-abbrev pub fresh : ℕ → List ℕ
-fresh n = 0 ∷ (replicate (n - 2) FREE ++ SYSTEM ∷ replicate (32 - n) 0)
+abbrev pub startClasses : ℕ → List ℕ
+startClasses n = 0 ∷ (replicate (n - 2) FREE ++ SYSTEM ∷ replicate (32 - n) 0)
 
 -- "bit 6 frees all user segments and ends sharing, the shared one becoming system"
 abbrev pub released : ℕ → ℕ

@@ -8,8 +8,8 @@ use Rattle.rows.specs.Definition.Lists.{at, padded, upTo, firstWhere}
 use Rattle.rows.specs.declared.Device.{Device}
 
 -- what reading beyond the rows would give
-abbrev pub noDevice : Device
-noDevice = record { name = []; length = 0; enabled = false }
+abbrev pub beyondDevices : Device
+beyondDevices = record { name = []; length = 0; enabled = false }
 
 -- "Unused rows and bytes of the tables are zero"
 abbrev pub zeroDevice : Device

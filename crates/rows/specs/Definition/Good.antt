@@ -6,8 +6,8 @@ use Prim.Native.Nat.{ℕ, _+_, _-_, _≤_, _<_}
 use lib.ListN.{length, getD, take}
 use Rattle.rows.specs.Definition.Lists.{at, padded, tally}
 use Rattle.rows.specs.Definition.Classes.{FREE, SHARED, timesHeld}
-use Rattle.rows.specs.Definition.Channels.{noChannel}
-use Rattle.rows.specs.Definition.Devices.{noDevice, VIDEO, NET, KEYBOARD}
+use Rattle.rows.specs.Definition.Channels.{zeroChannel}
+use Rattle.rows.specs.Definition.Devices.{beyondDevices, VIDEO, NET, KEYBOARD}
 use Rattle.rows.specs.declared.Channel.{Channel}
 use Rattle.rows.specs.declared.Device.{Device}
 
@@ -55,13 +55,13 @@ pub record RoomGood (room cold : ℕ) : Type 0 where
 pub record ChannelsGood (channels : List Channel) (opened known : ℕ) : Type 0 where
   -- "At most 32 open channels, numbered 0 to 254"
   pub most : opened ≤ 32
-  pub numbers : (i : ℕ) → i < opened → getD channels i noChannel .number < 255
+  pub numbers : (i : ℕ) → i < opened → getD channels i zeroChannel .number < 255
   -- "channel numbers differ"
-  pub differ : (i j : ℕ) → i < j → j < opened → getD channels i noChannel .number ≡ getD channels j noChannel .number → ⊥
+  pub differ : (i j : ℕ) → i < j → j < opened → getD channels i zeroChannel .number ≡ getD channels j zeroChannel .number → ⊥
   -- "each channel names a device in the table"
-  pub devices : (i : ℕ) → i < opened → getD channels i noChannel .device < known
+  pub devices : (i : ℕ) → i < opened → getD channels i zeroChannel .device < known
   -- "Unused rows and bytes of the tables are zero"
-  pub rest : (i : ℕ) → opened ≤ i → i < 32 → getD channels i noChannel ≡ noChannel
+  pub rest : (i : ℕ) → opened ≤ i → i < 32 → getD channels i zeroChannel ≡ zeroChannel
 
 -- "names are 1 to 28 capitals (the default may be empty, with unit 0)": a name of at most 28 capitals
 pub record NameGood (name : List ℕ) (n : ℕ) : Type 0 where
@@ -77,18 +77,18 @@ pub record Same (a : List ℕ) (la : ℕ) (b : List ℕ) (lb : ℕ) : Type 0 whe
   pub bytes : (k : ℕ) → k < 28 → at a k ≡ at b k
 
 -- "Unused rows and bytes of the tables are zero"
-pub record NoDevice (d : Device) : Type 0 where
+pub record ZeroDevice (d : Device) : Type 0 where
   pub name : (k : ℕ) → k < 28 → at (d .name) k ≡ 0
   pub none : d .length ≡ 0
   pub off : d .enabled ≡ false
 
 -- device j has the name of device i
 abbrev pub Alias : List Device → ℕ → ℕ → Type 0
-Alias ds j i = Same (getD ds j noDevice .name) (getD ds j noDevice .length) (getD ds i noDevice .name) (getD ds i noDevice .length)
+Alias ds j i = Same (getD ds j beyondDevices .name) (getD ds j beyondDevices .length) (getD ds i beyondDevices .name) (getD ds i beyondDevices .length)
 
 -- device i has the name s
 abbrev pub Named : List Device → ℕ → List ℕ → Type 0
-Named ds i s = Same (getD ds i noDevice .name) (getD ds i noDevice .length) (padded 28 s) (length s)
+Named ds i s = Same (getD ds i beyondDevices .name) (getD ds i beyondDevices .length) (padded 28 s) (length s)
 
 pub record DevicesGood (devices : List Device) (known : ℕ) : Type 0 where
   -- "16 devices. Devices 0, 1, 2 are VIDEO, NET, KEYBOARD"
@@ -98,13 +98,13 @@ pub record DevicesGood (devices : List Device) (known : ℕ) : Type 0 where
   pub net : Named devices 1 NET
   pub keyboard : Named devices 2 KEYBOARD
   -- "names are 1 to 28 capitals"
-  pub some : (i : ℕ) → i < known → 1 ≤ getD devices i noDevice .length
-  pub names : (i : ℕ) → i < known → NameGood (getD devices i noDevice .name) (getD devices i noDevice .length)
+  pub some : (i : ℕ) → i < known → 1 ≤ getD devices i beyondDevices .length
+  pub names : (i : ℕ) → i < known → NameGood (getD devices i beyondDevices .name) (getD devices i beyondDevices .length)
   -- "a device is enabled exactly if no later one has its name"
-  pub off : (i j : ℕ) → i < j → j < known → Alias devices j i → getD devices i noDevice .enabled ≡ false
-  pub on : (i : ℕ) → i < known → ((j : ℕ) → i < j → j < known → Alias devices j i → ⊥) → getD devices i noDevice .enabled ≡ true
+  pub off : (i j : ℕ) → i < j → j < known → Alias devices j i → getD devices i beyondDevices .enabled ≡ false
+  pub on : (i : ℕ) → i < known → ((j : ℕ) → i < j → j < known → Alias devices j i → ⊥) → getD devices i beyondDevices .enabled ≡ true
   -- "Unused rows and bytes of the tables are zero"
-  pub rest : (i : ℕ) → known ≤ i → i < 16 → NoDevice (getD devices i noDevice)
+  pub rest : (i : ℕ) → known ≤ i → i < 16 → ZeroDevice (getD devices i beyondDevices)
 
 pub record DefaultGood (name : List ℕ) (n unit : ℕ) : Type 0 where
   pub letters : NameGood name n

@@ -6,8 +6,8 @@ use lib.ListN.{length, getD, take}
 use lib.Dec.{leb, ltb, eqb}
 use Rattle.rows.specs.Definition.Lists.{at, padded, upTo, tally}
 use Rattle.rows.specs.Definition.Classes.{FREE, SHARED, inChain}
-use Rattle.rows.specs.Definition.Channels.{noChannel}
-use Rattle.rows.specs.Definition.Devices.{noDevice, sameName, VIDEO, NET, KEYBOARD}
+use Rattle.rows.specs.Definition.Channels.{zeroChannel}
+use Rattle.rows.specs.Definition.Devices.{beyondDevices, sameName, VIDEO, NET, KEYBOARD}
 use Rattle.rows.specs.declared.Channel.{Channel}
 use Rattle.rows.specs.declared.Device.{Device}
 
@@ -56,16 +56,16 @@ emptyChannel c = eqb (c .number) 0 && eqb (c .device) 0 && eqb (c .unit) 0 && eq
 
 -- rows from opened on are empty
 abbrev pub restChannel : List Channel → ℕ → ℕ → Bool
-restChannel cs opened i = ltb i opened || emptyChannel (getD cs i noChannel)
+restChannel cs opened i = ltb i opened || emptyChannel (getD cs i zeroChannel)
 
 -- row j has another number than row i
 abbrev pub differRow : List Channel → ℕ → ℕ → Bool
-differRow cs i j = not (eqb (getD cs j noChannel .number) (getD cs i noChannel .number))
+differRow cs i j = not (eqb (getD cs j zeroChannel .number) (getD cs i zeroChannel .number))
 
 -- an open row: no earlier one has its number
 abbrev pub channelRow : List Channel → ℕ → ℕ → Bool
 channelRow cs known i =
-    ltb (getD cs i noChannel .number) 255 && ltb (getD cs i noChannel .device) known && upTo i (differRow cs i)
+    ltb (getD cs i zeroChannel .number) 255 && ltb (getD cs i zeroChannel .device) known && upTo i (differRow cs i)
 
 abbrev pub channelTest : List Channel → ℕ → ℕ → Bool
 channelTest cs opened known = leb opened 32 && upTo opened (channelRow cs known) && upTo 32 (restChannel cs opened)
@@ -88,24 +88,24 @@ emptyDevice d = eqb (d .length) 0 && not (d .enabled) && upTo 28 (zeroRow (d .na
 
 -- rows from known on are empty
 abbrev pub restDevice : List Device → ℕ → ℕ → Bool
-restDevice ds known i = ltb i known || emptyDevice (getD ds i noDevice)
+restDevice ds known i = ltb i known || emptyDevice (getD ds i beyondDevices)
 
 -- row j is no later one with the name of row i
 abbrev pub aliasRow : List Device → ℕ → ℕ → Bool
 aliasRow ds i j =
-    leb j i || not (sameName (getD ds j noDevice .name) (getD ds j noDevice .length) (getD ds i noDevice .name) (getD ds i noDevice .length))
+    leb j i || not (sameName (getD ds j beyondDevices .name) (getD ds j beyondDevices .length) (getD ds i beyondDevices .name) (getD ds i beyondDevices .length))
 
 abbrev pub agree : Bool → Bool → Bool
 agree a b = (a && b) || (not a && not b)
 
 abbrev pub deviceRow : List Device → ℕ → ℕ → Bool
 deviceRow ds known i =
-    leb 1 (getD ds i noDevice .length) && nameTest (getD ds i noDevice .name) (getD ds i noDevice .length)
-    && agree (getD ds i noDevice .enabled) (upTo known (aliasRow ds i))
+    leb 1 (getD ds i beyondDevices .length) && nameTest (getD ds i beyondDevices .name) (getD ds i beyondDevices .length)
+    && agree (getD ds i beyondDevices .enabled) (upTo known (aliasRow ds i))
 
 -- row i has the name s
 abbrev pub namedRow : List Device → ℕ → List ℕ → Bool
-namedRow ds i s = sameName (getD ds i noDevice .name) (getD ds i noDevice .length) (padded 28 s) (length s)
+namedRow ds i s = sameName (getD ds i beyondDevices .name) (getD ds i beyondDevices .length) (padded 28 s) (length s)
 
 -- rows 0, 1, 2 are the devices that are built in
 abbrev pub builtTest : List Device → Bool

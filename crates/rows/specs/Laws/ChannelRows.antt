@@ -13,7 +13,7 @@ use lib.ListN.{length, getD, take, drop, set, replicate, length-append, length-t
 use lib.Seq.{take-append-le, take-suc, take-suc-set, getD-set-same, getD-set-other, getD-take, getD-append-seam}
 use Rattle.rows.specs.Definition.Lists.{without}
 use Rattle.rows.specs.Laws.Lists.{where-absent}
-use Rattle.rows.specs.Definition.Channels.{sumOf, rowIn, noChannel}
+use Rattle.rows.specs.Definition.Channels.{sumOf, rowIn, zeroChannel}
 use Rattle.rows.specs.Definition.Good.{ChannelsGood}
 use Rattle.rows.specs.declared.Channel.{Channel}
 
@@ -88,36 +88,36 @@ sum-more xs i d h = rw (add-one, take-suc xs i d h) (omega (arith, sum-append (t
 
 -- a row less
 pub channels-less : (cs : List Channel) (opened known i : ℕ) → length cs ≡ 32 → i < opened → ChannelsGood cs opened known
-    → ChannelsGood (without i cs noChannel) (opened - 1) known
+    → ChannelsGood (without i cs zeroChannel) (opened - 1) known
 channels-less cs opened known i l h g =
     let m = g .most in
-    let row : (j : ℕ) → j < opened - 1 → getD (without i cs noChannel) j noChannel ≡ getD cs (from i j) noChannel =
-    λ j a. without-at noChannel noChannel i cs j (omega arith) (omega arith) in
+    let row : (j : ℕ) → j < opened - 1 → getD (without i cs zeroChannel) j zeroChannel ≡ getD cs (from i j) zeroChannel =
+    λ j a. without-at zeroChannel zeroChannel i cs j (omega arith) (omega arith) in
     record {
       most = omega arith;
       numbers = λ j a. rw (row j a) (g .numbers (from i j) (omega (arith, from-most i j)));
       differ = λ j k a b e. g .differ (from i j) (from i k) (from-rises i j k a) (omega (arith, from-most i k)) (rw (row j (omega arith), row k b) at e);
       devices = λ j a. rw (row j a) (g .devices (from i j) (omega (arith, from-most i j)));
       rest = λ j a b. elim (ℕ-discrete j 31) [
-        | yes q ↦ without-end noChannel noChannel i cs j (omega arith) (omega arith)
-        | no q ↦ without-at noChannel noChannel i cs j (omega arith) (omega arith) ∙ rw (from-high i j (omega arith)) (g .rest (suc j) (omega arith) (omega arith))
+        | yes q ↦ without-end zeroChannel zeroChannel i cs j (omega arith) (omega arith)
+        | no q ↦ without-at zeroChannel zeroChannel i cs j (omega arith) (omega arith) ∙ rw (from-high i j (omega arith)) (g .rest (suc j) (omega arith) (omega arith))
       ];
     }
 
 -- a channel that is not found is at no place
-pub place-none : (cs : List Channel) (ch n : ℕ) → n ≤ length cs → n ≤ rowIn (take n cs) ch → (i : ℕ) → i < n → getD cs i noChannel .number ≡ ch → ⊥
+pub place-none : (cs : List Channel) (ch n : ℕ) → n ≤ length cs → n ≤ rowIn (take n cs) ch → (i : ℕ) → i < n → getD cs i zeroChannel .number ≡ ch → ⊥
 place-none cs ch n l h i a e =
     let long : length (take n cs) ≡ n = omega (arith, length-take n cs) in
-    let no : eqb (getD (take n cs) i noChannel .number) ch ≡ false =
-    where-absent (λ (c : Channel). eqb (c .number) ch) (take n cs) noChannel (omega arith) i (omega arith) in
-    false≢true (sym (rw (getD-take n cs i noChannel a) at no) ∙ eq-eqb (getD cs i noChannel .number) ch e)
+    let no : eqb (getD (take n cs) i zeroChannel .number) ch ≡ false =
+    where-absent (λ (c : Channel). eqb (c .number) ch) (take n cs) zeroChannel (omega arith) i (omega arith) in
+    false≢true (sym (rw (getD-take n cs i zeroChannel a) at no) ∙ eq-eqb (getD cs i zeroChannel .number) ch e)
 
 -- a row more
 pub channels-more : (cs : List Channel) (opened known : ℕ) (c : Channel) → length cs ≡ 32 → opened < 32 → c .number < 255 → c .device < known
-    → ((i : ℕ) → i < opened → getD cs i noChannel .number ≡ c .number → ⊥) → ChannelsGood cs opened known → ChannelsGood (set cs opened c) (opened + 1) known
+    → ((i : ℕ) → i < opened → getD cs i zeroChannel .number ≡ c .number → ⊥) → ChannelsGood cs opened known → ChannelsGood (set cs opened c) (opened + 1) known
 channels-more cs opened known c l h a b new g =
-    let here : getD (set cs opened c) opened noChannel ≡ c = getD-set-same cs opened c noChannel (omega arith) in
-    let other : (i : ℕ) → (i ≡ opened → ⊥) → getD (set cs opened c) i noChannel ≡ getD cs i noChannel = λ i q. getD-set-other cs opened i c noChannel q in
+    let here : getD (set cs opened c) opened zeroChannel ≡ c = getD-set-same cs opened c zeroChannel (omega arith) in
+    let other : (i : ℕ) → (i ≡ opened → ⊥) → getD (set cs opened c) i zeroChannel ≡ getD cs i zeroChannel = λ i q. getD-set-other cs opened i c zeroChannel q in
     record {
       most = omega arith;
       numbers = λ i p. elim (ℕ-discrete i opened) [ yes q ↦ rw (q, here) a | no q ↦ rw (other i q) (g .numbers i (omega arith)) ];
@@ -130,7 +130,7 @@ channels-more cs opened known c l h a b new g =
     }
 
 -- no row
-pub channels-none : (known : ℕ) (cs : List Channel) → ((i : ℕ) → i < 32 → getD cs i noChannel ≡ noChannel) → ChannelsGood cs 0 known
+pub channels-none : (known : ℕ) (cs : List Channel) → ((i : ℕ) → i < 32 → getD cs i zeroChannel ≡ zeroChannel) → ChannelsGood cs 0 known
 channels-none known cs e = record {
   most = omega arith;
   numbers = λ i h. absurd (not-suc-le-zero h);
@@ -139,8 +139,8 @@ channels-none known cs e = record {
   rest = λ i h g. e i g;
 }
 
-pub no-channels : (known : ℕ) → ChannelsGood (replicate 32 noChannel) 0 known
-no-channels known = channels-none known (replicate 32 noChannel) (λ i h. getD-replicate 32 i noChannel noChannel h)
+pub no-channels : (known : ℕ) → ChannelsGood (replicate 32 zeroChannel) 0 known
+no-channels known = channels-none known (replicate 32 zeroChannel) (λ i h. getD-replicate 32 i zeroChannel zeroChannel h)
 
 -- a device more in the table
 pub channels-known : (cs : List Channel) (opened known more : ℕ) → known ≤ more → ChannelsGood cs opened known → ChannelsGood cs opened more

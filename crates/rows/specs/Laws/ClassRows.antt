@@ -8,7 +8,7 @@ use native.Mathlib.Omega.{arith}
 use borrow.Author.Tests.{ne-eqb}
 use lib.ListN.{length, replicate, length-append, length-replicate, List·getD-map}
 use Rattle.rows.specs.Definition.Lists.{at}
-use Rattle.rows.specs.Definition.Classes.{FREE, USER, SYSTEM, SHARED, timesHeld, fresh, released}
+use Rattle.rows.specs.Definition.Classes.{FREE, USER, SYSTEM, SHARED, timesHeld, startClasses, released}
 use Rattle.rows.specs.Laws.Counts.{one-yes, one-no}
 use Rattle.rows.specs.Definition.Good.{ClassesGood, ChainGood}
 
@@ -81,19 +81,19 @@ none-after (suc k) zero m h = absurd (not-suc-le-zero h)
 none-after (suc k) (suc i) m h = none-after k i m (le-of-suc-le-suc h)
 
 module _ (n : ℕ) (p : 2 ≤ n) (q : n ≤ 32) where
-  pub fresh-free : (i : ℕ) → 1 ≤ i → i < n - 1 → at (fresh n) i ≡ FREE
+  pub fresh-free : (i : ℕ) → 1 ≤ i → i < n - 1 → at (startClasses n) i ≡ FREE
   fresh-free zero a h = absurd (not-suc-le-zero a)
   fresh-free (suc i) a h = free-at (n - 2) i (replicate (32 - n) 0) (omega arith)
 
-  pub fresh-last : (i : ℕ) → i ≡ n - 1 → at (fresh n) i ≡ SYSTEM
+  pub fresh-last : (i : ℕ) → i ≡ n - 1 → at (startClasses n) i ≡ SYSTEM
   fresh-last zero h = absurd (omega arith)
   fresh-last (suc i) h = system-at (n - 2) i (replicate (32 - n) 0) (omega arith)
 
-  pub fresh-rest : (i : ℕ) → n ≤ i → at (fresh n) i ≡ 0
+  pub fresh-rest : (i : ℕ) → n ≤ i → at (startClasses n) i ≡ 0
   fresh-rest zero h = absurd (omega arith)
   fresh-rest (suc i) h = none-after (n - 2) i (32 - n) (omega arith)
 
-  pub fresh-classes : ClassesGood n (fresh n)
+  pub fresh-classes : ClassesGood n (startClasses n)
   fresh-classes = record {
     page = refl;
     some = λ i a h. elim (ℕ-discrete i (n - 1)) [ yes e ↦ omega (arith, fresh-last i e) | no e ↦ omega (arith, fresh-free i a (omega arith)) ];
@@ -104,7 +104,7 @@ module _ (n : ℕ) (p : 2 ≤ n) (q : n ≤ 32) where
     rest = λ i h k. fresh-rest i h;
   }
 
-  pub fresh-chain : ChainGood n (fresh n) ((n - 1) ∷ replicate 31 0) 1
+  pub fresh-chain : ChainGood n (startClasses n) ((n - 1) ∷ replicate 31 0) 1
   fresh-chain = record {
     holds = omega arith;
     most = omega arith;
@@ -131,6 +131,6 @@ module _ (n : ℕ) (p : 2 ≤ n) (q : n ≤ 32) where
       rest-of zero h = absurd (not-suc-le-zero h)
       rest-of (suc i) h = zeros-at 31 i
 
-  pub fresh-length : length (fresh n) ≡ 32
+  pub fresh-length : length (startClasses n) ≡ 32
   fresh-length =
       omega (arith, length-append (replicate {A = ℕ} (n - 2) FREE) (SYSTEM ∷ replicate (32 - n) 0), length-replicate {A = ℕ} (n - 2) FREE, length-replicate {A = ℕ} (32 - n) 0)

@@ -8,7 +8,7 @@ use native.Mathlib.Omega.{arith}
 use lib.ListN.{length, getD, set, length-map, List·getD-map}
 use lib.Seq.{getD-set-same, getD-set-other}
 use Rattle.rows.specs.Definition.Lists.{upTo}
-use Rattle.rows.specs.Definition.Devices.{noDevice, builtIn, disabledBy, added}
+use Rattle.rows.specs.Definition.Devices.{beyondDevices, builtIn, disabledBy, added}
 use Rattle.rows.specs.Definition.Good.{NameGood, Same, DevicesGood}
 use Rattle.rows.specs.Laws.Good.{same-yes, same-no, device-says}
 use Rattle.rows.specs.declared.Device.{Device}
@@ -22,9 +22,9 @@ pub devices-more : (ds : List Device) (known : ℕ) (s : List ℕ) (n : ℕ) →
 devices-more ds known s n l h w p g =
     let new : Device = record { name = s; length = n; enabled = true } in
     let ms = map (disabledBy s n) ds in
-    let here : getD (set ms known new) known noDevice ≡ new = getD-set-same ms known new noDevice (omega (arith, length-map ds (disabledBy s n))) in
-    let old : (i : ℕ) → (i ≡ known → ⊥) → getD (set ms known new) i noDevice ≡ disabledBy s n (getD ds i noDevice) =
-    λ i q. getD-set-other ms known i new noDevice q ∙ List·getD-map (disabledBy s n) ds i noDevice in
+    let here : getD (set ms known new) known beyondDevices ≡ new = getD-set-same ms known new beyondDevices (omega (arith, length-map ds (disabledBy s n))) in
+    let old : (i : ℕ) → (i ≡ known → ⊥) → getD (set ms known new) i beyondDevices ≡ disabledBy s n (getD ds i beyondDevices) =
+    λ i q. getD-set-other ms known i new beyondDevices q ∙ List·getD-map (disabledBy s n) ds i beyondDevices in
     let least = g .least in
     record {
       least = omega arith;
@@ -37,13 +37,13 @@ devices-more ds known s n l h w p g =
       off = λ i j a b e.
           let o = old i (λ z. omega arith) in
           elim (ℕ-discrete j known) [
-            | yes q ↦ rw (o, same-yes _ _ _ _ (turned (rw (q, here, o) at e))) (and-false (getD ds i noDevice .enabled))
+            | yes q ↦ rw (o, same-yes _ _ _ _ (turned (rw (q, here, o) at e))) (and-false (getD ds i beyondDevices .enabled))
             | no q ↦ rw (o, g .off i j a (omega arith) (rw (old j q, o) at e))
           ];
       on = λ i a f. elim (ℕ-discrete i known) [
         | yes q ↦ rw (q, here)
         | no q ↦
-            let d = getD ds i noDevice in
+            let d = getD ds i beyondDevices in
             let apart : Same (d .name) (d .length) s n → ⊥ = λ e. f known (omega arith) (omega arith) (rw (here, old i q) (turned e)) in
             rw (old i q, same-no (d .name) (d .length) s n apart, g .on i (omega arith) (λ j b c e. f j b (omega arith) (rw (old j (λ z. omega arith), old i q) e)))
       ];

@@ -12,9 +12,9 @@ use borrow.Author.Tests.{leb-true, ltb-true, eqb-true, le-leb, lt-ltb, eq-eqb, n
 use Rattle.rows.specs.Definition.Lists.{at, padded, tally, upTo}
 use Rattle.rows.specs.Laws.Lists.{below→all, all→below, and-left, and-right}
 use Rattle.rows.specs.Definition.Classes.{FREE, SHARED, inChain, timesHeld}
-use Rattle.rows.specs.Definition.Channels.{noChannel}
-use Rattle.rows.specs.Definition.Devices.{noDevice, sameBytes, sameName, VIDEO, NET, KEYBOARD}
-use Rattle.rows.specs.Definition.Good.{ListGood, ClassesGood, ChainGood, RoomGood, ChannelsGood, UserGood, NameGood, Same, NoDevice, Alias, Named, DevicesGood, DefaultGood}
+use Rattle.rows.specs.Definition.Channels.{zeroChannel}
+use Rattle.rows.specs.Definition.Devices.{beyondDevices, sameBytes, sameName, VIDEO, NET, KEYBOARD}
+use Rattle.rows.specs.Definition.Good.{ListGood, ClassesGood, ChainGood, RoomGood, ChannelsGood, UserGood, NameGood, Same, ZeroDevice, Alias, Named, DevicesGood, DefaultGood}
 use Rattle.rows.specs.Definition.Tests.{restRow, riseRow, listTest, classRow, classTest, chainRow, exactRow, chainTest, roomTest, userTest, emptyChannel, restChannel, differRow, channelRow, channelTest, letterRow, nameTest, defaultTest, zeroRow, emptyDevice, restDevice, aliasRow, agree, deviceRow, namedRow, deviceTest}
 use Rattle.rows.specs.declared.Channel.{Channel}
 use Rattle.rows.specs.declared.Device.{Device}
@@ -190,22 +190,22 @@ chain-says cs chain held n most =
     (λ g. (((((g .holds, g .most), g .starts), λ i h a. g .rows i a), λ i h a. (g .exact i a, λ n. elim (ℕ-discrete (at cs i) SHARED) [ yes q ↦ g .last i a q | no q ↦ absurd (n q) ])), λ i h a. g .rest i a h))
 
 -- the channels
-empty-says : (c : Channel) → Says (emptyChannel c) (c ≡ noChannel)
+empty-says : (c : Channel) → Says (emptyChannel c) (c ≡ zeroChannel)
 empty-says c =
     says-as (says-and (says-and (says-and (says-eq (c .number) 0) (says-eq (c .device) 0)) (says-eq (c .unit) 0)) (says-eq (c .n) 0))
     (λ h. made (c .number) (c .device) (c .unit) (c .n) (h .0 .0 .0) (h .0 .0 .1) (h .0 .1) (h .1))
     (λ e. (((ap (λ (x : Channel). x .number) e, ap (λ (x : Channel). x .device) e), ap (λ (x : Channel). x .unit) e), ap (λ (x : Channel). x .n) e))
   where
-    made : (a b c d : ℕ) → a ≡ 0 → b ≡ 0 → c ≡ 0 → d ≡ 0 → _≡_ {A = Channel} (record { number = a; device = b; unit = c; n = d }) noChannel
+    made : (a b c d : ℕ) → a ≡ 0 → b ≡ 0 → c ≡ 0 → d ≡ 0 → _≡_ {A = Channel} (record { number = a; device = b; unit = c; n = d }) zeroChannel
     made a b c d p q r s = rw (p, q, r, s)
 
 pub channel-says : (cs : List Channel) (opened known : ℕ) → Says (channelTest cs opened known) (ChannelsGood cs opened known)
 channel-says cs opened known =
-    let num : ℕ → ℕ = λ i. getD cs i noChannel .number in
+    let num : ℕ → ℕ = λ i. getD cs i zeroChannel .number in
     says-as (says-and (says-and (says-le opened 32)
-    (says-all opened (channelRow cs known) _ (λ i h. says-and (says-and (says-lt (num i) 255) (says-lt (getD cs i noChannel .device) known))
+    (says-all opened (channelRow cs known) _ (λ i h. says-and (says-and (says-lt (num i) 255) (says-lt (getD cs i zeroChannel .device) known))
     (says-all i (differRow cs i) _ (λ j k. says-not (says-eq (num j) (num i)))))))
-    (says-all 32 (restChannel cs opened) _ (λ i h. says-from opened i (empty-says (getD cs i noChannel)))))
+    (says-all 32 (restChannel cs opened) _ (λ i h. says-from opened i (empty-says (getD cs i zeroChannel)))))
     (λ h. record {
       most = h .0 .0;
       numbers = λ i a. h .0 .1 i a .0 .0;
@@ -252,12 +252,12 @@ pub same-no : (a : List ℕ) (la : ℕ) (b : List ℕ) (lb : ℕ) → (Same a la
 same-no a la b lb n = false-of (sameName a la b lb) (λ e. n (same-says a la b lb .yes e))
 
 named-says : (ds : List Device) (i : ℕ) (s : List ℕ) → Says (namedRow ds i s) (Named ds i s)
-named-says ds i s = same-says (getD ds i noDevice .name) (getD ds i noDevice .length) (padded 28 s) (length s)
+named-says ds i s = same-says (getD ds i beyondDevices .name) (getD ds i beyondDevices .length) (padded 28 s) (length s)
 
 says-false : (b : Bool) → Says (not b) (b ≡ false)
 says-false b = record { yes = not-true b; make = λ e. rw e }
 
-no-device-says : (d : Device) → Says (emptyDevice d) (NoDevice d)
+no-device-says : (d : Device) → Says (emptyDevice d) (ZeroDevice d)
 no-device-says d =
     says-as (says-and (says-and (says-eq (d .length) 0) (says-false (d .enabled))) (says-all 28 (zeroRow (d .name)) _ (λ k h. says-eq (at (d .name) k) 0)))
     (λ h. record { name = h .1; none = h .0 .0; off = h .0 .1 }) (λ g. ((g .none, g .off), g .name))
@@ -274,7 +274,7 @@ Latest ds known i = (j : ℕ) → i < j → j < known → Alias ds j i → ⊥
 
 latest-says : (ds : List Device) (known i : ℕ) → Says (upTo known (aliasRow ds i)) (Latest ds known i)
 latest-says ds known i =
-    let d : ℕ → Device = λ k. getD ds k noDevice in
+    let d : ℕ → Device = λ k. getD ds k beyondDevices in
     says-as (says-all known (aliasRow ds i) _ (λ j h. says-below j i (says-not (same-says (d j .name) (d j .length) (d i .name) (d i .length)))))
     (λ h j a b. h j b a)
     (λ g j h a. g j a h)
@@ -292,7 +292,7 @@ enabled-says a b P f =
 
 pub device-says : (ds : List Device) (known : ℕ) → Says (deviceTest ds known) (DevicesGood ds known)
 device-says ds known =
-    let d : ℕ → Device = λ i. getD ds i noDevice in
+    let d : ℕ → Device = λ i. getD ds i beyondDevices in
     says-as (says-and (says-and (says-and (says-and (says-le 3 known) (says-le known 16))
     (says-and (says-and (named-says ds 0 VIDEO) (named-says ds 1 NET)) (named-says ds 2 KEYBOARD)))
     (says-all known (deviceRow ds known) _ (λ i h.

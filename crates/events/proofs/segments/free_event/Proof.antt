@@ -2,7 +2,7 @@
 use mathlib.Core.Path.{refl}
 use Rattle.kernel.specs.Definition.Calls.{free}
 use Rattle.kernel.specs.Definition.Step.{heard, ramAfter, outputAfter}
-use Rattle.events.proofs.Laws.{no-call, quiet}
+use Rattle.events.proofs.Laws.{bad-call, quiet}
 use Rattle.events.proofs.Taken.{free-bad, free-taken}
 use borrow.Author.Needs.{needs}
 use Rattle.events.proofs.segments.free_event.Statement.{statement}
@@ -12,7 +12,7 @@ refuse-requires : tie.Need-refuse-requires
 refuse-requires c κs = search needs
 
 returns : tie.Need-returns
-returns c = λ ram out s. no-call _ ram out (c .before .before .before .pre) s _ _ (free-bad _ (c .before .if1 .taken)) (c .refuse .ensures)
+returns c = λ ram out s. bad-call _ ram out (c .before .before .before .pre) s _ _ (free-bad _ (c .before .if1 .taken)) (c .refuse .ensures)
 
 shared-slice-read-free-good : tie.Need-shared-slice-read-free-good
 shared-slice-read-free-good c = search needs

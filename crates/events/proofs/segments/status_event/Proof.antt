@@ -1,7 +1,7 @@
 -- `events::segments::status_event` meets its contract.
 use Rattle.kernel.specs.Definition.Calls.{status}
 use Rattle.kernel.specs.Definition.Step.{heard}
-use Rattle.events.proofs.Laws.{no-call, done}
+use Rattle.events.proofs.Laws.{bad-call, done}
 use Rattle.events.proofs.Taken.{status-bad, status-taken}
 use borrow.Author.Needs.{needs}
 use Rattle.events.proofs.segments.status_event.Statement.{statement}
@@ -11,7 +11,7 @@ refuse-requires : tie.Need-refuse-requires
 refuse-requires c κs = search needs
 
 returns : tie.Need-returns
-returns c = λ ram s. no-call _ ram _ (c .before .before .before .before .pre) s _ _ (status-bad _ (c .before .if1 .taken)) (c .refuse .ensures)
+returns c = λ ram s. bad-call _ ram _ (c .before .before .before .before .pre) s _ _ (status-bad _ (c .before .if1 .taken)) (c .refuse .ensures)
 
 status-good-requires : tie.Need-status-good-requires
 status-good-requires c κs = search needs

@@ -1,7 +1,7 @@
 -- `events::system::link_event` meets its contract.
 use Rattle.kernel.specs.Definition.Calls.{link}
 use Rattle.kernel.specs.Definition.Step.{heard}
-use Rattle.events.proofs.Laws.{no-call, done}
+use Rattle.events.proofs.Laws.{bad-call, done}
 use Rattle.events.proofs.Taken.{link-bad, link-taken}
 use borrow.Author.Needs.{needs}
 use Rattle.events.proofs.system.link_event.Statement.{statement}
@@ -11,7 +11,7 @@ refuse-requires : tie.Need-refuse-requires
 refuse-requires c κs = search needs
 
 returns : tie.Need-returns
-returns c = λ out. no-call _ _ out (c .before .before .before .before .pre .0) (c .before .before .before .before .pre .1) _ _ (link-bad _ (c .before .if1 .taken)) (c .refuse .ensures)
+returns c = λ out. bad-call _ _ out (c .before .before .before .before .pre .0) (c .before .before .before .before .pre .1) _ _ (link-bad _ (c .before .if1 .taken)) (c .refuse .ensures)
 
 u16-at-requires : tie.Need-u16-at-requires
 u16-at-requires c κs = search needs

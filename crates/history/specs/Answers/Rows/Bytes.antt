@@ -68,18 +68,18 @@ meet offset n low high some h a b =
 touches : (offset n : ℕ) → 0 < n → ((offset < 61) × (48 < offset + n)) ⊎ ((offset < 92) × (63 < offset + n)) → Touches offset n
 touches offset n some (inl (a, b)) =
     let (k, p, q, l, h) = meet offset n 48 61 some (omega arith) a b in
-    (k, p, q, record { from = l; to = omega arith; free = (λ e. omega arith, λ e. omega arith) })
+    (k, p, q, record { from = l; to = omega arith; save = (λ e. omega arith, λ e. omega arith) })
 touches offset n some (inr (a, b)) =
     let (k, p, q, l, h) = meet offset n 63 92 some (omega arith) a b in
-    (k, p, q, record { from = omega arith; to = omega arith; free = (λ e. omega arith, λ e. omega arith) })
+    (k, p, q, record { from = omega arith; to = omega arith; save = (λ e. omega arith, λ e. omega arith) })
 
 touched : (offset n : ℕ) → Touches offset n → ((offset < 61) × (48 < offset + n)) ⊎ ((offset < 92) × (63 < offset + n))
 touched offset n (k, p, q, h) =
     elim (decLt k 61) [
       | yes a ↦ inl (omega arith, omega (arith, h .from))
       | no a ↦
-          let x : k ≡ 61 → ⊥ = h .free .0 in
-          let y : k ≡ 62 → ⊥ = h .free .1 in
+          let x : k ≡ 61 → ⊥ = h .save .0 in
+          let y : k ≡ 62 → ⊥ = h .save .1 in
           inr (omega (arith, h .to), omega arith)
     ]
 

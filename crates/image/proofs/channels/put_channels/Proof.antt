@@ -7,14 +7,14 @@ use lib.ListN.{length, take, drop, length-set}
 use lib.Seq.{take-all}
 use Rattle.text.specs.Definition.Text.{Put}
 use Rattle.text.proofs.Laws.{put-none}
-use Rattle.rows.specs.Definition.Channels.{noChannel}
-use Rattle.image.specs.Definition.Image.{bytesOf, channelBytes}
+use Rattle.rows.specs.Definition.Channels.{zeroChannel}
+use Rattle.image.specs.Definition.Image.{rowsBytes, channelBytes}
 use Rattle.image.proofs.Laws.{row-put}
 use Rattle.image.proofs.channels.put_channels.Statement.{statement}
 use Rattle.image.proofs.channels.put_channels.Tie as tie
 
 abbrev Inv-loop : tie.InvT-loop
-Inv-loop to₀ at channels m₀ i₀ to m i = Put to₀ to at m (bytesOf channelBytes (take i channels)) × (m ≡ at + 5 * i) × (i ≤ 32) × (length to ≡ length to₀) × (length channels ≡ 32)
+Inv-loop to₀ at channels m₀ i₀ to m i = Put to₀ to at m (rowsBytes channelBytes (take i channels)) × (m ≡ at + 5 * i) × (i ≤ 32) × (length to ≡ length to₀) × (length channels ≡ 32)
 
 abbrev μ-loop : tie.MeasureT-loop
 μ-loop to₀ at channels m₀ i₀ to m i = 32 - i
@@ -42,7 +42,7 @@ loop-again c =
     let l = c .before .before .before .before .before .before .loop in
     let a = c .before .before .before .before .before .before .before .before .args in
     let p = c .before .before .put-channel in
-    (row-put channelBytes noChannel (a .t1) (l .i) (omega arith) (l .inv .0) (p .ensures), omega (arith, p .ensures .stop), omega arith, p .kept .1 .0 ∙ l .inv .3, l .inv .4)
+    (row-put channelBytes zeroChannel (a .t1) (l .i) (omega arith) (l .inv .0) (p .ensures), omega (arith, p .ensures .stop), omega arith, p .kept .1 .0 ∙ l .inv .3, l .inv .4)
 
 same-length : tie.Need-same-length Inv-loop μ-loop
 same-length c = c .before .loop .inv .3

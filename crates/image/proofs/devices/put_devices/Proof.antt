@@ -7,14 +7,14 @@ use lib.ListN.{length, take, drop, length-set}
 use lib.Seq.{take-all}
 use Rattle.text.specs.Definition.Text.{Put}
 use Rattle.text.proofs.Laws.{put-none}
-use Rattle.rows.specs.Definition.Devices.{noDevice}
-use Rattle.image.specs.Definition.Image.{bytesOf, deviceBytes}
+use Rattle.rows.specs.Definition.Devices.{beyondDevices}
+use Rattle.image.specs.Definition.Image.{rowsBytes, deviceBytes}
 use Rattle.image.proofs.Laws.{row-put}
 use Rattle.image.proofs.devices.put_devices.Statement.{statement}
 use Rattle.image.proofs.devices.put_devices.Tie as tie
 
 abbrev Inv-loop : tie.InvT-loop
-Inv-loop to₀ at devices m₀ i₀ to m i = Put to₀ to at m (bytesOf deviceBytes (take i devices)) × (m ≡ at + 30 * i) × (i ≤ 16) × (length to ≡ length to₀) × (length devices ≡ 16)
+Inv-loop to₀ at devices m₀ i₀ to m i = Put to₀ to at m (rowsBytes deviceBytes (take i devices)) × (m ≡ at + 30 * i) × (i ≤ 16) × (length to ≡ length to₀) × (length devices ≡ 16)
 
 abbrev μ-loop : tie.MeasureT-loop
 μ-loop to₀ at devices m₀ i₀ to m i = 16 - i
@@ -42,7 +42,7 @@ loop-again c =
     let l = c .before .before .before .before .before .before .loop in
     let a = c .before .before .before .before .before .before .before .before .args in
     let p = c .before .before .put-device in
-    (row-put deviceBytes noDevice (a .t1) (l .i) (omega arith) (l .inv .0) (p .ensures .0), omega (arith, p .ensures .1), omega arith, p .kept .1 .0 ∙ l .inv .3, l .inv .4)
+    (row-put deviceBytes beyondDevices (a .t1) (l .i) (omega arith) (l .inv .0) (p .ensures .0), omega (arith, p .ensures .1), omega arith, p .kept .1 .0 ∙ l .inv .3, l .inv .4)
 
 same-length : tie.Need-same-length Inv-loop μ-loop
 same-length c = c .before .loop .inv .3

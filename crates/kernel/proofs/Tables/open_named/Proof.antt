@@ -21,8 +21,8 @@ refuse-requires c κs = search needs
 returns : tie.Need-returns
 returns c = λ out. refused (c .before .before .before .before .before .before .args .self) _ _ _ _ _ out (c .refuse .ensures) refl (named-none _ _ _ _ _ _ (c .before .before .before .parse .ensures) (c .before .enum-told .given .1))
 
-sought-requires : tie.Need-sought-requires
-sought-requires c κs = letters-few _ _ (c .before .before .before .parse .ensures) _ _ _ (c .before .letters .given .1)
+wanted-requires : tie.Need-wanted-requires
+wanted-requires c κs = letters-few _ _ (c .before .before .before .parse .ensures) _ _ _ (c .before .letters .given .1)
 
 open-to-requires : tie.Need-open-to-requires
 open-to-requires c κs = c .before .before .before .before .before .before .before .before .pre
@@ -32,7 +32,7 @@ same-length c = search needs
 
 returns-2 : tie.Need-returns-2
 returns-2 c = λ out. onward (c .before .before .before .before .before .before .before .before .before .before .before .args .self) _ _ _ _ out _ _ _ _ _ _ _ _
-    (named-to _ _ _ _ _ _ (c .before .before .before .before .before .before .before .before .parse .ensures) _ _ _ _ (c .before .before .before .before .before .before .letters .given .1) (c .before .before .before .before .sought .ensures)) (c .before .before .open-to .ensures out)
+    (named-to _ _ _ _ _ _ (c .before .before .before .before .before .before .before .before .parse .ensures) _ _ _ _ (c .before .before .before .before .before .before .letters .given .1) (c .before .before .before .before .wanted .ensures)) (c .before .before .open-to .ensures out)
 
 pub open-named-spec : {M : Type 1} → statement M
 open-named-spec =
@@ -43,7 +43,7 @@ open-named-spec =
     enum-told
     refuse-requires
     returns
-    sought-requires
+    wanted-requires
     open-to-requires
     same-length
     returns-2)

@@ -7,7 +7,7 @@ use Prim.Native.Nat.{_-_, _<_, _≤_, ℕ}
 use native.Mathlib.Omega.{arith}
 use lib.Dec.{eqb}
 use lib.ListN.{getD, length, take}
-use Rattle.rows.specs.Definition.Channels.{foundAt, noChannel, rowIn}
+use Rattle.rows.specs.Definition.Channels.{foundAt, zeroChannel, rowIn}
 use Rattle.rows.specs.Laws.Channels.{found-no, found-yes}
 use Rattle.rows.specs.Laws.Lists.{where-here, where-none}
 use Rattle.rows.specs.declared.Channel.{Channel}
@@ -15,7 +15,7 @@ use Rattle.rows.proofs.channels.channel_row.Statement.{statement}
 use Rattle.rows.proofs.channels.channel_row.Tie as tie
 
 abbrev Inv-loop : tie.InvT-loop
-Inv-loop opened ch channels i₀ i = (i ≤ opened) × ((j : ℕ) → j < i → getD channels j noChannel .number ≡ ch → ⊥)
+Inv-loop opened ch channels i₀ i = (i ≤ opened) × ((j : ℕ) → j < i → getD channels j zeroChannel .number ≡ ch → ⊥)
 
 abbrev μ-loop : tie.MeasureT-loop
 μ-loop opened ch channels i₀ i = opened - i
@@ -35,7 +35,7 @@ returns c =
     let at = c .before .before .before .before .loop in
     let l : length (s .args .t1) ≡ 32 = s .good .0 .1 .0 .1 in
     let e : rowIn (take (s .args .opened) (s .args .t1)) (s .args .ch) ≡ at .i =
-    where-here (λ (x : Channel). eqb (x .number) (s .args .ch)) (s .args .t1) noChannel (at .i) (s .args .opened) (omega arith) (omega arith)
+    where-here (λ (x : Channel). eqb (x .number) (s .args .ch)) (s .args .t1) zeroChannel (at .i) (s .args .opened) (omega arith) (omega arith)
     (λ j g. ne-eqb _ _ (at .inv .1 j g)) (eq-eqb _ _ (c .if1 .taken)) in
     sym (ap (λ (k : ℕ). foundAt k (s .args .opened)) e ∙ found-yes (at .i) (s .args .opened) (omega arith))
 
@@ -53,7 +53,7 @@ returns-2 c =
     let s = c .before .before in
     let l : length (s .args .t1) ≡ 32 = s .good .0 .1 .0 .1 in
     let e : rowIn (take (s .args .opened) (s .args .t1)) (s .args .ch) ≡ s .args .opened =
-    where-none (λ (x : Channel). eqb (x .number) (s .args .ch)) (s .args .t1) noChannel (s .args .opened) (omega arith)
+    where-none (λ (x : Channel). eqb (x .number) (s .args .ch)) (s .args .t1) zeroChannel (s .args .opened) (omega arith)
     (λ j g. ne-eqb _ _ (c .before .loop .inv .1 j (omega arith))) in
     sym (found-no _ (s .args .opened) (omega (arith, e)))
 

@@ -4,13 +4,13 @@ use mathlib.Core.Path.{_≡_}
 use Prim.Native.Nat.{_-_, _≤_}
 use native.Mathlib.Omega.{arith}
 use lib.ListN.{length}
-use Rattle.rows.specs.Definition.Channels.{noChannel}
+use Rattle.rows.specs.Definition.Channels.{zeroChannel}
 use Rattle.rows.proofs.Stores.{Cleared, cleared-none, cleared-more, cleared-end}
 use Rattle.rows.proofs.channels.emptied.Statement.{statement}
 use Rattle.rows.proofs.channels.emptied.Tie as tie
 
 abbrev Inv-loop : tie.InvT-loop
-Inv-loop opened rows₀ i₀ rows i = (i ≤ opened) × Cleared noChannel opened i rows
+Inv-loop opened rows₀ i₀ rows i = (i ≤ opened) × Cleared zeroChannel opened i rows
 
 abbrev μ-loop : tie.MeasureT-loop
 μ-loop opened rows₀ i₀ rows i = opened - i
@@ -18,7 +18,7 @@ abbrev μ-loop : tie.MeasureT-loop
 loop-holds : tie.Need-loop-holds Inv-loop μ-loop
 loop-holds c =
     let l : length (c .args .channels) ≡ 32 = c .good .0 .1 .0 .1 in
-    (search needs, cleared-none noChannel (c .args .opened) (c .args .channels) l (c .pre .1))
+    (search needs, cleared-none zeroChannel (c .args .opened) (c .args .channels) l (c .pre .1))
 
 mul-rows : tie.Need-mul-rows Inv-loop μ-loop
 mul-rows c = search needs
@@ -36,14 +36,14 @@ loop-again : tie.Need-loop-again Inv-loop μ-loop
 loop-again c =
     let s = c .before .before in
     let l = c .before .loop in
-    (search needs, cleared-more noChannel (s .args .opened) (l .i) (l .rows) (omega arith) (omega arith) (l .inv .1))
+    (search needs, cleared-more zeroChannel (s .args .opened) (l .i) (l .rows) (omega arith) (omega arith) (l .inv .1))
 
 returns : tie.Need-returns Inv-loop μ-loop
 returns c =
     let n = c .before .before .args .opened in
     let l = c .before .loop in
     let e : l .i ≡ n = omega arith in
-    cleared-end noChannel n (l .rows) (rw e at (l .inv .1))
+    cleared-end zeroChannel n (l .rows) (rw e at (l .inv .1))
 
 pub emptied-spec : {M : Type 1} → statement M
 emptied-spec =

@@ -4,7 +4,7 @@ use mathlib.Core.Path.{_≡_}
 use Prim.Native.Nat.{_*_, _-_, _≤_}
 use native.Mathlib.Omega.{arith}
 use lib.ListN.{length, take}
-use Rattle.rows.specs.Definition.Channels.{noChannel, sumOf}
+use Rattle.rows.specs.Definition.Channels.{zeroChannel, sumOf}
 use Rattle.rows.specs.Definition.Lists.{at}
 use Rattle.rows.specs.Laws.ChannelRows.{sum-more}
 use Rattle.rows.proofs.channels.total.Statement.{statement}
@@ -44,7 +44,7 @@ loop-again : tie.Need-loop-again Inv-loop μ-loop
 loop-again c =
     let s = c .before .before .before .before in
     let l : length (s .args .t1) ≡ 32 = s .good .0 .1 .0 .1 in
-    (search needs, search needs, omega (arith, sum-more (s .args .t1) (c .before .before .before .loop .i) noChannel (omega arith)))
+    (search needs, search needs, omega (arith, sum-more (s .args .t1) (c .before .before .before .loop .i) zeroChannel (omega arith)))
 
 returns : tie.Need-returns Inv-loop μ-loop
 returns c =

@@ -4,7 +4,7 @@ use mathlib.Core.Path.{_≡_}
 use Prim.Native.Nat.{_-_, _<_, _≤_}
 use native.Mathlib.Omega.{arith}
 use lib.ListN.{length}
-use Rattle.rows.specs.Definition.Channels.{noChannel}
+use Rattle.rows.specs.Definition.Channels.{zeroChannel}
 use Rattle.rows.proofs.Shift.{Moved, moved-end, moved-more, moved-none}
 use Rattle.rows.proofs.channels.without_row.Statement.{statement}
 use Rattle.rows.proofs.channels.without_row.Tie as tie
@@ -18,7 +18,7 @@ abbrev μ-loop : tie.MeasureT-loop
 loop-holds : tie.Need-loop-holds Inv-loop μ-loop
 loop-holds c =
     let l : length (c .args .channels) ≡ 32 = c .good .0 .1 .0 .1 in
-    (search needs, search needs, moved-none noChannel (c .args .channels) (c .args .i) (omega arith))
+    (search needs, search needs, moved-none zeroChannel (c .args .channels) (c .args .i) (omega arith))
 
 add-c : tie.Need-add-c Inv-loop μ-loop
 add-c c = search needs
@@ -46,7 +46,7 @@ loop-again c =
     let s = c .before .before .before in
     let at = c .before .before .loop in
     let l : length (s .args .channels) ≡ 32 = s .good .0 .1 .0 .1 in
-    (search needs, search needs, moved-more noChannel (s .args .channels) (s .args .i) (at .j) (at .rows) (at .inv .0) (omega arith) (at .inv .2))
+    (search needs, search needs, moved-more zeroChannel (s .args .channels) (s .args .i) (at .j) (at .rows) (at .inv .0) (omega arith) (at .inv .2))
 
 mul-rows-2 : tie.Need-mul-rows-2 Inv-loop μ-loop
 mul-rows-2 c = search needs
@@ -59,7 +59,7 @@ returns c =
     let s = c .before .before in
     let at = c .before .loop in
     let l : length (s .args .channels) ≡ 32 = s .good .0 .1 .0 .1 in
-    moved-end noChannel (s .args .channels) (s .args .i) (at .j) (at .rows) noChannel (at .inv .0) (omega arith) (at .inv .2)
+    moved-end zeroChannel (s .args .channels) (s .args .i) (at .j) (at .rows) zeroChannel (at .inv .0) (omega arith) (at .inv .2)
 
 pub without-row-spec : {M : Type 1} → statement M
 without-row-spec =

@@ -5,20 +5,20 @@ use mathlib.Core.Path.{_≡_}
 use Prim.Native.Nat.{_-_, _≤_}
 use native.Mathlib.Omega.{arith}
 use lib.ListN.{length, getD}
-use Rattle.rows.specs.Definition.Devices.{disabledBy, noDevice}
+use Rattle.rows.specs.Definition.Devices.{disabledBy, beyondDevices}
 use Rattle.rows.proofs.Stores.{Mapped, mapped-end, mapped-kept, mapped-more, mapped-none}
 use Rattle.rows.proofs.Disabled.{disabledBy-off, disabledBy-kept}
 use Rattle.rows.proofs.devices.disable.Statement.{statement}
 use Rattle.rows.proofs.devices.disable.Tie as tie
 
 abbrev Inv-loop : tie.InvT-loop
-Inv-loop name length devices rows₀ i₀ rows i = (i ≤ 16) × Mapped (disabledBy name length) noDevice devices i rows
+Inv-loop name length devices rows₀ i₀ rows i = (i ≤ 16) × Mapped (disabledBy name length) beyondDevices devices i rows
 
 abbrev μ-loop : tie.MeasureT-loop
 μ-loop name length devices rows₀ i₀ rows i = 16 - i
 
 loop-holds : tie.Need-loop-holds Inv-loop μ-loop
-loop-holds c = (search needs, mapped-none _ noDevice (c .args .t1))
+loop-holds c = (search needs, mapped-none _ beyondDevices (c .args .t1))
 
 mul-d : tie.Need-mul-d Inv-loop μ-loop
 mul-d c = search needs
@@ -46,12 +46,12 @@ loop-again c =
     let s = c .before .before .before .before .before .before in
     let at = c .before .before .before .before .before .loop in
     let f = disabledBy (s .args .name) (s .args .length) in
-    let d = getD (s .args .t1) (at .i) noDevice in
+    let d = getD (s .args .t1) (at .i) beyondDevices in
     let e = c .before .same-name .ensures in
     let l : length (s .args .t1) ≡ 16 = s .good .0 .1 .0 .1 in
     ⊎-elim
-    (λ w. (search needs, rw (w .1) (mapped-more f noDevice (s .args .t1) (at .i) (at .rows) _ (omega arith) (disabledBy-off (s .args .name) (s .args .length) d _ e (w .0 .taken)) (at .inv .1))))
-    (λ w. (search needs, rw (w .1) (mapped-kept f noDevice (s .args .t1) (at .i) (at .rows) (disabledBy-kept (s .args .name) (s .args .length) d _ e (w .0 .left)) (at .inv .1))))
+    (λ w. (search needs, rw (w .1) (mapped-more f beyondDevices (s .args .t1) (at .i) (at .rows) _ (omega arith) (disabledBy-off (s .args .name) (s .args .length) d _ e (w .0 .taken)) (at .inv .1))))
+    (λ w. (search needs, rw (w .1) (mapped-kept f beyondDevices (s .args .t1) (at .i) (at .rows) (disabledBy-kept (s .args .name) (s .args .length) d _ e (w .0 .left)) (at .inv .1))))
     (c .if1 .came)
 
 returns : tie.Need-returns Inv-loop μ-loop
@@ -59,7 +59,7 @@ returns c =
     let s = c .before .before in
     let at = c .before .loop in
     let l : length (s .args .t1) ≡ 16 = s .good .0 .1 .0 .1 in
-    mapped-end (disabledBy (s .args .name) (s .args .length)) noDevice (s .args .t1) (at .i) (at .rows) (omega arith) (at .inv .1)
+    mapped-end (disabledBy (s .args .name) (s .args .length)) beyondDevices (s .args .t1) (at .i) (at .rows) (omega arith) (at .inv .1)
 
 pub disable-spec : {M : Type 1} → statement M
 disable-spec =

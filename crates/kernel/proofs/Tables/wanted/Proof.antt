@@ -1,8 +1,8 @@
--- `Tables::sought` meets its contract.
+-- `Tables::wanted` meets its contract.
 use borrow.Author.Needs.{needs}
 use Rattle.kernel.proofs.OpenCalls.{default-given, default-absent, named-given, named-absent}
-use Rattle.kernel.proofs.Tables.sought.Statement.{statement}
-use Rattle.kernel.proofs.Tables.sought.Tie as tie
+use Rattle.kernel.proofs.Tables.wanted.Statement.{statement}
+use Rattle.kernel.proofs.Tables.wanted.Tie as tie
 
 enum-known-unit : tie.Need-enum-known-unit
 enum-known-unit c = search needs
@@ -34,8 +34,8 @@ returns-3 c = named-given (c .before .before .before .before .before .before .ar
 returns-4 : tie.Need-returns-4
 returns-4 c = named-absent (c .before .before .before .before .before .args .self) _ _ _ _ (c .before .before .before .if1 .left) (c .before .before .before .before .before .pre .1) (c .before .before .word .ensures) (c .enum-told2 .given .1)
 
-pub sought-spec : {M : Type 1} → statement M
-sought-spec =
+pub wanted-spec : {M : Type 1} → statement M
+wanted-spec =
     tie.close
     (tie.spec
     enum-known-unit
