@@ -6,7 +6,7 @@ use Prim.Native.Nat.{ℕ}
 use lib.ListN.{length}
 use borrow.Author.Tests.{ne-eqb}
 use Rattle.kernel.specs.Definition.Answers.{gives}
-use Rattle.kernel.specs.Definition.Calls.{Call, bad-call}
+use Rattle.kernel.specs.Definition.Calls.{Call, no-call}
 use Rattle.kernel.specs.Definition.Good.{Good}
 use Rattle.kernel.specs.Definition.Tables.{ramSize}
 use Rattle.kernel.specs.Definition.Step.{Result, accepted, result, step}
@@ -19,7 +19,7 @@ use Rattle.events.specs.Laws.Bodies.{no-start}
 use Rattle.events.proofs.Laws.{bad-call}
 
 -- a kind of no call
-pub unknown-kind : (kind : ℕ) (body : List ℕ) → (kind ≡ 0 → ⊥) → (kind ≡ 1 → ⊥) → (kind ≡ 3 → ⊥) → (kind ≡ 6 → ⊥) → (kind ≡ 8 → ⊥) → (kind ≡ 19 → ⊥) → (kind ≡ 20 → ⊥) → (kind ≡ 21 → ⊥) → (kind ≡ 22 → ⊥) → (kind ≡ 23 → ⊥) → (kind ≡ 24 → ⊥) → (kind ≡ 25 → ⊥) → (kind ≡ 256 → ⊥) → (kind ≡ 257 → ⊥) → (kind ≡ 258 → ⊥) → decode kind body ≡ bad-call
+pub unknown-kind : (kind : ℕ) (body : List ℕ) → (kind ≡ 0 → ⊥) → (kind ≡ 1 → ⊥) → (kind ≡ 3 → ⊥) → (kind ≡ 6 → ⊥) → (kind ≡ 8 → ⊥) → (kind ≡ 19 → ⊥) → (kind ≡ 20 → ⊥) → (kind ≡ 21 → ⊥) → (kind ≡ 22 → ⊥) → (kind ≡ 23 → ⊥) → (kind ≡ 24 → ⊥) → (kind ≡ 25 → ⊥) → (kind ≡ 256 → ⊥) → (kind ≡ 257 → ⊥) → (kind ≡ 258 → ⊥) → decode kind body ≡ no-call
 unfolding decode
 unknown-kind kind body a b c d e f g h i j k l m n o =
     rw (
@@ -46,7 +46,7 @@ module _ (t : Tables) (ram : List ℕ) (kind : ℕ) (body out : List ℕ) where
   unfolding stepOf
   by-kind k c x e d q = rw (e, d) q
 
-  pub no-kind : Good t → length ram ≡ ramSize t → (r : Outcome) → decode kind body ≡ bad-call → r ≡ gives BadCall t → result r ram out ≡ stepOf t ram kind body out
+  pub no-kind : Good t → length ram ≡ ramSize t → (r : Outcome) → decode kind body ≡ no-call → r ≡ gives BadCall t → result r ram out ≡ stepOf t ram kind body out
   unfolding stepOf
   no-kind g s r e q = bad-call t ram out g s (decode kind body) r e q
 
