@@ -1,0 +1,88 @@
+//! The edges of open, close, read and write.
+
+use super::{Edge, Meeting};
+use exos_kernel::{HEADING, ROWS_OF_CHANNELS, SEGMENT};
+
+impl<Met: FnMut(Edge)> Meeting<'_, Met> {
+    pub(super) fn open(&mut self, channel: u8, n: usize) {
+        let view = self.view;
+        let (r, limit, t) = (view.r(), view.limit(), view.t() + HEADING + n);
+        let shared = view.is_shared();
+        self.done(t == limit && !shared, Edge::OpenLimit);
+        self.answered(9, t == limit + 1 && !shared, Edge::OpenOver);
+        self.done(t == limit && shared, Edge::OpenSharedLimit);
+        self.answered(9, t == limit + 1 && shared, Edge::OpenSharedOver);
+        self.answered(9, shared && view.free() > 0, Edge::OpenSharedFree);
+        self.done(t == r, Edge::OpenR);
+        self.done(t == r + 1, Edge::OpenPastR);
+        let whole = t > r && (t - r) % SEGMENT == 0;
+        let past = t > r + SEGMENT && (t - r) % SEGMENT == 1;
+        self.done(whole, Edge::OpenSegment);
+        self.done(past, Edge::OpenPastSegment);
+        self.done(n == 0, Edge::OpenEmpty);
+        self.done(n == 65_535, Edge::OpenLongest);
+        let open = view.channels().len();
+        self.done(open + 1 == ROWS_OF_CHANNELS, Edge::Open32);
+        self.answered(8, open == ROWS_OF_CHANNELS, Edge::Open33);
+        self.done(channel == 254, Edge::OpenLast);
+        self.answered(3, channel == 255, Edge::Open255);
+    }
+
+    pub(super) fn close(&mut self, channel: u8) {
+        let view = self.view;
+        let open = view.channels();
+        let Some(row) = open.iter().position(|other| other.number == channel) else {
+            return;
+        };
+        let later = open.len() - 1 - row;
+        self.done(row == 0 && later > 1, Edge::CloseFirst);
+        self.done(row > 0 && later > 0, Edge::CloseMiddle);
+        self.done(later == 0, Edge::CloseLast);
+        let t = view.t();
+        let left = t - HEADING - usize::from(open[row].n);
+        self.done(later > 0 && t > view.r(), Edge::CloseAcross);
+        let links = |t: usize| t.saturating_sub(view.r()).div_ceil(SEGMENT);
+        let gives_up = links(left) < links(t);
+        self.done(gives_up && !view.is_shared(), Edge::CloseFrees);
+        self.done(gives_up && view.is_shared(), Edge::CloseToUser);
+        self.done(!gives_up && view.is_shared(), Edge::CloseShared);
+    }
+
+    fn buffer(&mut self, n: usize, offset: usize, length: usize) {
+        self.done(length == 0 && offset == n, Edge::NoBytesAtEnd);
+        self.answered(13, length == 0 && offset == n + 1, Edge::NoBytesPast);
+    }
+
+    pub(super) fn read(&mut self, channel: u8, offset: usize, length: usize) {
+        let Some(found) = self.view.channel(channel) else {
+            return;
+        };
+        let (n, end) = (usize::from(found.n), offset + length);
+        self.buffer(n, offset, length);
+        self.done(end == n && length > 0, Edge::ReadEnd);
+        self.answered(13, end == n + 1 && self.output >= length, Edge::ReadPast);
+        self.done(self.output == length && length > 0, Edge::ReadExact);
+        self.answered(13, end <= n && self.output + 1 == length, Edge::ReadShort);
+    }
+
+    pub(super) fn write(&mut self, channel: u8, offset: usize, length: usize) {
+        let view = self.view;
+        let Some(row) = view
+            .channels()
+            .iter()
+            .position(|found| found.number == channel)
+        else {
+            return;
+        };
+        let (n, end) = (usize::from(view.channels()[row].n), offset + length);
+        self.buffer(n, offset, length);
+        self.done(end == n && length > 0, Edge::WriteEnd);
+        self.answered(13, end == n + 1, Edge::WritePast);
+        let before = view.channels()[..row].iter();
+        let start: usize = before.map(|other| HEADING + usize::from(other.n)).sum();
+        let first = start + HEADING + offset;
+        let link = |position: usize| (position + SEGMENT - view.r()) / SEGMENT;
+        let across = length > 0 && link(first) < link(first + length - 1);
+        self.done(across, Edge::WriteAcross);
+    }
+}

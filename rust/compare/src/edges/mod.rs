@@ -1,0 +1,114 @@
+//! The edges of document 01, each on both sides: which of them a call met.
+
+mod channels;
+mod devices;
+mod names;
+mod reset;
+mod segments;
+mod user;
+mod words;
+
+use crate::protocol::{Reply, Request};
+use crate::view::View;
+use exos_kernel::{decode, good, Call, Tables, SEGMENT};
+
+pub use words::{Edge, EDGES};
+
+/// A call, its answer, and where what it met is told.
+struct Meeting<'a, Met> {
+    view: View<'a>,
+    output: usize,
+    number: u16,
+    met: Met,
+}
+
+/// Tells each edge that a call met: the tables before it, the length of the
+/// RAM, the request, the reply.
+pub fn edges(
+    before: &Tables,
+    ram_length: usize,
+    request: &Request,
+    reply: &Reply,
+    met: impl FnMut(Edge),
+) {
+    let mut meeting = Meeting {
+        view: View(before),
+        output: usize::from(request.output),
+        number: reply.number,
+        met,
+    };
+    meeting.at(request.record.len() == 65_535, Edge::LongestRecord);
+    meeting.at(request.output == 65_535, Edge::LongestOutput);
+    let call = decode(request.kind(), request.body());
+    let right_length = ram_length == SEGMENT * usize::from(before.segments);
+    let usable = good(before);
+    if let Call::Start { r, list } = call {
+        meeting.done(!usable, Edge::StartOnBad);
+        meeting.start(r, list, ram_length);
+    } else {
+        meeting.answered(1, !usable && right_length, Edge::BadTables);
+        meeting.answered(1, usable && !right_length, Edge::WrongRam);
+        if usable && right_length {
+            meeting.call(call);
+        }
+    }
+}
+
+impl<Met: FnMut(Edge)> Meeting<'_, Met> {
+    fn at(&mut self, at: bool, edge: Edge) {
+        if at {
+            (self.met)(edge);
+        }
+    }
+
+    fn done(&mut self, at: bool, edge: Edge) {
+        self.answered(0, at, edge);
+    }
+
+    fn answered(&mut self, number: u16, at: bool, edge: Edge) {
+        self.at(at && self.number == number, edge);
+    }
+
+    fn call(&mut self, call: Call) {
+        let chain = &self.view.0.chain[..usize::from(self.view.0.chain_length)];
+        let falls = chain.windows(2).all(|pair| pair[0] > pair[1]);
+        self.done(!falls, Edge::ChainNotFalling);
+        match call {
+            Call::Reset { flags } => self.reset(flags),
+            Call::Open {
+                channel, n, name, ..
+            } => {
+                self.open(channel, usize::from(n));
+                self.name(name);
+            }
+            Call::Close { channel } => self.close(channel),
+            Call::Read {
+                channel,
+                offset,
+                length,
+            } => self.read(channel, usize::from(offset), usize::from(length)),
+            Call::Write {
+                channel,
+                offset,
+                data,
+            } => self.write(channel, usize::from(offset), data.len()),
+            Call::Default { name, .. } => self.default(name),
+            Call::Status => self.status(),
+            Call::Link { m, name } => self.link(usize::from(m), name),
+            Call::SetUserBoundary { value } => self.set_user_boundary(usize::from(value)),
+            Call::Allocate { caller } => self.allocate(caller),
+            Call::Free { segment, .. } => self.free(segment),
+            Call::Store {
+                segment,
+                offset,
+                data,
+            } => self.store(segment, usize::from(offset), data.len()),
+            Call::Load {
+                segment,
+                offset,
+                length,
+            } => self.load(segment, usize::from(offset), usize::from(length)),
+            Call::Start { .. } | Call::Boundary | Call::Unknown { .. } => {}
+        }
+    }
+}
