@@ -1,4 +1,4 @@
-//! What is sent, a case's tables, RAM and requests, and what comes back.
+//! What is sent for a case and what comes back: tables, RAM and requests; replies.
 
 use super::Image;
 

@@ -1,0 +1,58 @@
+//! Makes a case that shows a difference as small as it can: fewer records,
+//! then smaller numbers, shorter names and data, plainer tables.
+
+mod bodies;
+mod parts;
+mod requests;
+mod tables;
+#[cfg(test)]
+mod tests;
+
+use crate::protocol::Case;
+
+/// How often all is tried again: numbers that hang together, as R and an n,
+/// could go on falling by little for long.
+const ROUNDS: usize = 10;
+
+/// Shrinks a case. `differs` runs both sides anew and tells the first request
+/// whose replies differ.
+pub fn shrink(case: Case, differs: impl FnMut(&Case) -> Option<usize>) -> Case {
+    let mut shrinker = Shrinker { case, differs };
+    shrinker.accepts(shrinker.case.clone());
+    for _ in 0..ROUNDS {
+        let before = shrinker.case.clone();
+        shrinker.drop_requests();
+        shrinker.join_opens();
+        shrinker.simplify_tables();
+        shrinker.drop_segments();
+        for row in 0..shrinker.case.requests.len() {
+            shrinker.simplify_request(row);
+            shrinker.lower_with_room(row);
+        }
+        shrinker.rename_channels();
+        if shrinker.case == before {
+            break;
+        }
+    }
+    shrinker.case
+}
+
+struct Shrinker<Differs> {
+    case: Case,
+    differs: Differs,
+}
+
+impl<Differs: FnMut(&Case) -> Option<usize>> Shrinker<Differs> {
+    /// Goes on with a case if it shows a difference, and cuts what comes
+    /// after that.
+    fn accepts(&mut self, mut case: Case) -> bool {
+        match (self.differs)(&case) {
+            Some(request) => {
+                case.requests.truncate(request + 1);
+                self.case = case;
+                true
+            }
+            None => false,
+        }
+    }
+}

@@ -1,0 +1,91 @@
+//! Fewer requests, and channels of low numbers.
+
+use super::Shrinker;
+use crate::protocol::{Case, Request};
+use exos_kernel::HEADING;
+use std::ops::Range;
+
+/// Where an open's record has its n.
+const N: Range<usize> = 4..6;
+/// A channel's record without its buffer.
+const RECORD: u16 = HEADING as u16;
+
+impl<Differs: FnMut(&Case) -> Option<usize>> Shrinker<Differs> {
+    /// Leaves out runs of requests: half of them at first, one in the end.
+    pub(super) fn drop_requests(&mut self) {
+        let mut run = self.case.requests.len() / 2;
+        while run > 0 {
+            let mut end = self.case.requests.len();
+            while end > 0 {
+                let start = end.saturating_sub(run);
+                let mut case = self.case.clone();
+                case.requests.drain(start..end.min(case.requests.len()));
+                if !case.requests.is_empty() {
+                    self.accepts(case);
+                }
+                end = start.min(self.case.requests.len());
+            }
+            run /= 2;
+        }
+    }
+
+    /// Leaves out an open and lengthens the buffer of another by its record.
+    pub(super) fn join_opens(&mut self) {
+        let mut row = 0;
+        while row < self.case.requests.len() {
+            let dropped = (0..self.case.requests.len()).any(|other| self.joins(row, other));
+            row += usize::from(!dropped);
+        }
+    }
+
+    fn joins(&mut self, row: usize, other: usize) -> bool {
+        let mut case = self.case.clone();
+        let lengths = (buffer_of(&case, row), buffer_of(&case, other));
+        let (Some(dropped), Some(n)) = lengths else {
+            return false;
+        };
+        let Some(n) = n.checked_add(dropped).and_then(|n| n.checked_add(RECORD)) else {
+            return false;
+        };
+        case.requests[other].record[N].copy_from_slice(&n.to_le_bytes());
+        case.requests.remove(row);
+        row != other && self.accepts(case)
+    }
+
+    /// Gives each channel the lowest number that is not taken, in all calls.
+    pub(super) fn rename_channels(&mut self) {
+        for row in 0..self.case.requests.len() {
+            let Some(old) = self.case.requests.get(row).and_then(channel_of) else {
+                continue;
+            };
+            for new in 0..old {
+                let mut case = self.case.clone();
+                let taken = |request: &Request| channel_of(request) == Some(new);
+                if case.requests.iter().any(taken) {
+                    continue;
+                }
+                for request in &mut case.requests {
+                    if channel_of(request) == Some(old) {
+                        request.record[2] = new;
+                    }
+                }
+                if self.accepts(case) {
+                    break;
+                }
+            }
+        }
+    }
+}
+
+/// The channel that a request names first in its body.
+fn channel_of(request: &Request) -> Option<u8> {
+    let names_channel = matches!(request.kind(), 1 | 3 | 6 | 8);
+    names_channel.then(|| request.body().first().copied())?
+}
+
+/// The n of an open.
+fn buffer_of(case: &Case, row: usize) -> Option<u16> {
+    let request = case.requests.get(row)?;
+    let n = (request.kind() == 1).then(|| request.record.get(N))??;
+    Some(u16::from_le_bytes([n[0], n[1]]))
+}
