@@ -12,7 +12,6 @@ mod grammar;
 mod map;
 mod mistakes;
 mod parse;
-mod reader;
 mod records;
 mod replay;
 mod svg;

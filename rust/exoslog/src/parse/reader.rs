@@ -3,20 +3,20 @@
 use crate::mistakes::Mistake;
 
 /// A line, and how far it is read.
-pub(crate) struct Reader<'a> {
+pub(super) struct Reader<'a> {
     row: usize,
     line: &'a [u8],
     at: usize,
 }
 
 impl<'a> Reader<'a> {
-    pub(crate) fn new(row: usize, line: &'a [u8]) -> Self {
+    pub(super) fn new(row: usize, line: &'a [u8]) -> Self {
         let line = line.strip_suffix(b"\r").unwrap_or(line);
         Reader { row, line, at: 0 }
     }
 
     /// Reads a number, decimal or `0x` and hex digits, up to the most.
-    pub(crate) fn number(&mut self, what: &str, most: u16) -> Result<u16, Mistake> {
+    pub(super) fn number(&mut self, what: &str, most: u16) -> Result<u16, Mistake> {
         let word = self.peek();
         match value(word).filter(|&value| value <= most) {
             Some(value) => {
@@ -27,12 +27,12 @@ impl<'a> Reader<'a> {
         }
     }
 
-    pub(crate) fn byte(&mut self, what: &str) -> Result<u8, Mistake> {
+    pub(super) fn byte(&mut self, what: &str) -> Result<u8, Mistake> {
         Ok(self.number(what, u8::MAX.into())? as u8)
     }
 
     /// Reads pairs of hex digits, with blanks between pairs or none.
-    pub(crate) fn hex(&mut self, what: &str) -> Result<Vec<u8>, Mistake> {
+    pub(super) fn hex(&mut self, what: &str) -> Result<Vec<u8>, Mistake> {
         let first = self.peek().first();
         if !first.is_some_and(u8::is_ascii_hexdigit) {
             return Err(self.mistake(what.to_string()));
@@ -58,7 +58,7 @@ impl<'a> Reader<'a> {
     }
 
     /// Reads a string from its double quote on.
-    pub(crate) fn string(&mut self) -> Result<Vec<u8>, Mistake> {
+    pub(super) fn string(&mut self) -> Result<Vec<u8>, Mistake> {
         const PRINTABLE: &str = "a printable byte or \\x and two hex digits";
         self.take(1);
         let mut bytes = Vec::new();
@@ -96,7 +96,7 @@ impl<'a> Reader<'a> {
     }
 
     /// Nothing more may stand on the line.
-    pub(crate) fn end(&mut self) -> Result<(), Mistake> {
+    pub(super) fn end(&mut self) -> Result<(), Mistake> {
         if self.is_at_end() {
             Ok(())
         } else {
@@ -105,7 +105,7 @@ impl<'a> Reader<'a> {
     }
 
     /// Skips blanks; the next word, empty at a comment or the line's end.
-    pub(crate) fn peek(&mut self) -> &'a [u8] {
+    pub(super) fn peek(&mut self) -> &'a [u8] {
         self.skip_blanks();
         let rest = &self.line[self.at..];
         let end = |&byte: &u8| is_blank(byte) || byte == b'#';
@@ -113,13 +113,13 @@ impl<'a> Reader<'a> {
     }
 
     /// Skips blanks; whether the line ends here or a comment begins.
-    pub(crate) fn is_at_end(&mut self) -> bool {
+    pub(super) fn is_at_end(&mut self) -> bool {
         self.skip_blanks();
         matches!(self.line.get(self.at), None | Some(b'#'))
     }
 
     /// Skips blanks; how far the line is read.
-    pub(crate) fn place(&mut self) -> usize {
+    pub(super) fn place(&mut self) -> usize {
         self.skip_blanks();
         self.at
     }
@@ -129,12 +129,12 @@ impl<'a> Reader<'a> {
         self.at += rest.iter().take_while(|byte| is_blank(**byte)).count();
     }
 
-    pub(crate) fn take(&mut self, length: usize) {
+    pub(super) fn take(&mut self, length: usize) {
         self.at += length;
     }
 
     /// The next word is not what was expected.
-    pub(crate) fn mistake(&mut self, expected: String) -> Mistake {
+    pub(super) fn mistake(&mut self, expected: String) -> Mistake {
         let width = self.peek().len();
         self.mistake_in_word(&expected, width)
     }
@@ -152,7 +152,7 @@ impl<'a> Reader<'a> {
     }
 
     /// What was read from a place on is not what was expected.
-    pub(crate) fn mistake_since(&self, start: usize, expected: String, found: String) -> Mistake {
+    pub(super) fn mistake_since(&self, start: usize, expected: String, found: String) -> Mistake {
         Mistake {
             line: self.row,
             column: start + 1,
