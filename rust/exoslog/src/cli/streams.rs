@@ -1,0 +1,111 @@
+//! What the commands read and write: files, standard input and output.
+
+use super::args::Arguments;
+use super::trouble::Trouble;
+use exoslog::{encode, is_in_words, Listing, Mistake};
+use std::ffi::{OsStr, OsString};
+use std::fs;
+use std::io::{self, ErrorKind, Read, Write};
+
+/// What a log is said to be.
+#[derive(Clone, Copy)]
+pub(super) enum LogForm {
+    Words,
+    Records,
+    Found,
+}
+
+impl LogForm {
+    pub(super) fn of(arguments: &Arguments) -> Result<LogForm, Trouble> {
+        match arguments.value("--from") {
+            None => Ok(LogForm::Found),
+            Some(form) if form == "words" => Ok(LogForm::Words),
+            Some(form) if form == "records" => Ok(LogForm::Records),
+            Some(form) => Err(Trouble::Usage(format!(
+                "--from needs words or records, not {}",
+                form.to_string_lossy()
+            ))),
+        }
+    }
+}
+
+/// A file's name and bytes.
+pub(super) struct Input {
+    pub(super) name: String,
+    pub(super) bytes: Vec<u8>,
+}
+
+/// The most mistakes that are shown.
+const MOST_SHOWN: usize = 20;
+
+impl Input {
+    /// Reads a file; none, or `-`, is standard input.
+    pub(super) fn read(file: Option<&OsString>) -> Result<Input, Trouble> {
+        let file = file.filter(|file| *file != "-");
+        let name = file.map_or("<stdin>".into(), |file| file.to_string_lossy().into_owned());
+        let bytes = match file {
+            Some(file) => fs::read(file),
+            None => {
+                let mut bytes = Vec::new();
+                io::stdin().lock().read_to_end(&mut bytes).map(|_| bytes)
+            }
+        };
+        match bytes {
+            Ok(bytes) => Ok(Input { name, bytes }),
+            Err(error) => Err(Trouble::File(format!("cannot read {name}: {error}"))),
+        }
+    }
+
+    /// The event records of a log in either form.
+    pub(super) fn log(&self, form: LogForm) -> Result<Vec<u8>, Trouble> {
+        let words = match form {
+            LogForm::Words => true,
+            LogForm::Records => false,
+            LogForm::Found => is_in_words(&self.bytes),
+        };
+        if !words {
+            return Ok(self.bytes.clone());
+        }
+        encode(&self.bytes).map_err(|mistakes| self.mistakes(&mistakes))
+    }
+
+    fn mistakes(&self, mistakes: &[Mistake]) -> Trouble {
+        let mut said = String::new();
+        for mistake in mistakes.iter().take(MOST_SHOWN) {
+            said.push_str(&mistake.show(&self.name, &self.bytes));
+        }
+        if mistakes.len() > MOST_SHOWN {
+            let more = mistakes.len() - MOST_SHOWN;
+            said.push_str(&format!("{}: {more} more lines are not right\n", self.name));
+        }
+        Trouble::Input(said)
+    }
+
+    pub(super) fn listing(&self) -> Listing<'_> {
+        Listing {
+            name: &self.name,
+            text: &self.bytes,
+        }
+    }
+}
+
+/// Writes to a file; none, or `-`, is standard output.
+pub(super) fn write(file: Option<&OsStr>, bytes: &[u8]) -> Result<(), Trouble> {
+    match file.filter(|file| *file != "-") {
+        None => print(bytes),
+        Some(file) => fs::write(file, bytes).map_err(|error| {
+            let name = file.to_string_lossy();
+            Trouble::File(format!("cannot write {name}: {error}"))
+        }),
+    }
+}
+
+/// Writes to standard output.
+pub(super) fn print(bytes: &[u8]) -> Result<(), Trouble> {
+    let mut output = io::stdout().lock();
+    let written = output.write_all(bytes).and_then(|()| output.flush());
+    written.map_err(|error| match error.kind() {
+        ErrorKind::BrokenPipe => Trouble::BrokenPipe,
+        _ => Trouble::File(format!("cannot write standard output: {error}")),
+    })
+}
