@@ -205,15 +205,16 @@ mod tests {
         compared(one, two, None)
     }
 
-    fn compared(one: &str, two: &str, log: Option<&str>) -> Option<String> {
-        let log = log.map(|text| encode(text.as_bytes()).unwrap());
-        let listing = |name, text: &'static str| Listing {
+    fn listing<'a>(name: &'a str, text: &'a str) -> Listing<'a> {
+        Listing {
             name,
             text: text.as_bytes(),
-        };
-        let one = listing("one", Box::leak(one.to_string().into_boxed_str()));
-        let two = listing("two", Box::leak(two.to_string().into_boxed_str()));
-        diff(one, two, log.as_deref())
+        }
+    }
+
+    fn compared(one: &str, two: &str, log: Option<&str>) -> Option<String> {
+        let log = log.map(|text| encode(text.as_bytes()).unwrap());
+        diff(listing("one", one), listing("two", two), log.as_deref())
     }
 
     #[test]

@@ -2,10 +2,11 @@
 
 use crate::map::{Map, Ram, Region, Segment, What};
 use crate::words::counted;
+use exos_kernel::SEGMENT;
 
 /// The cells of a segment's bar; a cell is 256 bytes.
 const CELLS: usize = 64;
-const CELL: usize = 16_384 / CELLS;
+const CELL: usize = SEGMENT / CELLS;
 const WIDTH: usize = 80;
 
 /// The picture of a map as plain text.

@@ -4,11 +4,10 @@ use super::drawing::{Drawing, Text};
 use super::{fill, CHARACTER, MARGIN, ROW};
 use crate::map::{Ram, Region, Segment};
 use crate::words::counted;
+use exos_kernel::SEGMENT;
 use std::cmp::Reverse;
 use std::iter::repeat_n;
 
-/// The bytes of a segment.
-const SEGMENT: usize = 16_384;
 /// The least height of a column; more where its labels need it.
 const LEAST_HEIGHT: f64 = 512.0;
 /// From a label to the next.

@@ -2,10 +2,8 @@
 
 use crate::logs::random_log;
 use crate::random::Random;
-use exos_kernel::Machine;
+use exos_kernel::{Machine, SEGMENT};
 use exoslog::{answer_to, map, records, svg, terminal, Class, Map, Ram, What};
-
-const SEGMENT: usize = 16_384;
 
 fn after(log: &[u8]) -> (Map, Machine) {
     let mut machine = Machine::default();
