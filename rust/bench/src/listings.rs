@@ -1,6 +1,7 @@
 //! (f): the listing programs, each over the same log.
 
-use crate::{clock, medians};
+use crate::clock;
+use crate::measure::medians;
 use exos_bench::mixed;
 use std::fs::File;
 use std::path::Path;
@@ -38,10 +39,10 @@ pub fn print(proved: &str, rust: &str, records: usize, rounds: usize) {
         rounds,
         clock::others,
         &mut [
-            ("proved", &mut || list(proved, &log, Stdio::null())),
-            ("rust", &mut || list(rust, &log, Stdio::null())),
-            ("proved, none", &mut || list(proved, &none, Stdio::null())),
-            ("rust, none", &mut || list(rust, &none, Stdio::null())),
+            &mut || list(proved, &log, Stdio::null()),
+            &mut || list(rust, &log, Stdio::null()),
+            &mut || list(proved, &none, Stdio::null()),
+            &mut || list(rust, &none, Stdio::null()),
         ],
     );
     std::fs::remove_dir_all(room).expect("a folder that can be removed");

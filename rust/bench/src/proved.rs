@@ -1,4 +1,4 @@
-//! The proved kernel's entry points, and the stack that they use.
+//! The proved kernel's entry points.
 
 use exos_kernel::Reply;
 
@@ -61,25 +61,4 @@ fn replay(entry: Entry, ram: &mut [u8], out: &mut [u8], log: &[u8]) -> Reply {
         a: reply[2],
         b: u16::from_le_bytes([reply[4], reply[5]]),
     }
-}
-
-/// How far below a caller's frame the painted part of the stack reaches.
-const PAINTED: usize = 256 * 1024;
-/// What is left alone just below the frame.
-const SPARED: usize = 512;
-const PAINT: u8 = 0xA5;
-
-/// The bytes of stack that a call writes to, by paint below this frame that the call wears off.
-#[inline(never)]
-pub fn stack_of(mut run: impl FnMut()) -> usize {
-    let mark = 0u8;
-    let top = std::hint::black_box(&mark) as *const u8 as usize - SPARED;
-    let bottom = top - PAINTED;
-    // SAFETY: the stack of the main thread reaches 8 MiB down, and nothing below this frame is in use.
-    for at in bottom..top {
-        unsafe { (at as *mut u8).write_volatile(PAINT) };
-    }
-    run();
-    let worn = (bottom..top).find(|at| unsafe { (*at as *const u8).read_volatile() } != PAINT);
-    worn.map_or(0, |at| top + SPARED - at)
 }

@@ -1,0 +1,48 @@
+//! (e): the stack that a log's calls use.
+
+use crate::measure::Lent;
+use crate::proved;
+use exos_bench::{mixed, run};
+
+/// A table of the sides. The stack with tables held.
+pub fn print() -> usize {
+    let log = mixed(2_000, 8);
+    let [mut a, mut b, mut c] = [0; 3].map(|_| Lent::new(8));
+    let held = stack_of(|| {
+        proved::held(&mut a.ram, &mut a.out, &log.bytes);
+    });
+    let tested = stack_of(|| {
+        proved::tested(&mut b.ram, &mut b.out, &log.bytes);
+    });
+    let rust = stack_of(|| {
+        run(&mut c.ram, &mut c.out, &log.bytes);
+    });
+    println!("## (e) Stack\n");
+    println!("| stack used by a log's calls | bytes |");
+    println!("|---|---:|");
+    println!("| proved step, tables held | {held} |");
+    println!("| proved public calls, tables tested | {tested} |");
+    println!("| Rust kernel | {rust} |\n");
+    held
+}
+
+/// How far below a caller's frame the painted part of the stack reaches.
+const PAINTED: usize = 256 * 1024;
+/// What is left alone just below the frame.
+const SPARED: usize = 512;
+const PAINT: u8 = 0xA5;
+
+/// The bytes of stack that a call writes to, by paint below this frame that the call wears off.
+#[inline(never)]
+fn stack_of(mut run: impl FnMut()) -> usize {
+    let mark = 0u8;
+    let top = std::hint::black_box(&mark) as *const u8 as usize - SPARED;
+    let bottom = top - PAINTED;
+    // SAFETY: the stack of the main thread reaches 8 MiB down, and nothing below this frame is in use.
+    for at in bottom..top {
+        unsafe { (at as *mut u8).write_volatile(PAINT) };
+    }
+    run();
+    let worn = (bottom..top).find(|at| unsafe { (*at as *const u8).read_volatile() } != PAINT);
+    worn.map_or(0, |at| top + SPARED - at)
+}
