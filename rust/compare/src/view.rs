@@ -2,6 +2,11 @@
 
 use exos_kernel::{class, Channel, Device, Tables, HEADING, SEGMENT};
 
+/// How many segments beyond 255 the chain has for an R and a T.
+pub fn further(r: usize, t: usize) -> usize {
+    t.saturating_sub(r).div_ceil(SEGMENT)
+}
+
 /// A view of good tables.
 #[derive(Clone, Copy)]
 pub struct View<'a>(pub &'a Tables);
@@ -27,11 +32,16 @@ impl<'a> View<'a> {
         &self.0.devices[..usize::from(self.0.device_count)]
     }
 
-    /// The open channel of a number.
-    pub fn channel(self, number: u8) -> Option<&'a Channel> {
+    /// The row of the open channel of a number.
+    pub fn row_of(self, number: u8) -> Option<usize> {
         self.channels()
             .iter()
-            .find(|channel| channel.number == number)
+            .position(|channel| channel.number == number)
+    }
+
+    /// The open channel of a number.
+    pub fn channel(self, number: u8) -> Option<&'a Channel> {
+        self.row_of(number).map(|row| &self.channels()[row])
     }
 
     /// The segment numbers of a class.

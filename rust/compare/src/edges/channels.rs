@@ -1,6 +1,7 @@
 //! The edges of open, close, read and write.
 
 use super::{Edge, Meeting};
+use crate::view::further;
 use exos_kernel::{HEADING, ROWS_OF_CHANNELS, SEGMENT};
 
 impl<Met: FnMut(Edge)> Meeting<'_, Met> {
@@ -31,7 +32,7 @@ impl<Met: FnMut(Edge)> Meeting<'_, Met> {
     pub(super) fn close(&mut self, channel: u8) {
         let view = self.view;
         let open = view.channels();
-        let Some(row) = open.iter().position(|other| other.number == channel) else {
+        let Some(row) = view.row_of(channel) else {
             return;
         };
         let later = open.len() - 1 - row;
@@ -41,8 +42,7 @@ impl<Met: FnMut(Edge)> Meeting<'_, Met> {
         let t = view.t();
         let left = t - HEADING - usize::from(open[row].n);
         self.done(later > 0 && t > view.r(), Edge::CloseAcross);
-        let links = |t: usize| t.saturating_sub(view.r()).div_ceil(SEGMENT);
-        let gives_up = links(left) < links(t);
+        let gives_up = further(view.r(), left) < further(view.r(), t);
         self.done(gives_up && !view.is_shared(), Edge::CloseFrees);
         self.done(gives_up && view.is_shared(), Edge::CloseToUser);
         self.done(!gives_up && view.is_shared(), Edge::CloseShared);
@@ -67,11 +67,7 @@ impl<Met: FnMut(Edge)> Meeting<'_, Met> {
 
     pub(super) fn write(&mut self, channel: u8, offset: usize, length: usize) {
         let view = self.view;
-        let Some(row) = view
-            .channels()
-            .iter()
-            .position(|found| found.number == channel)
-        else {
+        let Some(row) = view.row_of(channel) else {
             return;
         };
         let (n, end) = (usize::from(view.channels()[row].n), offset + length);

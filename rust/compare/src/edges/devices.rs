@@ -1,7 +1,8 @@
 //! The edges of default and link.
 
 use super::{Edge, Meeting};
-use exos_kernel::{NAME, ROWS_OF_DEVICES, SEGMENT};
+use crate::view::further;
+use exos_kernel::{NAME, ROWS_OF_DEVICES};
 
 impl<Met: FnMut(Edge)> Meeting<'_, Met> {
     pub(super) fn default(&mut self, name: &[u8]) {
@@ -18,9 +19,9 @@ impl<Met: FnMut(Edge)> Meeting<'_, Met> {
         self.done(t + m == limit, Edge::LinkLimit);
         self.answered(9, t + m == limit + 1 && r >= m + 256, Edge::LinkOver);
         self.done(m == 0, Edge::LinkNothing);
-        let links = |r: usize| t.saturating_sub(r).div_ceil(SEGMENT);
-        self.done(r >= m && links(r - m) > links(r), Edge::LinkGrows);
-        self.done(m > 0 && links(r) > 0, Edge::LinkMoves);
+        let grows = r >= m && further(r - m, t) > further(r, t);
+        self.done(grows, Edge::LinkGrows);
+        self.done(m > 0 && further(r, t) > 0, Edge::LinkMoves);
         let devices = view.devices();
         self.done(devices.len() + 1 == ROWS_OF_DEVICES, Edge::Link16);
         self.answered(8, devices.len() == ROWS_OF_DEVICES, Edge::Link17);

@@ -2,6 +2,7 @@
 
 use super::{Mood, Steer};
 use crate::protocol::Request;
+use crate::view::further;
 use exos_kernel::{HEADING, SEGMENT};
 
 impl Steer<'_> {
@@ -64,8 +65,7 @@ impl Steer<'_> {
     fn edge_length(&mut self) -> usize {
         let view = self.view();
         let start = view.t() + HEADING;
-        let over = start.saturating_sub(view.r()).div_ceil(SEGMENT);
-        let next = view.r() + SEGMENT * over;
+        let next = view.r() + SEGMENT * further(view.r(), start);
         let limit = view.limit();
         let often = if self.mood == Mood::Room { limit } else { next };
         let targets = [limit, often, often, next, next, next + SEGMENT];
