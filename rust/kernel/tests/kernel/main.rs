@@ -13,6 +13,7 @@ mod names;
 mod plain_good;
 #[path = "../../../compare/src/random.rs"]
 mod random;
+mod random_calls;
 mod random_tables;
 mod refusals;
 mod resets;

@@ -1,4 +1,4 @@
-//! A second, plain model, run beside the kernel over random calls.
+//! A second, plain model of the kernel.
 //!
 //! It keeps a vector of bytes a channel and draws the whole line anew, byte by
 //! byte, after each change. With it: "A byte read from an open channel is the
@@ -7,8 +7,6 @@
 //! and an open "is refused for room exactly when no such layout fits".
 
 use crate::machine::{Answer, Machine};
-use crate::random::Random;
-use exos_kernel::Call;
 use std::collections::HashMap;
 
 #[derive(Clone, Copy, PartialEq, Eq, Debug)]
@@ -20,48 +18,34 @@ enum Held {
     Shared,
 }
 
-struct Open {
+pub struct Open {
     number: u8,
     device: u8,
     unit: u8,
-    bytes: Vec<u8>,
+    pub bytes: Vec<u8>,
 }
 
 /// A string for open, the device and the unit it gives.
-type Spelling = (&'static str, Option<&'static str>, Option<u8>);
-
-const SPELLINGS: [Spelling; 9] = [
-    ("VIDEO:", Some("VIDEO"), None),
-    ("video-7:X", Some("VIDEO"), Some(7)),
-    ("Net255:", Some("NET"), Some(255)),
-    ("KEYBOARD-0:", Some("KEYBOARD"), Some(0)),
-    ("DISK1:A.B", Some("DISK"), Some(1)),
-    ("TAPE:", Some("TAPE"), None),
-    ("", None, None),
-    ("9:file", None, Some(9)),
-    ("file", None, None),
-];
-
-const NAMES: [&str; 4] = ["DISK", "TAPE", "NET", "VIDEO"];
+pub type Spelling = (&'static str, Option<&'static str>, Option<u8>);
 
 const SIZE: usize = 16_384;
 
-struct Model {
-    list: Vec<u8>,
+pub struct Model {
+    pub list: Vec<u8>,
     held: Vec<(u8, Held)>,
     chain: Vec<u8>,
     user_boundary: usize,
     r: usize,
     cold_r: usize,
-    opens: Vec<Open>,
+    pub opens: Vec<Open>,
     devices: Vec<&'static str>,
-    default: (&'static str, u8),
+    pub default: (&'static str, u8),
     memory: Vec<Vec<u8>>,
     stored: HashMap<(u8, usize), u8>,
 }
 
 impl Model {
-    fn new(r: usize, list: &[u8]) -> Model {
+    pub fn new(r: usize, list: &[u8]) -> Model {
         let mut memory = vec![vec![]; 256];
         for &segment in list {
             memory[usize::from(segment)] = vec![0; SIZE];
@@ -83,7 +67,7 @@ impl Model {
         }
     }
 
-    fn t(&self) -> usize {
+    pub fn t(&self) -> usize {
         self.opens.iter().map(|open| 16 + open.bytes.len()).sum()
     }
 
@@ -96,7 +80,7 @@ impl Model {
         row.map(|row| &mut row.1)
     }
 
-    fn find(&self, number: u8) -> Option<usize> {
+    pub fn find(&self, number: u8) -> Option<usize> {
         self.opens.iter().position(|open| open.number == number)
     }
 
@@ -109,7 +93,7 @@ impl Model {
     }
 
     /// How many places a layout may use.
-    fn layout_room(&self) -> usize {
+    pub fn layout_room(&self) -> usize {
         let free = self.count(Held::Free);
         let shared = self.count(Held::Shared);
         let held = self.count(Held::System) + shared - 1;
@@ -122,7 +106,7 @@ impl Model {
         (1..).find(|k| room(k) >= self.t()).unwrap()
     }
 
-    fn exos_boundary(&self) -> usize {
+    pub fn exos_boundary(&self) -> usize {
         self.r + SIZE * (self.chain.len() - 1) - self.t()
     }
 
@@ -159,7 +143,7 @@ impl Model {
         }
     }
 
-    fn open(&mut self, number: u8, n: usize, spelling: Spelling) -> Answer {
+    pub fn open(&mut self, number: u8, n: usize, spelling: Spelling) -> Answer {
         let (_, device, unit) = spelling;
         let name = device.unwrap_or(self.default.0);
         let absent = if device.is_some() { 0 } else { self.default.1 };
@@ -190,7 +174,7 @@ impl Model {
         (0, device, unit.into())
     }
 
-    fn close(&mut self, number: u8) -> Answer {
+    pub fn close(&mut self, number: u8) -> Answer {
         let Some(at) = self.find(number) else {
             return (3, 0, 0);
         };
@@ -200,13 +184,13 @@ impl Model {
         (0, 0, 0)
     }
 
-    fn read(&self, number: u8, offset: usize, length: usize) -> Result<&[u8], Answer> {
+    pub fn read(&self, number: u8, offset: usize, length: usize) -> Result<&[u8], Answer> {
         let at = self.find(number).ok_or((3, 0, 0))?;
         let part = self.opens[at].bytes.get(offset..offset + length);
         part.ok_or((13, 0, 0))
     }
 
-    fn write(&mut self, number: u8, offset: usize, data: &[u8]) -> Answer {
+    pub fn write(&mut self, number: u8, offset: usize, data: &[u8]) -> Answer {
         let Some(at) = self.find(number) else {
             return (3, 0, 0);
         };
@@ -219,7 +203,7 @@ impl Model {
         (0, 0, data.len() as u16)
     }
 
-    fn link(&mut self, m: usize, name: &'static str) -> Answer {
+    pub fn link(&mut self, m: usize, name: &'static str) -> Answer {
         if self.devices.len() == 16 {
             return (8, 0, 0);
         }
@@ -235,7 +219,7 @@ impl Model {
         (0, self.devices.len() as u8 - 1, self.r as u16)
     }
 
-    fn allocate(&mut self, caller: u8) -> Answer {
+    pub fn allocate(&mut self, caller: u8) -> Answer {
         let boundary = self.exos_boundary();
         let unshared = self.count(Held::Shared) == 0;
         if let Some(row) = self.held.iter_mut().find(|row| row.1 == Held::Free) {
@@ -255,7 +239,7 @@ impl Model {
         (10, 0, 0)
     }
 
-    fn free(&mut self, caller: u8, segment: u8) -> Answer {
+    pub fn free(&mut self, caller: u8, segment: u8) -> Answer {
         let Some(held) = self.held(segment) else {
             return (11, 0, 0);
         };
@@ -270,7 +254,7 @@ impl Model {
         (0, 0, 0)
     }
 
-    fn set_boundary(&mut self, value: usize) -> Answer {
+    pub fn set_boundary(&mut self, value: usize) -> Answer {
         if self.count(Held::Shared) == 0 || value > self.exos_boundary() {
             return (12, 0, 0);
         }
@@ -279,7 +263,7 @@ impl Model {
     }
 
     /// How much of a segment is the user's.
-    fn users(&self, segment: u8) -> Option<usize> {
+    pub fn users(&self, segment: u8) -> Option<usize> {
         if segment == self.list[0] {
             return Some(SIZE);
         }
@@ -291,7 +275,7 @@ impl Model {
         }
     }
 
-    fn store(&mut self, segment: u8, offset: usize, data: &[u8]) -> Answer {
+    pub fn store(&mut self, segment: u8, offset: usize, data: &[u8]) -> Answer {
         let Some(end) = self.users(segment) else {
             return (11, 0, 0);
         };
@@ -309,13 +293,13 @@ impl Model {
         (0, 0, data.len() as u16)
     }
 
-    fn load(&self, segment: u8, offset: usize, length: usize) -> Result<&[u8], Answer> {
+    pub fn load(&self, segment: u8, offset: usize, length: usize) -> Result<&[u8], Answer> {
         let end = self.users(segment).ok_or((11, 0, 0))?;
         let part = self.memory[usize::from(segment)][..end].get(offset..offset + length);
         part.ok_or((13, 0, 0))
     }
 
-    fn reset(&mut self, flags: u8) -> Answer {
+    pub fn reset(&mut self, flags: u8) -> Answer {
         if flags & 0x30 != 0 {
             while let Some(open) = self.opens.last() {
                 self.close(open.number);
@@ -335,7 +319,7 @@ impl Model {
     }
 
     /// Everything the model knows, against the machine.
-    fn check(&mut self, machine: &mut Machine) {
+    pub fn check(&mut self, machine: &mut Machine) {
         for &segment in &self.list {
             let expected = &self.memory[usize::from(segment)];
             assert!(machine.segment(segment) == expected, "{segment}");
@@ -379,167 +363,4 @@ fn record(open: &Open) -> Vec<u8> {
     bytes.extend([0; 7]);
     bytes.extend(&open.bytes);
     bytes
-}
-
-/// A buffer length: small, middling, any, or at the edge of the room.
-fn some_n(random: &mut Random, model: &Model) -> usize {
-    let room = model.layout_room() - model.t();
-    match random.below(6) {
-        0 | 1 => random.below(64),
-        2 | 3 => random.below(6_000),
-        4 => random.below(65_536),
-        _ => (room + random.below(4)).saturating_sub(18).min(65_535),
-    }
-}
-
-fn some_number(random: &mut Random) -> u8 {
-    random.pick(&[0, 1, 2, 3, 4, 5, 6, 7, 200, 253, 254, 255])
-}
-
-fn some_segment(random: &mut Random, model: &Model) -> u8 {
-    if random.one_in(20) {
-        random.byte()
-    } else {
-        random.pick(&model.list)
-    }
-}
-
-/// An offset into a buffer or segment of so many bytes, mostly within.
-fn some_offset(random: &mut Random, length: usize) -> usize {
-    match random.below(4) {
-        0 => length.saturating_sub(random.below(12)),
-        1 => random.below(0x70),
-        _ => random.below(length + 2),
-    }
-}
-
-fn check_read(machine: &mut Machine, expected: Result<&[u8], Answer>, request: Call) {
-    let answer = machine.call(request);
-    match expected {
-        Ok(bytes) => {
-            assert_eq!(answer, (0, 0, bytes.len() as u16));
-            assert!(machine.output[..bytes.len()] == *bytes);
-        }
-        Err(refused) => assert_eq!(answer, refused),
-    }
-}
-
-fn step_channel(random: &mut Random, model: &mut Model, machine: &mut Machine) {
-    let number = some_number(random);
-    let n = model
-        .find(number)
-        .map_or(50, |at| model.opens[at].bytes.len());
-    let offset = some_offset(random, n).min(65_535);
-    match random.below(8) {
-        0..=2 => {
-            let n = some_n(random, model);
-            let spelling = random.pick(&SPELLINGS);
-            let answer = machine.open_named(number, n as u16, spelling.0.as_bytes());
-            assert_eq!(answer, model.open(number, n, spelling));
-        }
-        3 | 4 => assert_eq!(machine.close(number), model.close(number)),
-        5 | 6 => {
-            let length = random.pick(&[0, 1, 2, 9, 300, 20_000]);
-            let data = random.bytes(length.min(n));
-            let expected = model.write(number, offset, &data);
-            assert_eq!(machine.write(number, offset as u16, &data), expected);
-        }
-        _ => {
-            let length = random.pick(&[0, 1, 2, 300, n, n - offset.min(n)]);
-            let request = Call::Read {
-                channel: number,
-                offset: offset as u16,
-                length: length as u16,
-            };
-            check_read(machine, model.read(number, offset, length), request);
-        }
-    }
-}
-
-fn step_segment(random: &mut Random, model: &mut Model, machine: &mut Machine) {
-    let caller = random.below(3) as u8 / 2;
-    let segment = some_segment(random, model);
-    let end = model.users(segment).unwrap_or(100);
-    let offset = some_offset(random, end);
-    match random.below(8) {
-        0 | 1 => assert_eq!(machine.allocate(caller), model.allocate(caller)),
-        2 => {
-            let answer = machine.free(caller, segment);
-            assert_eq!(answer, model.free(caller, segment));
-        }
-        3 | 4 => {
-            let value = some_offset(random, model.exos_boundary());
-            let answer = machine.set_boundary(value as u16);
-            assert_eq!(answer, model.set_boundary(value));
-        }
-        5 | 6 => {
-            let length = random.below(14);
-            let data = random.bytes(length);
-            let answer = machine.store(segment, offset as u16, &data);
-            assert_eq!(answer, model.store(segment, offset, &data));
-        }
-        _ => {
-            let length = random.pick(&[0, 1, 12, end, end.saturating_sub(offset)]);
-            let request = Call::Load {
-                segment,
-                offset: offset as u16,
-                length: length as u16,
-            };
-            check_read(machine, model.load(segment, offset, length), request);
-        }
-    }
-}
-
-fn step_device(random: &mut Random, model: &mut Model, machine: &mut Machine) {
-    let name = random.pick(&NAMES);
-    match random.below(12) {
-        0 => {
-            let flags = random.below(8) as u8 * 16;
-            assert_eq!(machine.reset(flags), model.reset(flags));
-        }
-        1..=3 => {
-            let unit = random.byte();
-            let text = name.to_lowercase();
-            let name_bytes = text.as_bytes();
-            let answer = machine.call(Call::Default {
-                unit,
-                name: name_bytes,
-            });
-            assert_eq!(answer, (0, 0, 0));
-            model.default = (name, unit);
-        }
-        _ => {
-            let most = random.pick(&[1, 20, 20, 1_000, 9_000]);
-            let m = random.below(most);
-            let answer = machine.link(m as u16, name.as_bytes());
-            assert_eq!(answer, model.link(m, name));
-        }
-    }
-}
-
-fn run(case: u64, calls: usize) {
-    let mut random = Random::new(1, case);
-    let segments = 1 + random.below(6);
-    let mut list: Vec<u8> = (0..segments).map(|_| 8 + random.below(247) as u8).collect();
-    list.push(255);
-    list.sort_unstable();
-    list.dedup();
-    let r = 256 + random.below(16_128 - 256 + 1);
-    let mut machine = Machine::start(r as u16, &list);
-    let mut model = Model::new(r, &list);
-    for _ in 0..calls {
-        match random.below(10) {
-            0..=5 => step_channel(&mut random, &mut model, &mut machine),
-            6..=8 => step_segment(&mut random, &mut model, &mut machine),
-            _ => step_device(&mut random, &mut model, &mut machine),
-        }
-        model.check(&mut machine);
-    }
-}
-
-#[test]
-fn random_calls_agree_with_the_plain_model() {
-    for case in 1..=100 {
-        run(case, 150);
-    }
 }

@@ -404,7 +404,7 @@ fn the_lowest_number_wins_in_an_open() {
     for number in 0..32 {
         machine.open(number, 0);
     }
-    let mut steps = vec![
+    let steps = [
         (255, 9, 65_535, &b"?:"[..], (3, 0, 0)),
         (31, 9, 65_535, b"?:", (4, 0, 0)),
         (32, 9, 65_535, b"?:", (5, 0, 0)),
@@ -412,7 +412,7 @@ fn the_lowest_number_wins_in_an_open() {
         (32, 9, 65_535, b"NET:", (7, 9, 0)),
         (32, 0, 65_535, b"NET:", (8, 0, 0)),
     ];
-    for (channel, driver_status, n, name, expected) in steps.drain(..) {
+    for (channel, driver_status, n, name, expected) in steps {
         let open = Call::Open {
             channel,
             driver_status,
