@@ -3,7 +3,7 @@
 use crate::judge::Difference;
 use crate::machine::Machine;
 use crate::protocol::{tables_of, Case, Image, Reply, Request, IMAGE};
-use exos_kernel::{good, Device, Tables};
+use exos_kernel::{good, Channel, Device, Tables};
 use exoslog::{hex, quoted, Class, Record, LONGEST};
 use std::fmt::Write;
 
@@ -74,47 +74,56 @@ fn answer(reply: &Reply) -> String {
 
 fn tables_in_words(title: &str, tables: &Tables) -> String {
     let state = if good(tables) { "good" } else { "not good" };
-    let used = |count: u8, rows: usize| usize::from(count).min(rows);
-    let segments = used(tables.segments, tables.list.len());
-    let held: Vec<_> = (0..segments)
-        .map(|row| format!("{} {}", tables.list[row], class_name(tables.classes[row])))
-        .collect();
-    let chain = &tables.chain[..used(tables.chain_length, tables.chain.len())];
-    let chain: Vec<_> = chain
-        .iter()
-        .map(|&row| tables.list.get(usize::from(row)))
-        .map(|number| number.map_or("?".into(), u8::to_string))
-        .collect();
-    let channels = &tables.channels[..used(tables.channel_count, tables.channels.len())];
-    let channels: Vec<_> = channels
-        .iter()
-        .map(|row| {
-            format!(
-                "{} (device {}, unit {}, n {})",
-                row.number, row.device, row.unit, row.n
-            )
-        })
-        .collect();
-    let devices = &tables.devices[..used(tables.device_count, tables.devices.len())];
-    let devices: Vec<_> = devices.iter().map(device_words).collect();
+    let held: Vec<_> = tables.list.into_iter().zip(tables.classes).collect();
+    let in_list = |row: &u8| {
+        let number = tables.list.get(usize::from(*row));
+        number.map_or("?".to_string(), u8::to_string)
+    };
     let default = &tables.default;
     let default_name = name_words(&default.name, default.length);
-    let rows = |count: u8, rows: Vec<String>| format!("{count}: {}", rows.join(", "));
     [
         format!("# {title} ({state}):"),
-        format!("segments: {}", rows(tables.segments, held)),
-        format!("chain: {}", rows(tables.chain_length, chain)),
+        rows("segments", tables.segments, &held, segment_words),
+        rows("chain", tables.chain_length, &tables.chain, in_list),
         format!("user boundary: {}", tables.user_boundary),
         format!("R, cold R: {}, {}", tables.r, tables.cold_r),
-        format!("channels: {}", rows(tables.channel_count, channels)),
-        format!("devices: {}", rows(tables.device_count, devices)),
+        rows(
+            "channels",
+            tables.channel_count,
+            &tables.channels,
+            channel_words,
+        ),
+        rows(
+            "devices",
+            tables.device_count,
+            &tables.devices,
+            device_words,
+        ),
         format!("default: {default_name} unit {}\n", default.unit),
     ]
     .join("\n#   ")
 }
 
-fn class_name(held: u8) -> String {
-    Class::of(held).map_or(format!("class {held}"), |class| class.to_string())
+/// The rows that are used by a count, which any tables may have too high.
+fn rows<T>(name: &str, count: u8, rows: &[T], words: impl Fn(&T) -> String) -> String {
+    let used = rows.iter().take(count.into());
+    let said: Vec<_> = used.map(words).collect();
+    format!("{name}: {count}: {}", said.join(", "))
+}
+
+fn segment_words(&(number, held): &(u8, u8)) -> String {
+    let class = Class::of(held).map_or(format!("class {held}"), |class| class.to_string());
+    format!("{number} {class}")
+}
+
+fn channel_words(channel: &Channel) -> String {
+    let Channel {
+        number,
+        device,
+        unit,
+        n,
+    } = channel;
+    format!("{number} (device {device}, unit {unit}, n {n})")
 }
 
 fn device_words(device: &Device) -> String {
