@@ -16,8 +16,11 @@ pub use words::{Edge, EDGES};
 
 /// A call, its answer, and where what it met is told.
 struct Meeting<'a, Met> {
+    /// The tables before the call.
     view: View<'a>,
+    /// The length of the lent output.
     output: usize,
+    /// The answer's number.
     number: u16,
     met: Met,
 }
@@ -55,16 +58,19 @@ pub fn edges(
 }
 
 impl<Met: FnMut(Edge)> Meeting<'_, Met> {
+    /// Tells an edge that the call is at.
     fn at(&mut self, at: bool, edge: Edge) {
         if at {
             (self.met)(edge);
         }
     }
 
+    /// Tells an edge that the call is at if it was done.
     fn done(&mut self, at: bool, edge: Edge) {
         self.answered(0, at, edge);
     }
 
+    /// Tells an edge that the call is at if it got that answer.
     fn answered(&mut self, number: u16, at: bool, edge: Edge) {
         self.at(at && self.number == number, edge);
     }
