@@ -1,7 +1,7 @@
 //! Records in words.
 
 use crate::grammar::{form_of, Field, Form, Misfit};
-use crate::records::{records, Record};
+use crate::records::{records, Record, LONGEST};
 
 /// A log in words, one record a line. [`encode`](crate::encode) gives exactly
 /// these bytes back.
@@ -112,10 +112,10 @@ fn bad(bytes: &[u8]) -> String {
         return format!("raw {} # cut in its length", hex(bytes));
     };
     let length = u16::from_le_bytes(*field);
-    let why = if (2..=4_096).contains(&length) {
+    let why = if (2..=LONGEST).contains(&usize::from(length)) {
         format!("cut: length {length}, bytes {}", rest.len())
     } else {
-        format!("length {length}, not 2 to 4096")
+        format!("length {length}, not 2 to {LONGEST}")
     };
     let blank = if rest.is_empty() { "" } else { " " };
     format!("raw {}{blank}{} # {why}", hex(field), hex(rest))
