@@ -30,6 +30,7 @@ pub fn print() -> usize {
 const PAINTED: usize = 256 * 1024;
 /// What is left alone just below the frame.
 const SPARED: usize = 512;
+/// A byte that a call seldom leaves.
 const PAINT: u8 = 0xA5;
 
 /// The bytes of stack that a call writes to, by paint below this frame that the call wears off.
@@ -43,6 +44,7 @@ fn stack_of(mut run: impl FnMut()) -> usize {
         unsafe { (at as *mut u8).write_volatile(PAINT) };
     }
     run();
+    // SAFETY: the same bytes, all of them written above.
     let worn = (bottom..top).find(|at| unsafe { (*at as *const u8).read_volatile() } != PAINT);
     worn.map_or(0, |at| top + SPARED - at)
 }
