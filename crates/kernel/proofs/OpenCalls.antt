@@ -33,7 +33,7 @@ use Rattle.kernel.specs.Definition.Step.{Result, completed, result, ramO
 use Rattle.kernel.specs.Laws.Opens.{New, Fits, onOpenRow, opening-held, opening-row, opening-chain}
 use Rattle.kernel.specs.Laws.Wants.{parts-few, meant}
 use Rattle.kernel.specs.declared.Tables.{Tables}
-use Rattle.kernel.specs.declared.open.Wanted.{Wanted}
+use Rattle.kernel.specs.declared.Wanted.{Wanted}
 use Rattle.kernel.specs.declared.Answer.the-variants.{Done, NoChannel, Exists, BadName, NoDevice, Driver, Full, NoRoom}
 use Rattle.kernel.specs.declared.Outcome.{Outcome}
 

@@ -69,3 +69,10 @@ pub struct Outcome {
     pub answer: Answer,
     pub tables: Tables,
 }
+
+// What a string of open means: a device's name in 28 bytes with its length, and a unit.
+pub struct Wanted {
+    pub name: [u8; 28],
+    pub length: u8,
+    pub unit: u8,
+}

@@ -16,6 +16,7 @@ ghost use Rattle.kernel.specs.Laws.Opens.{New, Fits, onOpenRow};
 use super::Answer;
 use super::Outcome;
 use super::Tables;
+use super::Wanted;
 use line::open_record;
 use names::Parts;
 use names::UnitNumber;
@@ -30,13 +31,6 @@ use rows::numbers::less;
 use rows::numbers::wide;
 use rows::numbers::wide16;
 use rows::sizes::chain_length;
-
-// A device's name with its length, and a unit.
-struct Wanted {
-    name: [u8; 28],
-    length: u8,
-    unit: u8,
-}
 
 impl Tables {
     fn is_open(self, channel: u8) -> bool

@@ -22,7 +22,7 @@ use Rattle.rows.specs.declared.Device.{Device}
 use Rattle.kernel.specs.Definition.Tables.{rowOf, channelAt}
 use Rattle.kernel.specs.Definition.Good.{Good}
 use Rattle.kernel.specs.Definition.Names.{deviceFor}
-use Rattle.kernel.specs.declared.open.Wanted.{Wanted}
+use Rattle.kernel.specs.declared.Wanted.{Wanted}
 use Rattle.kernel.specs.Definition.Refusals.{OpenAt, NotOpen, InList, Some, Enabled}
 use Rattle.kernel.specs.declared.Tables.{Tables}
 

@@ -26,7 +26,7 @@ use Rattle.kernel.specs.Definition.Tables.{ramSize, channelAt}
 use Rattle.kernel.specs.Definition.Line.{totalOf, roomFor}
 use Rattle.kernel.specs.Definition.Devices.{linking}
 use Rattle.kernel.specs.Definition.Names.{wanted, deviceFor}
-use Rattle.kernel.specs.declared.open.Wanted.{Wanted}
+use Rattle.kernel.specs.declared.Wanted.{Wanted}
 use Rattle.kernel.specs.Definition.Answers.{numberOf, granted, gives}
 use Rattle.kernel.specs.Definition.Good.{Sized, Good, goodTest}
 use Rattle.kernel.specs.Definition.Calls.{Call, «open», link, onOpen, onOpenNamed, onOpenTo, onLink}

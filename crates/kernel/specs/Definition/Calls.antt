@@ -16,7 +16,7 @@ use Rattle.kernel.specs.Definition.Segments.{someFree, mayShare, grantin
 use Rattle.kernel.specs.Definition.Devices.{linking}
 use Rattle.kernel.specs.Definition.Reset.{otherBits, resetting, startTest, started}
 use Rattle.kernel.specs.Definition.Names.{wanted, deviceFor}
-use Rattle.kernel.specs.declared.open.Wanted.{Wanted}
+use Rattle.kernel.specs.declared.Wanted.{Wanted}
 use Rattle.kernel.specs.Definition.Answers.{gives, unless, _when_}
 use Rattle.kernel.specs.declared.Tables.{Tables}
 use Rattle.kernel.specs.declared.Answer.the-variants.{Done, BadCall, NoChannel, Exists, BadName, NoDevice, Driver, Full, NoRoom, NoSegment, NotOwner, BadBoundary, BadRange, Guarded, BadFlags, BadStart, Shared}

@@ -9,7 +9,7 @@ use Rattle.names.specs.declared.UnitNumber.{UnitNumber}
 use Rattle.names.specs.declared.UnitNumber.the-variants.{Given, Absent}
 use Rattle.rows.specs.Definition.Devices.{deviceIn}
 use Rattle.kernel.specs.declared.Tables.{Tables}
-use Rattle.kernel.specs.declared.open.Wanted.{Wanted}
+use Rattle.kernel.specs.declared.Wanted.{Wanted}
 
 -- "Device: up to 28 letters, upper-cased." "Name without unit means unit 0; unit without name means the default name; neither means the default name and unit."
 abbrev pub wantedBy : Tables → (letters : List ℕ) → UnitNumber → Wanted

@@ -19,7 +19,7 @@ use Rattle.kernel.specs.Definition.Good.{Good}
 use Rattle.kernel.specs.Definition.Line.{totalOf, sizeAt, boundaryOf}
 use Rattle.kernel.specs.Definition.Segments.{reachOf}
 use Rattle.kernel.specs.Definition.Names.{wanted}
-use Rattle.kernel.specs.declared.open.Wanted.{Wanted}
+use Rattle.kernel.specs.declared.Wanted.{Wanted}
 use Rattle.kernel.specs.Definition.Calls.{Call, start, reset, «open», close, read, write, default, status, link, set-user-boundary, allocate, free, store, load, no-call, short-start, isStart}
 use Rattle.kernel.specs.declared.Tables.{Tables}
 

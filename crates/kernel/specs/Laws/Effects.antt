@@ -22,7 +22,7 @@ use Rattle.kernel.specs.Definition.Segments.{classFor, someFree, mayShar
 use Rattle.kernel.specs.Definition.Devices.{linking}
 use Rattle.kernel.specs.Definition.Reset.{otherBits, resetting, startTest, started}
 use Rattle.kernel.specs.Definition.Names.{wanted, deviceFor}
-use Rattle.kernel.specs.declared.open.Wanted.{Wanted}
+use Rattle.kernel.specs.declared.Wanted.{Wanted}
 use Rattle.kernel.specs.Definition.Answers.{numberOf, granted, gives}
 use Rattle.kernel.specs.Definition.Calls.{Call, start, reset, «open», close, read, write, default, status, link, boundary, set-user-boundary, allocate, free, store, load, no-call, short-start, isStart, onStart, onReset, onOpenTo, onOpenNamed, onOpen, onClose, onRead, onWrite, onDefault, onStatus, onLink, onBoundary, onSetUserBoundary, onAllocate, onFree, onStore, onLoad}
 use Rattle.kernel.specs.Definition.Step.{accepted, heard, decided}
