@@ -78,7 +78,7 @@ enum exos_answer {
  * True where the call was made. False, and nothing changed, where the length of the image, the record or the reply is
  * none of the above.
  *
- * The promise that is proved: Called, in crates/exos/specs/Call.antt.
+ * The promise that is proved: Called, in crates/exos/specs/Definition/Call.antt.
  */
 bool exos_call(uint8_t *image, size_t image_len, uint8_t *ram, size_t ram_len, const uint8_t *record, size_t record_len,
                uint8_t *out, size_t out_len, uint8_t *reply, size_t reply_len);
@@ -95,7 +95,7 @@ bool exos_call(uint8_t *image, size_t image_len, uint8_t *ram, size_t ram_len, c
  * exos_replay tests tables until they are good and then holds them. exos_replay_tested tests them for each record, as
  * exos_call does. Both leave the same.
  *
- * The promise that is proved: Replays, in crates/exos/specs/Replays.antt.
+ * The promise that is proved: Replays, in crates/exos/specs/Definition/Replays.antt.
  */
 size_t exos_replay(uint8_t *ram, size_t ram_len, uint8_t *out, size_t out_len, const uint8_t *log, size_t log_len,
                    uint8_t *reply, size_t reply_len);

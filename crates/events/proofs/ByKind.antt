@@ -14,13 +14,13 @@ use Rattle.kernel.specs.declared.Tables.{Tables}
 use Rattle.kernel.specs.declared.Outcome.{Outcome}
 use Rattle.kernel.specs.declared.Answer.the-variants.{BadTables, BadCall}
 use Rattle.kernel.proofs.Calls.{call-refused}
-use Rattle.events.specs.Definition.Records.{decode, stepOf}
+use Rattle.events.specs.Definition.Records.{callIn, stepOf}
 use Rattle.events.specs.Laws.Bodies.{no-start}
 use Rattle.events.proofs.Laws.{bad-call}
 
 -- a kind of no call
-pub unknown-kind : (kind : ℕ) (body : List ℕ) → (kind ≡ 0 → ⊥) → (kind ≡ 1 → ⊥) → (kind ≡ 3 → ⊥) → (kind ≡ 6 → ⊥) → (kind ≡ 8 → ⊥) → (kind ≡ 19 → ⊥) → (kind ≡ 20 → ⊥) → (kind ≡ 21 → ⊥) → (kind ≡ 22 → ⊥) → (kind ≡ 23 → ⊥) → (kind ≡ 24 → ⊥) → (kind ≡ 25 → ⊥) → (kind ≡ 256 → ⊥) → (kind ≡ 257 → ⊥) → (kind ≡ 258 → ⊥) → decode kind body ≡ no-call
-unfolding decode
+pub unknown-kind : (kind : ℕ) (body : List ℕ) → (kind ≡ 0 → ⊥) → (kind ≡ 1 → ⊥) → (kind ≡ 3 → ⊥) → (kind ≡ 6 → ⊥) → (kind ≡ 8 → ⊥) → (kind ≡ 19 → ⊥) → (kind ≡ 20 → ⊥) → (kind ≡ 21 → ⊥) → (kind ≡ 22 → ⊥) → (kind ≡ 23 → ⊥) → (kind ≡ 24 → ⊥) → (kind ≡ 25 → ⊥) → (kind ≡ 256 → ⊥) → (kind ≡ 257 → ⊥) → (kind ≡ 258 → ⊥) → callIn kind body ≡ no-call
+unfolding callIn
 unknown-kind kind body a b c d e f g h i j k l m n o =
     rw (
       ne-eqb kind 256 m,
@@ -42,14 +42,14 @@ unknown-kind kind body a b c d e f g h i j k l m n o =
 
 module _ (t : Tables) (ram : List ℕ) (kind : ℕ) (body out : List ℕ) where
   -- what the body's call leaves is what the record leaves
-  pub by-kind : (k : ℕ) (c : Call) (x : Result) → kind ≡ k → decode k body ≡ c → x ≡ step t ram c out → x ≡ stepOf t ram kind body out
+  pub by-kind : (k : ℕ) (c : Call) (x : Result) → kind ≡ k → callIn k body ≡ c → x ≡ step t ram c out → x ≡ stepOf t ram kind body out
   unfolding stepOf
   by-kind k c x e d q = rw (e, d) q
 
-  pub no-kind : Good t → length ram ≡ ramSize t → (r : Outcome) → decode kind body ≡ no-call → r ≡ gives BadCall t → result r ram out ≡ stepOf t ram kind body out
+  pub no-kind : Good t → length ram ≡ ramSize t → (r : Outcome) → callIn kind body ≡ no-call → r ≡ gives BadCall t → result r ram out ≡ stepOf t ram kind body out
   unfolding stepOf
-  no-kind g s r e q = bad-call t ram out g s (decode kind body) r e q
+  no-kind g s r e q = bad-call t ram out g s (callIn kind body) r e q
 
   pub bad-tables : (b : Bool) → b ≡ accepted t (length ram) → (kind ≡ 256 → ⊥) → not b ≡ true → (r : Outcome) → r ≡ gives BadTables t → result r ram out ≡ stepOf t ram kind body out
   unfolding stepOf
-  bad-tables b e n h r q = call-refused t ram (decode kind body) out b e (no-start kind body n) h r q
+  bad-tables b e n h r q = call-refused t ram (callIn kind body) out b e (no-start kind body n) h r q

@@ -10,8 +10,8 @@ use Rattle.kernel.specs.declared.Tables.{Tables}
 use Rattle.kernel.specs.declared.Outcome.{Outcome}
 use Rattle.events.specs.Definition.Records.{u16At, stepOf}
 use Rattle.image.specs.Definition.Image.{SIZE, imageOf, tablesOf, answerBytes}
-use Rattle.image.proofs.Laws.{body-is}
-use Rattle.exos.specs.Call.{fits, stepOn, Done}
+use Rattle.image.specs.Laws.Bytes.{body-is}
+use Rattle.exos.specs.Definition.Call.{fits, stepOn, Done}
 
 module _ (image event reply : List ℕ) where
   pub no-image : (length image ≡ SIZE → ⊥) → false ≡ fits image event reply

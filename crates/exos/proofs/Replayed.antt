@@ -10,7 +10,7 @@ use Rattle.kernel.specs.declared.Tables.{Tables}
 use Rattle.kernel.specs.declared.Outcome.{Outcome}
 use Rattle.image.specs.Definition.Image.{answerBytes}
 use Rattle.replay.specs.Definition.Replay.{records, bytesOf, replayed, before}
-use Rattle.exos.specs.Replays.{replayOf, Replays}
+use Rattle.exos.specs.Definition.Replays.{replayOf, Replays}
 
 pub none : (ram out log reply : List ℕ) → (length reply ≡ 6 → ⊥) → Replays ram out log reply ram out reply 0
 none ram out log reply h = rw (ne-eqb (length reply) 6 h) (record { ram-is = refl; out-is = refl; reply-is = refl; taken-is = refl })

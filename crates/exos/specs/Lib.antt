@@ -1,3 +1,2 @@
--- What the library's functions leave in the bytes they are given.
-pub mod Call
-pub mod Replays
+-- The static library.
+pub mod Definition

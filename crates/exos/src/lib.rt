@@ -1,7 +1,7 @@
 // The static library: the kernel over bytes, for other languages. c/exos.h tells a C program what each argument is.
 ghost use mathlib.Core.Path.{_≡_};
-ghost use Rattle.exos.specs.Call.{Called};
-ghost use Rattle.exos.specs.Replays.{Replays};
+ghost use Rattle.exos.specs.Definition.Call.{Called};
+ghost use Rattle.exos.specs.Definition.Replays.{Replays};
 use events::call;
 use events::fields::u16_at;
 use image::put_answer;

@@ -113,7 +113,7 @@ fn whole_turn(
     turn(s, ram, out, buf, text)
 }
 
-// The turns are a `Session` of listing's specs/Reading.antt: a drain, a read or the end. Its `any-pieces` says that what is written is the
+// The turns are a `Session` of listing's specs/Laws/Reading.antt: a drain, a read or the end. Its `any-pieces` says that what is written is the
 // listing of what is read. Nothing says that the input ends, so the turns are counted: there are more than any input takes.
 fn main() {
     let mut ram = [0u8; 65536];

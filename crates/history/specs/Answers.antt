@@ -1,5 +1,4 @@
 -- The answer is the lowest row of the refusal table that holds; each input has one result.
-pub mod One
 pub mod Lowest
 pub mod Tests
 pub mod Numbers

@@ -1,5 +1,4 @@
 -- A byte read or lent on is the one last written through that channel, and a user's byte changes only by the user's store.
-pub mod Runs
 pub mod Done
 pub mod Places
 pub mod Changes

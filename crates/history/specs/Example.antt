@@ -24,21 +24,21 @@ use Rattle.kernel.specs.Definition.Answers.{numberOf, granted}
 use Rattle.kernel.specs.Definition.Calls.{Call, start, close, read, write, link, set-user-boundary, allocate, store, isStart}
 use Rattle.kernel.specs.Definition.Step.{decided, completed, step}
 use Rattle.kernel.specs.Definition.Lend.{lentOnGood, lentOn, partOn}
-use Rattle.kernel.specs.Laws.Fields.{Fields}
+use Rattle.kernel.specs.Definition.Fields.{Fields}
 use Rattle.kernel.specs.Laws.Ready.{Ready, decided-ready, start-ready}
 use Rattle.kernel.specs.declared.Tables.{Tables}
 use Rattle.kernel.specs.declared.Outcome.{Outcome}
 use Rattle.kernel.specs.declared.Answer.the-variants.{NoRoom}
-use Rattle.history.specs.Bytes.Runs.{State, Event, History, after, event, Started, Runs, stay, then, Any, Run, patched, written, lastWritten, stored, lastStored}
-use Rattle.history.specs.Bytes.Places.{shared}
+use Rattle.history.specs.Definition.Runs.{State, Event, History, after, event, Started, Runs, stay, then, Any, Run, patched, written, lastWritten, stored, lastStored}
+use Rattle.history.specs.Definition.Users.{shared}
 use Rattle.history.specs.Bytes.Steps.{step-sound, start-sound}
 use Rattle.history.specs.Bytes.BytesRead.{bytes-read}
 use Rattle.history.specs.Bytes.LentOn.{sizeOf, lent-written}
 use Rattle.history.specs.Bytes.UserBytes.{UsersIn, userByte, user-bytes}
-use Rattle.history.specs.Room.Layout.{Layout}
-use Rattle.history.specs.Room.Places.{size, held, offered, Outside}
-use Rattle.history.specs.Room.Earlier.{Passes}
-use Rattle.history.specs.Room.RoomExactly.{recordsAnd}
+use Rattle.history.specs.Definition.Layout.{Layout}
+use Rattle.history.specs.Definition.Places.{countIn, inSystem, offered, Outside}
+use Rattle.history.specs.Definition.Room.{Passes}
+use Rattle.history.specs.Definition.Room.{recordsAnd}
 use Rattle.history.specs.Answers.Proved.{refuses-lowest}
 use Rattle.history.specs.Reachable.{reachable, reachable-fewest, reachable-open}
 
@@ -264,7 +264,7 @@ module _ (ram : List ℕ) (four : length ram ≡ 65536) where
       ∙ alike-stored (alike none k₁ more fit-more) 255 5 _
 
   -- 3: the one channel's record lies in one segment
-  pub one-segment : size (s₁ .tables .segments) (held (s₁ .tables)) ≡ 1
+  pub one-segment : countIn (s₁ .tables .segments) (inSystem (s₁ .tables)) ≡ 1
   unfolding decided noTables lettersTest upTo chainLength boundaryAt grown shrunk
   one-segment = reachable-fewest sequence .many ∙ ap (λ (t : Tables). t .held) (k₁ .tables)
 
@@ -282,7 +282,7 @@ module _ (ram : List ℕ) (four : length ram ≡ 65536) where
   pub no-layout : ¬ Layout (recordsAnd (s₁ .tables) 9939) (Outside (s₁ .tables) (s₁ .tables .room) (offered (s₁ .tables)))
   no-layout = reachable-open sequence lent 3 0 9939 _ passes .refused .0 no-room
 
-  -- 5: channel 2's four bytes are lent on, the last first: the 7 is the third of them
+  -- 1, lent on: channel 2's four bytes, the last first: the 7 is the third of them
   lent-on : Part 60106 ≡ lentOn (s₁ .tables) (length (s₁ .ram)) 2
   lent-on = computed ∙ sym (known-lent k₁ 2)
 

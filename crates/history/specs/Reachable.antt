@@ -8,16 +8,18 @@ use Rattle.kernel.specs.Definition.Tables.{ramSize}
 use Rattle.kernel.specs.Definition.Good.{Good}
 use Rattle.kernel.specs.Definition.Calls.{Call, «open», link}
 use Rattle.kernel.specs.Definition.Step.{completed, step}
-use Rattle.kernel.specs.Laws.Fields.{Fields}
+use Rattle.kernel.specs.Definition.Fields.{Fields}
 use Rattle.kernel.specs.Laws.Ready.{never-tables}
 use Rattle.kernel.specs.declared.Answer.the-variants.{BadTables}
-use Rattle.history.specs.Bytes.Runs.{State, History, event, Started, Runs, stay, then, Run}
+use Rattle.history.specs.Definition.Runs.{State, History, event, Started, Runs, stay, then, Run}
 use Rattle.history.specs.Bytes.BytesRead.{run-holds}
-use Rattle.history.specs.Room.Layout.{Layout}
-use Rattle.history.specs.Room.Places.{offered, Outside}
-use Rattle.history.specs.Room.Fewest.{Fewest, fewest}
-use Rattle.history.specs.Room.Earlier.{Passes, OnlyRoom}
-use Rattle.history.specs.Room.RoomExactly.{recordsAnd, LinkFits, open-exactly, link-exactly}
+use Rattle.history.specs.Definition.Layout.{Layout}
+use Rattle.history.specs.Definition.Places.{offered, Outside}
+use Rattle.history.specs.Definition.Room.{Fewest}
+use Rattle.history.specs.Room.Fewest.{fewest}
+use Rattle.history.specs.Definition.Room.{Passes, OnlyRoom}
+use Rattle.history.specs.Definition.Room.{recordsAnd, LinkFits}
+use Rattle.history.specs.Room.RoomExactly.{open-exactly, link-exactly}
 
 -- what a state has
 pub record Reached (s : State) : Type 0 where

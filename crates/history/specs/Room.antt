@@ -1,7 +1,6 @@
 -- The system holds the fewest segments, and an open is refused for room exactly when no layout fits.
 pub mod Sums
 pub mod Layout
-pub mod Places
 pub mod Counts
 pub mod Bounds
 pub mod Fewest

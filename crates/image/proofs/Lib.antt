@@ -1,5 +1,4 @@
 -- Laws that the functions' proofs cite.
 pub mod Known
-pub mod Laws
 pub mod Rows
 pub mod Made

@@ -1,2 +1,3 @@
--- The image read back.
+-- Bytes put and read, and the image read back.
+pub mod Bytes
 pub mod Round

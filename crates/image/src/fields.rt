@@ -2,7 +2,7 @@
 ghost use mathlib.Core.Path.{_≡_};
 ghost use Prim.Native.Nat.{_+_, _≤_};
 ghost use lib.ListN.{length, take, drop};
-ghost use Rattle.text.specs.Definition.Text.{Put};
+ghost use Rattle.text.specs.Definition.Put.{Put};
 ghost use Rattle.image.specs.Definition.Image.{u16Bytes};
 use text::put;
 

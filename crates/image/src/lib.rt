@@ -2,7 +2,7 @@
 ghost use mathlib.Core.Path.{_≡_};
 ghost use Prim.Native.Nat.{_+_, _≤_};
 ghost use lib.ListN.{length};
-ghost use Rattle.text.specs.Definition.Text.{Put};
+ghost use Rattle.text.specs.Definition.Put.{Put};
 ghost use Rattle.image.specs.Definition.Image.{answerBytes};
 use fields::put_u16;
 use kernel::Answer;

@@ -7,7 +7,7 @@ use borrow.Author.Tests.{lt-ltb, le-ltb, le-leb, not-true}
 use lib.Dec.{ltb}
 use lib.ListN.{length, take, drop}
 use Rattle.line.specs.Definition.Line.{lineFrom, putLine}
-use Rattle.line.specs.Definition.Ram.{putAt, taken}
+use Rattle.line.specs.Definition.Ram.{putAt, filled}
 use Rattle.line.specs.Definition.Lent.{lentAt, partOf}
 use Rattle.line.specs.declared.Lent.{Lent}
 use Rattle.line.specs.declared.Lent.the-variants.{Nothing}
@@ -42,7 +42,7 @@ module _ (t : Tables) (ram out : List ℕ) (channel offset size : ℕ) where
     read-beyond h = rw (o .found, o .here, sym read-test ∙ h)
 
     pub read-done : far || ltb (length out) count ≡ false → (room start : ℕ) (after : List ℕ) → room ≡ t .room → start ≡ bufferAt t i
-        → after ≡ taken count (lineFrom (t .chain) room ram (start + from) count) out
+        → after ≡ filled count (lineFrom (t .chain) room ram (start + from) count) out
         → result (gives (Done 0 size) t) ram after ≡ completed t (onRead t (length out) channel offset size) ram (read channel offset size) out
     unfolding completed onRead
     read-done h room start after r s a = rw (o .found, o .here, sym read-test ∙ h, a, e, f, r, s)
@@ -163,7 +163,7 @@ module _ (t : Tables) (ram out : List ℕ) (segment offset size : ℕ) where
     unfolding completed onLoad
     load-beyond h = rw (x .here, x .may, sym load-test ∙ h)
 
-    pub load-done : far || ltb (length out) count ≡ false → (after : List ℕ) → after ≡ taken count (take count (drop (16384 * row + from) ram)) out
+    pub load-done : far || ltb (length out) count ≡ false → (after : List ℕ) → after ≡ filled count (take count (drop (16384 * row + from) ram)) out
         → result (gives (Done 0 size) t) ram after ≡ completed t (onLoad t (length out) segment offset size) ram (load segment offset size) out
     unfolding completed onLoad
     load-done h after a = rw (x .here, x .may, sym load-test ∙ h, a, e, f)

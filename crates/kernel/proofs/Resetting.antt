@@ -10,8 +10,9 @@ use Rattle.rows.specs.Definition.Channels.{zeroChannel, sumOf}
 use Rattle.rows.specs.Definition.Devices.{builtIn}
 use Rattle.rows.specs.declared.Channel.{Channel}
 use Rattle.rows.specs.declared.Device.{Device}
-use Rattle.line.specs.Definition.Line.{placeOf, putLine, Chain}
-use Rattle.line.proofs.Walks.{length-put}
+use Rattle.line.specs.Laws.Chains.{Chain}
+use Rattle.line.specs.Definition.Line.{placeOf, putLine}
+use Rattle.line.specs.Laws.Walks.{length-put}
 use Rattle.kernel.specs.Definition.Tables.{ramSize, withSegments, withChannels, withDevices}
 use Rattle.kernel.specs.Definition.Good.{Good}
 use Rattle.kernel.specs.Definition.Line.{totalOf, shrunk}

@@ -6,7 +6,7 @@ use Prim.Native.Nat.{ℕ, _-_, _%_, _≤_, _<_}
 use native.Mathlib.Omega.{arith}
 use borrow.Author.Tests.{lt-ltb, le-ltb, eq-eqb, ne-eqb, eqb-true}
 use lib.ListN.{length, take, drop, set}
-use Rattle.line.specs.Definition.Ram.{taken}
+use Rattle.line.specs.Definition.Ram.{filled}
 use lib.Dec.{eqb}
 use Rattle.rows.specs.Definition.Lists.{at, firstOf, tally}
 use Rattle.rows.specs.Laws.Lists.{and-left, and-right}
@@ -154,7 +154,7 @@ module _ (t : Tables) (ram out : List ℕ) where
   unfolding completed onStatus
   status-short h = rw (lt-ltb _ _ h)
 
-  pub status-done : (counts after : List ℕ) → 5 ≤ length out → counts ≡ countsOf t → after ≡ taken 5 (take 5 (drop 0 counts)) out
+  pub status-done : (counts after : List ℕ) → 5 ≤ length out → counts ≡ countsOf t → after ≡ filled 5 (take 5 (drop 0 counts)) out
       → result (gives (Done 0 5) t) ram after ≡ completed t (onStatus t (length out)) ram status out
   unfolding completed onStatus
   status-done counts after h e f = rw (f, e, le-ltb _ _ h)

@@ -9,6 +9,7 @@ pub mod Reset
 pub mod Names
 pub mod Answers
 pub mod Calls
+pub mod Fields
 pub mod Refusals
 pub mod Step
 pub mod Lend

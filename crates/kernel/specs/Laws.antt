@@ -14,7 +14,6 @@ pub mod KeptReset
 pub mod Wants
 pub mod Opens
 pub mod Links
-pub mod Fields
 pub mod Effects
 pub mod Refused
 pub mod Keeps

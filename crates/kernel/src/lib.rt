@@ -44,24 +44,24 @@ pub struct Tables {
 
 // The answers of document 01, in the order of their numbers.
 pub enum Answer {
-    Done(u8, u16),
-    BadTables,
-    BadCall,
-    NoChannel,
-    Exists,
-    BadName,
-    NoDevice,
-    Driver(u8),
-    Full,
-    NoRoom,
-    NoSegment,
-    NotOwner,
-    BadBoundary,
-    BadRange,
-    Guarded,
-    BadFlags,
-    BadStart,
-    Shared(u8, u16),
+    Done(u8, u16), // 0
+    BadTables, // 1 TABLES
+    BadCall, // 2 CALL
+    NoChannel, // 3 CHANNEL
+    Exists, // 4 EXISTS
+    BadName, // 5 NAME
+    NoDevice, // 6 DEVICE
+    Driver(u8), // 7 DRIVER
+    Full, // 8 FULL
+    NoRoom, // 9 ROOM
+    NoSegment, // 10 SEGMENT
+    NotOwner, // 11 OWNER
+    BadBoundary, // 12 BOUNDARY
+    BadRange, // 13 RANGE
+    Guarded, // 14 GUARD
+    BadFlags, // 15 FLAGS
+    BadStart, // 16 START
+    Shared(u8, u16), // 17 SHARED
 }
 
 // The answer with the next tables.

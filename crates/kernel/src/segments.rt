@@ -3,7 +3,7 @@ ghost use mathlib.Core.Path.{_≡_};
 ghost use mathlib.Core.List.{List};
 ghost use Prim.Native.Nat.{ℕ, _≤_};
 ghost use lib.ListN.{length};
-ghost use Rattle.line.specs.Definition.Ram.{taken};
+ghost use Rattle.line.specs.Definition.Ram.{filled};
 ghost use Rattle.kernel.specs.Definition.Good.{Good};
 ghost use Rattle.kernel.specs.Definition.Segments.{classFor};
 ghost use Rattle.kernel.specs.Definition.Answers.{gives};

@@ -6,10 +6,11 @@ use native.Mathlib.Nat.{add-zero, zero-add}
 use native.Mathlib.Omega.{arith}
 use Rattle.line.specs.Definition.Ram.{bytesFrom, putFrom}
 use Rattle.line.specs.Laws.Runs.{rise, Ahead, fall, runUpTo}
-use Rattle.line.specs.Definition.Line.{placeOf, lineFrom, putLine, Chain}
-use Rattle.line.proofs.Walks.{length-bytes, bytes-same, put-same}
+use Rattle.line.specs.Laws.Chains.{Chain}
+use Rattle.line.specs.Definition.Line.{placeOf, lineFrom, putLine}
+use Rattle.line.specs.Laws.Walks.{length-bytes, bytes-same, put-same}
 use Rattle.line.proofs.Loops.{move-next, copy-back}
-use Rattle.line.proofs.Places.{place-inside, place-apart, place-rise, fall-run}
+use Rattle.line.specs.Laws.Places.{place-inside, place-apart, place-rise, fall-run}
 use Rattle.line.proofs.Turns.{fall-put, fall-bytes}
 
 -- a run of n positions from p on, and the run gap positions after it: their first bytes lie at indexes d and s, and both cross no segment's edge

@@ -6,9 +6,9 @@ use native.Mathlib.Nat.{add-zero, zero-add}
 use native.Mathlib.Omega.{arith}
 use lib.ListN.{length, getD, set, take, drop, replicate, length-replicate}
 use lib.Seq.{sets, sets-eq, drop-cons, take-length, drop-length}
-use Rattle.line.specs.Definition.Ram.{bytesFrom, putFrom, putAt, taken}
+use Rattle.line.specs.Definition.Ram.{bytesFrom, putFrom, putAt, filled}
 use Rattle.line.specs.Laws.Runs.{rise}
-use Rattle.line.proofs.Walks.{length-bytes}
+use Rattle.line.specs.Laws.Walks.{length-bytes}
 
 rise-bytes-from : (at p : ℕ) (ram : List ℕ) (n : ℕ) → at + p + n ≤ length ram → bytesFrom (rise at) ram p n ≡ take n (drop (at + p) ram)
 unfolding bytesFrom
@@ -32,14 +32,14 @@ unfolding putAt
 rise-put at xs ram h = rw add-zero at (rise-sets at 0 xs ram) ∙ sets-eq xs ram at h ∙ append-assoc (take at ram) xs (drop (at + length xs) ram)
 
 -- at the front of an output
-pub rise-taken : (n : ℕ) (xs out : List ℕ) → length xs ≡ n → n ≤ length out → putFrom (rise 0) out 0 xs ≡ taken n xs out
-unfolding putAt taken
+pub rise-taken : (n : ℕ) (xs out : List ℕ) → length xs ≡ n → n ≤ length out → putFrom (rise 0) out 0 xs ≡ filled n xs out
+unfolding putAt filled
 rise-taken n xs out e h = rw (← e) (rw zero-add at (rise-put 0 xs out (omega arith)))
 
 -- what `load`, `store` and `zero_all` have done
 
 pub loaded : (at : ℕ) (ram : List ℕ) (n : ℕ) (out : List ℕ) → at + n ≤ length ram → n ≤ length out
-    → putFrom (rise 0) out 0 (bytesFrom (rise at) ram 0 n) ≡ taken n (take n (drop at ram)) out
+    → putFrom (rise 0) out 0 (bytesFrom (rise at) ram 0 n) ≡ filled n (take n (drop at ram)) out
 loaded at ram n out h l =
     rw rise-bytes (rise-taken n (take n (drop at ram)) out (ap length (sym (rise-bytes at ram n h)) ∙ length-bytes (rise at) ram 0 n) l)
 
@@ -47,7 +47,7 @@ pub bytes-all : (xs : List ℕ) → bytesFrom (rise 0) xs 0 (length xs) ≡ xs
 bytes-all xs = rise-bytes 0 xs (length xs) (omega arith) ∙ take-length xs
 
 pub zeroed-all : (ram : List ℕ) → putFrom (rise 0) ram 0 (replicate (length ram) 0) ≡ replicate (length ram) 0
-unfolding taken
+unfolding filled
 zeroed-all ram =
     rise-taken (length ram) (replicate (length ram) 0) ram (length-replicate (length ram) 0) (omega arith)
     ∙ rw drop-length (append-nil (replicate (length ram) 0))

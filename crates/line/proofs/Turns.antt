@@ -5,13 +5,13 @@ use Prim.Native.Nat.{ℕ, _+_, _-_, _<_, _≤_, _%_}
 use native.Mathlib.Nat.{zero-add}
 use native.Mathlib.Omega.{arith}
 use lib.ListN.{length, replicate, length-replicate}
-use Rattle.line.specs.Definition.Ram.{bytesFrom, putFrom, taken}
+use Rattle.line.specs.Definition.Ram.{bytesFrom, putFrom, filled}
 use Rattle.line.specs.Laws.Runs.{rise, fall}
 use Rattle.line.specs.Definition.Line.{placeOf, lineFrom, putLine}
-use Rattle.line.proofs.Walks.{length-bytes, bytes-same, put-same}
+use Rattle.line.specs.Laws.Walks.{length-bytes, bytes-same, put-same}
 use Rattle.line.proofs.Loops.{zero-next, copy-next, put-none, copy-none}
 use Rattle.line.proofs.Sides.{rise-taken}
-use Rattle.line.proofs.Places.{fall-run}
+use Rattle.line.specs.Laws.Places.{fall-run}
 
 -- before the first turn nothing is put
 
@@ -64,5 +64,5 @@ get-turn chain room start s k n small at fits ram out₀ out out₁ e e₁ =
     (rw (fall-bytes chain room (start + k) s n small at fits ram) at (e₁ ∙ there))
 
 pub got : (chain : List ℕ) (room : ℕ) (ram out : List ℕ) (start n : ℕ) → n ≤ length out
-    → putFrom (rise 0) out 0 (lineFrom chain room ram start n) ≡ taken n (lineFrom chain room ram start n) out
+    → putFrom (rise 0) out 0 (lineFrom chain room ram start n) ≡ filled n (lineFrom chain room ram start n) out
 got chain room ram out start n h = rise-taken n (lineFrom chain room ram start n) out (length-bytes (placeOf chain room) ram start n) h

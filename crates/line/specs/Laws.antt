@@ -1,3 +1,15 @@
--- The line byte by byte, and the runs that it is moved by.
-pub mod Points
+-- What the moves ask of a chain, the laws of walks and places, and the line byte by byte.
+pub mod Chains
 pub mod Runs
+pub mod Points
+pub mod Walks
+pub mod Places
+pub mod Held
+pub mod Makes
+pub mod OneRam
+pub mod PointsClosed
+pub mod PointsOpened
+pub mod PointsLinked
+pub mod Kept
+pub mod Lending
+mod Examples

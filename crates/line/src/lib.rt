@@ -2,8 +2,9 @@
 ghost use mathlib.Core.Path.{_≡_};
 ghost use Prim.Native.Nat.{_+_, _-_, _*_, _<_, _≤_};
 ghost use lib.ListN.{length, replicate};
-ghost use Rattle.line.specs.Definition.Ram.{taken};
-ghost use Rattle.line.specs.Definition.Line.{placeOf, lineFrom, putLine, headingOf, afterClose, afterLink, afterOpen, Chain};
+ghost use Rattle.line.specs.Definition.Ram.{filled};
+ghost use Rattle.line.specs.Laws.Chains.{Chain};
+ghost use Rattle.line.specs.Definition.Line.{placeOf, lineFrom, putLine, headingOf, afterClose, afterLink, afterOpen};
 ghost use Rattle.line.specs.Laws.Runs.{runUpTo};
 ghost use Rattle.line.specs.Definition.Lent.{lentAt, partOf};
 
@@ -95,7 +96,7 @@ pub fn put(ram: &mut [u8], chain: &[u8; 32], room: usize, start: usize, xs: &[u8
 // The n bytes on positions start, start + 1, .. come to the front of the output.
 pub fn get(ram: &[u8], chain: &[u8; 32], room: usize, start: usize, out: &mut [u8], n: usize)
     requires { ⌜ (n ≤ length (now out)) × Chain (now chain) room (start + n) (length (now ram)) ⌝ }
-    ensures { λ _. ⌜ now (out .exit) ≡ taken n (lineFrom (now (chain .entry)) room (now (ram .entry)) start n) (now (out .entry)) ⌝ }
+    ensures { λ _. ⌜ now (out .exit) ≡ filled n (lineFrom (now (chain .entry)) room (now (ram .entry)) start n) (now (out .entry)) ⌝ }
 {
     let mut k = 0;
     while k < n {

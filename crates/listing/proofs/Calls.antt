@@ -16,7 +16,7 @@ use Rattle.kernel.specs.declared.Answer.the-variants.{BadTables}
 use Rattle.events.specs.Definition.Records.{stepOf}
 use Rattle.events.specs.Laws.Bodies.{Bytes}
 use Rattle.events.proofs.ByKind.{bad-tables}
-use Rattle.text.specs.Definition.Text.{Put}
+use Rattle.text.specs.Definition.Put.{Put}
 use Rattle.listing.specs.Definition.Log.{lineOf, lentTo, onRest, logStep}
 use Rattle.listing.specs.Laws.Held.{Held, held-step}
 use Rattle.listing.specs.Laws.Pieces.{Stepped}

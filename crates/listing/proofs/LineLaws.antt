@@ -8,8 +8,9 @@ use lib.ListN.{length, take}
 use lib.Seq.{take-all}
 use lib.Dec.{ltb}
 use borrow.Author.Tests.{eq-eqb, ne-eqb}
-use Rattle.text.specs.Definition.Text.{Put, fieldsOf, hexOf}
-use Rattle.text.proofs.Laws.{put-then}
+use Rattle.text.specs.Definition.Put.{Put}
+use Rattle.text.specs.Definition.Text.{fieldsOf, hexOf}
+use Rattle.text.specs.Laws.Text.{put-then}
 use Rattle.listing.specs.Definition.Log.{showsOf, lineOf}
 
 pub beyond : (n b : ℕ) → n ≤ b → (xs : List ℕ) → length xs ≡ n → take n xs ≡ take b xs

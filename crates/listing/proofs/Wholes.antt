@@ -7,7 +7,7 @@ use lib.ListN.{length, take, replicate, length-append}
 use lib.Seq.{length-take-le}
 use Rattle.kernel.specs.Definition.Reset.{noTables}
 use Rattle.kernel.specs.declared.Tables.{Tables}
-use Rattle.text.specs.Definition.Text.{Put}
+use Rattle.text.specs.Definition.Put.{Put}
 use Rattle.listing.specs.declared.Stop.{Stop}
 use Rattle.listing.specs.declared.Stop.the-variants.{More, Full, Bad}
 use Rattle.listing.specs.Definition.Log.{textFrom, listing}

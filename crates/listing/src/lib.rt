@@ -34,7 +34,7 @@ pub struct Drained {
     pub stop: Stop,
 }
 
-// The text of a whole log: so many bytes, or more than there is room for.
+// The text of a whole log: so many bytes; or fewer than 8,217 bytes of the text were left, the most that one line takes.
 pub enum Listed {
     Text(usize),
     Over,

@@ -3,7 +3,7 @@ ghost use mathlib.Core.Path.{_≡_};
 ghost use mathlib.Core.List.{List};
 ghost use Prim.Native.Nat.{ℕ, _+_, _*_, _≤_};
 ghost use lib.ListN.{length, take};
-ghost use Rattle.text.specs.Definition.Text.{Put};
+ghost use Rattle.text.specs.Definition.Put.{Put};
 ghost use Rattle.listing.specs.Definition.Log.{showsOf, lineOf, badText};
 use text::fields;
 use text::hex;

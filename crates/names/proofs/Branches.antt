@@ -9,9 +9,9 @@ use borrow.Author.Tests.{le-leb, lt-leb, eq-eqb, ne-eqb}
 use native.Mathlib.Omega.{arith}
 use Rattle.names.specs.Definition.Grammar.{UnitPart, plain, dashed, unit-text, value}
 use Rattle.names.specs.Definition.Tests.{runOf, fileTest}
-use Rattle.names.specs.Definition.Read.{cappedNumber, withDigits, withUnit, withHead, withColon, withoutColon, reading}
+use Rattle.names.specs.Definition.Read.{withDigits, withUnit, withHead, withColon, withoutColon, reading}
 use Rattle.names.specs.Definition.Parts.{unitNumber, partsOf}
-use Rattle.names.specs.Laws.Numbers.{number-right, number-finds}
+use Rattle.names.specs.Laws.Numbers.{cappedNumber, number-right, number-finds, number-high, digits-finds}
 use Rattle.names.specs.declared.Kind.the-variants.{Letter, BeforeColon}
 use Rattle.names.specs.declared.UnitNumber.the-variants.{Given, Absent}
 use Rattle.names.specs.declared.Parts.{Parts}
@@ -24,14 +24,14 @@ part-from n s = take-all (length s - n) (drop n s) (omega (arith, length-drop n 
 module _ (d : List ℕ) (u : UnitPart) (ds f : List ℕ) where
   pub digits-refused : 255 < cappedNumber ds → Refused ≡ partsOf (withDigits d u ds f)
   unfolding withDigits
-  digits-refused h = rw (lt-leb (cappedNumber ds) 255 h)
+  digits-refused h = rw (number-high ds h)
 
   pub digits-read : (letters file : ℕ) → cappedNumber ds ≤ 255 → length d ≡ letters → unitNumber u ≡ Given (value 0 ds)
       → length d + length (unit-text u) + 1 ≡ file → Read letters (Given (cappedNumber ds)) file ≡ partsOf (withDigits d u ds f)
   unfolding withDigits
   digits-read letters file h l n e =
       let v : cappedNumber ds ≡ value 0 ds = number-finds ds (number-right ds h) in
-      rw (le-leb (cappedNumber ds) 255 h) (cc)
+      rw (digits-finds ds (number-right ds h)) (cc)
 
 module _ (d rest f : List ℕ) where
   pub unit-absent : (letters file : ℕ) → length rest ≡ 0 → length d ≡ letters → length d + length rest + 1 ≡ file

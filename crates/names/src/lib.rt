@@ -5,7 +5,8 @@ ghost use lib.ListN.{take};
 ghost use Rattle.names.specs.Definition.Grammar.{All, Digit, value};
 ghost use Rattle.names.specs.Definition.Words.{upper, wordOf};
 ghost use Rattle.names.specs.Definition.Tests.{ofKind, runOf, fileTest, lettersTest, linkNameTest, defaultNameTest};
-ghost use Rattle.names.specs.Definition.Read.{capped, cappedNumber, withoutColon, reading};
+ghost use Rattle.names.specs.Definition.Read.{withoutColon, reading};
+ghost use Rattle.names.specs.Laws.Numbers.{capped, cappedNumber};
 ghost use Rattle.names.specs.Definition.Parts.{partsOf};
 ghost use Rattle.names.specs.Laws.Steps.{OfDigits, OfRest, OfHead};
 

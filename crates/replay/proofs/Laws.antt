@@ -15,8 +15,8 @@ use Rattle.kernel.specs.Definition.Step.{Result, accepted, result, completed, s
 use Rattle.kernel.specs.Laws.Ready.{Ready, decided-ready}
 use Rattle.kernel.specs.declared.Tables.{Tables}
 use Rattle.kernel.specs.declared.Outcome.{Outcome}
-use Rattle.events.specs.Definition.Records.{u16At, decode, stepOf}
-use Rattle.events.specs.Laws.Bodies.{Bytes, decode-fields}
+use Rattle.events.specs.Definition.Records.{u16At, callIn, stepOf}
+use Rattle.events.specs.Laws.Bodies.{Bytes, call-fields}
 use Rattle.replay.specs.Definition.Replay.{sizeOf, front, records, bytesOf, asked, replayed}
 use Rattle.replay.specs.Laws.Records.{whole-size, records-none, records-more, at-front}
 
@@ -27,7 +27,7 @@ pub stays-ready : (t : Tables) (ram : List ℕ) (kind : ℕ) (body out : List �
     → length ram' ≡ length ram → result r ram' out' ≡ stepOf t ram kind body out → Ready (r .tables) (length ram')
 unfolding step completed
 stays-ready t ram kind body out r ram' out' h b l e =
-    rw (l, ap (λ (x : Result). x .tables) e) (decided-ready t (length ram) (length out) (decode kind body) h (decode-fields kind body b))
+    rw (l, ap (λ (x : Result). x .tables) e) (decided-ready t (length ram) (length out) (callIn kind body) h (call-fields kind body b))
 
 -- the record that stands at a place lies in the buffer
 lies : (xs : List ℕ) (at n : ℕ) → at ≤ length xs → n ≡ sizeOf (drop at xs) → (n ≡ 0 → ⊥) → (4 ≤ n) × (at + n ≤ length xs)

@@ -7,7 +7,7 @@ ghost use lib.ListN.{take};
 ghost use lib.Dec.{leb, ltb};
 ghost use Rattle.rows.specs.Definition.Lists.{upTo};
 ghost use Rattle.rows.specs.Definition.Channels.{foundAt};
-ghost use Rattle.rows.specs.Definition.Devices.{builtIn, sameName, sameBytes, disabledBy, answers, deviceIn};
+ghost use Rattle.rows.specs.Definition.Devices.{builtIn, sameName, sameBytes, disabledBy, hasName, deviceIn};
 ghost use Rattle.rows.specs.Definition.Tests.{letterRow, nameTest, defaultTest, zeroRow, restDevice, deviceRow, builtTest, deviceTest};
 use super::Device;
 use super::Lookup;
@@ -70,7 +70,7 @@ pub fn same_name(a: [u8; 28], la: u8, b: [u8; 28], lb: u8) -> bool
 
 // `d` is enabled and has this name, which is not empty.
 fn has_name(d: Device, name: [u8; 28], length: u8) -> bool
-    ensures { λ r. ⌜ r ≡ answers name length d ⌝ }
+    ensures { λ r. ⌜ r ≡ hasName name length d ⌝ }
 {
     let other = d.name;
     (0 < length) & (d.enabled & same_name(other, d.length, name, length))

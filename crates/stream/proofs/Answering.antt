@@ -7,11 +7,11 @@ use lib.Seq.{take-at, length-take-le}
 use Rattle.kernel.specs.Definition.Step.{Result, result}
 use Rattle.kernel.specs.declared.Tables.{Tables}
 use Rattle.kernel.specs.declared.Outcome.{Outcome}
-use Rattle.text.specs.Definition.Text.{Put}
+use Rattle.text.specs.Definition.Put.{Put}
 use Rattle.events.specs.Definition.Records.{u16At, stepOf}
-use Rattle.image.proofs.Laws.{body-is}
-use Rattle.stream.specs.Seed.{next, seeded}
-use Rattle.stream.specs.Replies.{stepOn, replyBytes, Replied}
+use Rattle.image.specs.Laws.Bytes.{body-is}
+use Rattle.stream.specs.Definition.Seed.{next, seeded}
+use Rattle.stream.specs.Definition.Replies.{stepOn, replyBytes, Replied}
 
 seeded-length : (n x : ℕ) → length (seeded n x) ≡ n
 seeded-length zero x = refl

@@ -6,8 +6,8 @@ use native.Mathlib.Omega.{arith}
 use borrow.Author.Tests.{eq-eqb, ne-eqb, lt-ltb, le-ltb}
 use lib.ListN.{length}
 use Rattle.events.specs.Definition.Records.{u8At, u16At}
-use Rattle.stream.specs.Numbers.{u32At}
-use Rattle.stream.specs.Requests.{callAt, requestIn}
+use Rattle.stream.specs.Definition.Numbers.{u32At}
+use Rattle.stream.specs.Definition.Requests.{callAt, requestIn}
 use Rattle.stream.specs.declared.Request.{Request}
 use Rattle.stream.specs.declared.Found.{Found}
 use Rattle.stream.specs.declared.Found.the-variants.{Whole, Part, Bad}

@@ -6,11 +6,11 @@ use native.Mathlib.Omega.{arith}
 use native.Mathlib.Numerals.{add-one}
 use lib.ListN.{length, getD, take, drop, set, replicate, drop-of-length-le}
 use lib.Seq.{drop-cons, take-suc-set, take-suc, take-all}
-use Rattle.text.specs.Definition.Text.{Put}
-use Rattle.text.proofs.Laws.{put-then}
-use Rattle.stream.specs.Digest.{mixed, digestFrom}
-use Rattle.stream.specs.Seed.{next, seeded}
-use Rattle.stream.specs.Numbers.{lowBytes}
+use Rattle.text.specs.Definition.Put.{Put}
+use Rattle.text.specs.Laws.Text.{put-then}
+use Rattle.stream.specs.Definition.Digest.{mixed, digestFrom}
+use Rattle.stream.specs.Definition.Seed.{next, seeded}
+use Rattle.stream.specs.Definition.Numbers.{lowBytes}
 
 module _ (xs : List ℕ) (h i d : ℕ) where
   pub digest-turn : (w : ℕ) → i < length xs → w ≡ getD xs i 0 → digestFrom h (drop i xs) ≡ d → digestFrom ((h * 8388593 + w + 1) % 1099511627776) (drop (i + 1) xs) ≡ d

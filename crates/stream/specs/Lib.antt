@@ -1,6 +1,2 @@
--- What the stream's requests and replies mean.
-pub mod Digest
-pub mod Seed
-pub mod Numbers
-pub mod Requests
-pub mod Replies
+-- The stream that is compared.
+pub mod Definition

@@ -2,8 +2,8 @@
 ghost use mathlib.Core.Path.{_≡_};
 ghost use Prim.Native.Nat.{_+_, _<_, _≤_};
 ghost use lib.ListN.{length};
-ghost use Rattle.text.specs.Definition.Text.{Put};
-ghost use Rattle.stream.specs.Numbers.{u32At, u64Bytes};
+ghost use Rattle.text.specs.Definition.Put.{Put};
+ghost use Rattle.stream.specs.Definition.Numbers.{u32At, u64Bytes};
 use events::fields::u16_at;
 use text::put;
 

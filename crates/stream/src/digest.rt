@@ -1,6 +1,6 @@
 // The digest of bytes.
 ghost use mathlib.Core.Path.{_≡_};
-ghost use Rattle.stream.specs.Digest.{digestOf};
+ghost use Rattle.stream.specs.Definition.Digest.{digestOf};
 ghost use Prim.Native.Nat.{_<_};
 
 fn wide(x: u8) -> u64

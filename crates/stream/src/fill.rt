@@ -2,7 +2,7 @@
 ghost use mathlib.Core.Path.{_≡_};
 ghost use Prim.Native.Nat.{ℕ, _<_};
 ghost use lib.ListN.{length, replicate};
-ghost use Rattle.stream.specs.Seed.{seeded};
+ghost use Rattle.stream.specs.Definition.Seed.{seeded};
 
 // Each byte by the seed's next number.
 pub fn fill(ram: &mut [u8], seed: u64)

@@ -1,7 +1,7 @@
 // Where a request ends.
 ghost use mathlib.Core.Path.{_≡_};
 ghost use Prim.Native.Nat.{_+_, _<_};
-ghost use Rattle.stream.specs.Requests.{callAt, requestIn, Lent, Fits};
+ghost use Rattle.stream.specs.Definition.Requests.{callAt, requestIn, Lent, Fits};
 use super::Found;
 use super::Request;
 use super::bytes::u32_at;

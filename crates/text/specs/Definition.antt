@@ -1,2 +1,3 @@
 -- Numbers and bytes as text.
+pub mod Put
 pub mod Text

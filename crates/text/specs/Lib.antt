@@ -1,2 +1,3 @@
--- The definition of text.
+-- Text: the definition, and the laws about it.
 pub mod Definition
+pub mod Laws

@@ -3,7 +3,8 @@ ghost use mathlib.Core.Path.{_≡_};
 ghost use mathlib.Core.List.{List, [], _∷_, _++_};
 ghost use Prim.Native.Nat.{ℕ, _+_, _*_, _/_, _%_, _≤_, _<_};
 ghost use lib.ListN.{length, take};
-ghost use Rattle.text.specs.Definition.Text.{Put, digitOf, glyph, decimalOf, hexOf, fieldsOf};
+ghost use Rattle.text.specs.Definition.Put.{Put};
+ghost use Rattle.text.specs.Definition.Text.{digitOf, glyph, decimalOf, hexOf, fieldsOf};
 
 // One byte.
 pub fn put(text: &mut [u8], at: usize, b: u8) -> usize

@@ -1,7 +1,7 @@
 -- `events::call` meets its contract.
 use mathlib.Core.Path.{refl}
 use Rattle.kernel.proofs.Calls.{accepted-good, accepted-size}
-use Rattle.events.specs.Definition.Records.{decode}
+use Rattle.events.specs.Definition.Records.{callIn}
 use Rattle.events.proofs.ByKind.{by-kind, bad-tables}
 use borrow.Author.Needs.{needs}
 use Rattle.events.proofs.call.Statement.{statement}
@@ -14,7 +14,7 @@ same-length : tie.Need-same-length
 same-length c = search needs
 
 returns : tie.Need-returns
-unfolding decode
+unfolding callIn
 returns c = by-kind _ _ _ _ _ 256 _ _ (c .before .before .before .before .if1 .taken) refl (c .before .before .start-event .ensures _)
 
 accepts-requires : tie.Need-accepts-requires

@@ -1,6 +1,6 @@
 -- `events::call_good` meets its contract.
 use mathlib.Core.Path.{refl}
-use Rattle.events.specs.Definition.Records.{decode}
+use Rattle.events.specs.Definition.Records.{callIn}
 use Rattle.events.proofs.ByKind.{by-kind, no-kind, unknown-kind}
 use borrow.Author.Needs.{needs}
 use Rattle.events.proofs.call_good.Statement.{statement}
@@ -58,21 +58,21 @@ same-length : tie.Need-same-length
 same-length c = search needs
 
 returns : tie.Need-returns
-unfolding decode
+unfolding callIn
 returns c = by-kind _ _ _ _ _ 0 _ _ (c .before .before .before .before .match .keys1) refl (c .before .before .reset-event .ensures _)
 
 same-length-2 : tie.Need-same-length-2
 same-length-2 c = search needs
 
 returns-2 : tie.Need-returns-2
-unfolding decode
+unfolding callIn
 returns-2 c = by-kind _ _ _ _ _ 1 _ _ (c .before .before .before .before .match .keys2) refl (c .before .before .open-event .ensures _)
 
 same-length-3 : tie.Need-same-length-3
 same-length-3 c = search needs
 
 returns-3 : tie.Need-returns-3
-unfolding decode
+unfolding callIn
 returns-3 c = by-kind _ _ _ _ _ 3 _ _ (c .before .before .before .before .match .keys3) refl (c .before .before .close-event .ensures _)
 
 same-length-4 : tie.Need-same-length-4
@@ -82,62 +82,62 @@ same-length-5 : tie.Need-same-length-5
 same-length-5 c = search needs
 
 returns-4 : tie.Need-returns-4
-unfolding decode
+unfolding callIn
 returns-4 c = by-kind _ _ _ _ _ 6 _ _ (c .before .before .before .before .before .match .keys4) refl (c .before .before .read-event .ensures)
 
 same-length-6 : tie.Need-same-length-6
 same-length-6 c = search needs
 
 returns-5 : tie.Need-returns-5
-unfolding decode
+unfolding callIn
 returns-5 c = by-kind _ _ _ _ _ 8 _ _ (c .before .before .before .before .match .keys5) refl (c .before .before .write-event .ensures _)
 
 returns-6 : tie.Need-returns-6
-unfolding decode
+unfolding callIn
 returns-6 c = by-kind _ _ _ _ _ 19 _ _ (c .before .match .keys6) refl (c .default-event .ensures _ _ (c .before .before .before .before .before .pre .1))
 
 same-length-7 : tie.Need-same-length-7
 same-length-7 c = search needs
 
 returns-7 : tie.Need-returns-7
-unfolding decode
+unfolding callIn
 returns-7 c = by-kind _ _ _ _ _ 20 _ _ (c .before .before .before .before .match .keys7) refl (c .before .before .status-event .ensures _ (c .before .before .before .before .before .before .before .before .pre .1))
 
 same-length-8 : tie.Need-same-length-8
 same-length-8 c = search needs
 
 returns-8 : tie.Need-returns-8
-unfolding decode
+unfolding callIn
 returns-8 c = by-kind _ _ _ _ _ 21 _ _ (c .before .before .before .before .match .keys8) refl (c .before .before .link-event .ensures _)
 
 returns-9 : tie.Need-returns-9
-unfolding decode
+unfolding callIn
 returns-9 c = by-kind _ _ _ _ _ 22 _ _ (c .before .match .keys9) refl (c .boundary-event .ensures _ _ (c .before .before .before .before .before .pre .1))
 
 returns-10 : tie.Need-returns-10
-unfolding decode
+unfolding callIn
 returns-10 c = by-kind _ _ _ _ _ 23 _ _ (c .before .match .keys10) refl (c .set-user-boundary-event .ensures _ _ (c .before .before .before .before .before .pre .1))
 
 returns-11 : tie.Need-returns-11
-unfolding decode
+unfolding callIn
 returns-11 c = by-kind _ _ _ _ _ 24 _ _ (c .before .match .keys11) refl (c .allocate-event .ensures _ _ (c .before .before .before .before .before .pre .1))
 
 returns-12 : tie.Need-returns-12
-unfolding decode
+unfolding callIn
 returns-12 c = by-kind _ _ _ _ _ 25 _ _ (c .before .match .keys12) refl (c .free-event .ensures _ _ (c .before .before .before .before .before .pre .1))
 
 same-length-9 : tie.Need-same-length-9
 same-length-9 c = search needs
 
 returns-13 : tie.Need-returns-13
-unfolding decode
+unfolding callIn
 returns-13 c = by-kind _ _ _ _ _ 256 _ _ (c .before .before .before .before .match .keys13) refl (c .before .before .start-event .ensures _)
 
 same-length-10 : tie.Need-same-length-10
 same-length-10 c = search needs
 
 returns-14 : tie.Need-returns-14
-unfolding decode
+unfolding callIn
 returns-14 c = by-kind _ _ _ _ _ 257 _ _ (c .before .before .before .before .match .keys14) refl (c .before .before .store-event .ensures _)
 
 same-length-11 : tie.Need-same-length-11
@@ -147,7 +147,7 @@ same-length-12 : tie.Need-same-length-12
 same-length-12 c = search needs
 
 returns-15 : tie.Need-returns-15
-unfolding decode
+unfolding callIn
 returns-15 c = by-kind _ _ _ _ _ 258 _ _ (c .before .before .before .before .before .match .keys15) refl (c .before .before .load-event .ensures)
 
 returns-16 : tie.Need-returns-16

@@ -84,8 +84,8 @@ unfoldable pub loadIn : List ℕ → Call
 loadIn body = exactly 5 body (load (u8At body 0) (u16At body 1) (u16At body 3))
 
 -- the kinds in 01's order; "kind unknown" is no call
-unfoldable pub decode : (kind : ℕ) (body : List ℕ) → Call
-decode kind body =
+unfoldable pub callIn : (kind : ℕ) (body : List ℕ) → Call
+callIn kind body =
     cond (eqb kind 256) (startIn body)
     (cond (eqb kind 0) (resetIn body)
     (cond (eqb kind 1) (openIn body)
@@ -105,4 +105,4 @@ decode kind body =
 
 -- what an event record leaves of the tables, the RAM and the lent output
 abbrev pub stepOf : Tables → (ram : List ℕ) (kind : ℕ) (body out : List ℕ) → Result
-stepOf t ram kind body out = step t ram (decode kind body) out
+stepOf t ram kind body out = step t ram (callIn kind body) out

@@ -8,8 +8,8 @@ use borrow.Author.Tests.{ne-eqb}
 use lib.Dec.{ltb, eqb}
 use lib.ListN.{length}
 use Rattle.kernel.specs.Definition.Calls.{Call, isStart}
-use Rattle.kernel.specs.Laws.Fields.{U8, U16, Fields}
-use Rattle.events.specs.Definition.Records.{u8At, u16At, startIn, resetIn, openIn, closeIn, readIn, writeIn, defaultIn, statusIn, linkIn, boundaryIn, setUserBoundaryIn, allocateIn, freeIn, storeIn, loadIn, decode}
+use Rattle.kernel.specs.Definition.Fields.{U8, U16, Fields}
+use Rattle.events.specs.Definition.Records.{u8At, u16At, startIn, resetIn, openIn, closeIn, readIn, writeIn, defaultIn, statusIn, linkIn, boundaryIn, setUserBoundaryIn, allocateIn, freeIn, storeIn, loadIn, callIn}
 
 -- every byte is below 256, as in a slice of u8
 abbrev pub Bytes : List ℕ → Type 0
@@ -22,9 +22,9 @@ either : (b : Bool) (c d : Call) → Fields c → Fields d → Fields (cond b c 
 either true c d f g = f
 either false c d f g = g
 
-pub decode-fields : (kind : ℕ) (body : List ℕ) → Bytes body → Fields (decode kind body)
-unfolding decode startIn resetIn openIn closeIn readIn writeIn defaultIn statusIn linkIn boundaryIn setUserBoundaryIn allocateIn freeIn storeIn loadIn
-decode-fields kind body h =
+pub call-fields : (kind : ℕ) (body : List ℕ) → Bytes body → Fields (callIn kind body)
+unfolding callIn startIn resetIn openIn closeIn readIn writeIn defaultIn statusIn linkIn boundaryIn setUserBoundaryIn allocateIn freeIn storeIn loadIn
+call-fields kind body h =
     let w : (i : ℕ) → U16 (u16At body i) = λ i. u16-small body i h in
     either (eqb kind 256) _ _ (either (ltb (length body) 2) _ _ tt (w 0))
     (either (eqb kind 0) _ _ (either (eqb (length body) 1) _ _ (h 0) tt)
@@ -52,8 +52,8 @@ passed true c d e g = absurd (false≢true (sym e))
 passed false c d e g = g
 
 -- no other kind is a start
-pub no-start : (kind : ℕ) (body : List ℕ) → (kind ≡ 256 → ⊥) → isStart (decode kind body) ≡ false
-unfolding decode startIn resetIn openIn closeIn readIn writeIn defaultIn statusIn linkIn boundaryIn setUserBoundaryIn allocateIn freeIn storeIn loadIn
+pub no-start : (kind : ℕ) (body : List ℕ) → (kind ≡ 256 → ⊥) → isStart (callIn kind body) ≡ false
+unfolding callIn startIn resetIn openIn closeIn readIn writeIn defaultIn statusIn linkIn boundaryIn setUserBoundaryIn allocateIn freeIn storeIn loadIn
 no-start kind body h =
     passed (eqb kind 256) _ _ (ne-eqb kind 256 h)
     (plain (eqb kind 0) _ _ (plain (eqb (length body) 1) _ _ refl refl)

@@ -2,7 +2,7 @@
 use denote.Ref.{now}
 use mathlib.Core.Path.{refl, _∙_}
 use native.Mathlib.Omega.{arith}
-use Rattle.image.proofs.Laws.{whole}
+use Rattle.image.specs.Laws.Bytes.{whole}
 use Rattle.exos.proofs.Calls.{no-image, no-kind, too-long, no-reply, all-fit, done}
 use borrow.Author.Needs.{needs}
 use Rattle.exos.proofs.exos_call.Statement.{statement}

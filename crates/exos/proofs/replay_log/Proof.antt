@@ -2,7 +2,7 @@
 use denote.Ref.{now}
 use mathlib.Core.Path.{_∙_}
 use native.Mathlib.Omega.{arith}
-use Rattle.image.proofs.Laws.{whole}
+use Rattle.image.specs.Laws.Bytes.{whole}
 use Rattle.exos.proofs.Replayed.{none, all}
 use borrow.Author.Needs.{needs}
 use Rattle.exos.proofs.replay_log.Statement.{statement}

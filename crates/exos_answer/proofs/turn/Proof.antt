@@ -4,7 +4,7 @@ use mathlib.Core.Path.{_≡_}
 use Prim.Native.Nat.{_-_}
 use native.Mathlib.Omega.{arith}
 use lib.ListN.{take, drop}
-use Rattle.stream.specs.Requests.{Fits}
+use Rattle.stream.specs.Definition.Requests.{Fits}
 use Rattle.stream.specs.declared.Found.the-variants.{Whole}
 use Rattle.exos_answer.proofs.Laws.{ends}
 use borrow.Author.Needs.{needs}

@@ -11,11 +11,11 @@ use Rattle.kernel.specs.Definition.Answers.{gives}
 use Rattle.kernel.specs.Definition.Calls.{Call, start, reset, «open», close, read, write, default, status, link, boundary, set-user-boundary, allocate, free, store, load, no-call, short-start, isStart, onBoundary}
 use Rattle.kernel.specs.Definition.Refusals.{Row, tables-bad, ram-wrong, call-unknown, start-short}
 use Rattle.kernel.specs.Definition.Step.{accepted, heard, decided}
-use Rattle.kernel.specs.Laws.Fields.{Fields}
+use Rattle.kernel.specs.Definition.Fields.{Fields}
 use Rattle.kernel.specs.Laws.Good.{good-says}
 use Rattle.kernel.specs.declared.Tables.{Tables}
 use Rattle.kernel.specs.declared.Answer.the-variants.{BadTables, BadCall}
-use Rattle.history.specs.Answers.One.{refused}
+use Rattle.history.specs.Definition.ExactlyOne.{refused}
 use Rattle.history.specs.Answers.Lowest.{Below, Lowest, end, rule}
 use Rattle.history.specs.Answers.Tests.{says-either, says-no}
 use Rattle.history.specs.Answers.Numbers.{numbers-some, by-rows, by-none}

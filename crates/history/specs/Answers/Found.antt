@@ -14,7 +14,7 @@ use lib.Seq.{getD-take}
 use Rattle.rows.specs.Definition.Lists.{at, firstWhere}
 use Rattle.rows.specs.Laws.Lists.{where-found, where-absent}
 use Rattle.rows.specs.Definition.Channels.{zeroChannel}
-use Rattle.rows.specs.Definition.Devices.{beyondDevices, answers}
+use Rattle.rows.specs.Definition.Devices.{beyondDevices, hasName}
 use Rattle.rows.specs.Definition.Good.{ListGood, Same}
 use Rattle.rows.specs.Laws.Good.{Says, says-lt, says-and, says-as, same-says}
 use Rattle.rows.specs.declared.Channel.{Channel}
@@ -118,13 +118,13 @@ module _ (t : Tables) (g : Good t) where
       (λ (i, h, e). (i, h, eq-eqb _ _ e))
 
   -- devices
-  answers-says : (w : Wanted) (d : Device) → Says (answers (w .name) (w .length) d) ((1 ≤ w .length) × ((d .enabled ≡ true) × Same (d .name) (d .length) (w .name) (w .length)))
+  answers-says : (w : Wanted) (d : Device) → Says (hasName (w .name) (w .length) d) ((1 ≤ w .length) × ((d .enabled ≡ true) × Same (d .name) (d .length) (w .name) (w .length)))
   answers-says w d =
       says-and (says-lt 0 (w .length))
       (says-and (record { yes = λ e. e; make = λ e. e }) (same-says (d .name) (d .length) (w .name) (w .length)))
 
   pub enabled-says : (w : Wanted) → Says (ltb (deviceFor t w) (t .known)) ((i : ℕ) × Enabled t w i)
   enabled-says w =
-      says-as (search-says (answers (w .name) (w .length)) (t .devices) beyondDevices (t .known) (omega (arith, g .sized .devices, g .devices .most)))
+      says-as (search-says (hasName (w .name) (w .length)) (t .devices) beyondDevices (t .known) (omega (arith, g .sized .devices, g .devices .most)))
       (λ (i, h, e). let a = answers-says w (getD (t .devices) i beyondDevices) .yes e in (i, record { known = h; named = a .0; enabled = a .1 .0; same = a .1 .1 }))
       (λ (i, o). (i, o .known, answers-says w (getD (t .devices) i beyondDevices) .make (o .named, (o .enabled, o .same))))

@@ -14,7 +14,7 @@ use Rattle.kernel.specs.Definition.Answers.{numberOf, granted, gives, Refusal, 
 use Rattle.kernel.specs.declared.Tables.{Tables}
 use Rattle.kernel.specs.declared.Answer.{Answer}
 use Rattle.kernel.specs.declared.Outcome.{Outcome}
-use Rattle.history.specs.Answers.One.{IsAnswer, refused, passed, refusal}
+use Rattle.history.specs.Definition.ExactlyOne.{IsAnswer, refused, passed, refusal}
 
 -- k is one of the numbers
 abbrev pub Among : ℕ → List ℕ → Type 0

@@ -16,7 +16,7 @@ use Rattle.kernel.specs.Definition.Step.{decided, step}
 use Rattle.kernel.specs.declared.Tables.{Tables}
 use Rattle.kernel.specs.declared.Answer.{Answer}
 use Rattle.kernel.specs.declared.Answer.the-variants.{Done, BadTables, BadCall, NoChannel, Exists, BadName, NoDevice, Driver, Full, NoRoom, NoSegment, NotOwner, BadBoundary, BadRange, Guarded, BadFlags, BadStart, Shared}
-use Rattle.history.specs.Answers.One.{IsAnswer, refused, passed, refusal, AnswersLowest, RefusesLowest, GrantsRest, OneAnswer, AtMostOne, ExactlyOne, OneResult, Named, named, unnamed, OneReading, OneName}
+use Rattle.history.specs.Definition.ExactlyOne.{IsAnswer, refused, passed, refusal, AnswersLowest, RefusesLowest, GrantsRest, OneAnswer, AtMostOne, ExactlyOne, OneResult, ReadsAs, named, unnamed, OneReading, OneName}
 use Rattle.history.specs.Answers.Lowest.{clear-none}
 use Rattle.history.specs.Answers.Numbers.{numbers, numbers-some, row-number}
 use Rattle.history.specs.Answers.Decided.{decided-lowest}
@@ -112,7 +112,7 @@ exactly-one = function-one (λ i. step (i .tables) (i .ram) (i .call) (i .output
 pub one-reading : OneReading
 one-reading = reads-one
 
-name-most : AtMostOne Named
+name-most : AtMostOne ReadsAs
 name-most s x y (named {r = r} a) (named {r = q} b) = ap some (reads-one s r q a b)
 name-most s x y (named {r = r} a) (unnamed b) = absurd (b r a)
 name-most s x y (unnamed a) (named {r = r} b) = absurd (a r b)
@@ -121,6 +121,6 @@ name-most s x y (unnamed a) (unnamed b) = refl
 pub one-name : OneName
 one-name = (λ s. go s (reading s) refl, name-most)
   where
-    go : (s : List ℕ) (o : Option Reading) → reading s ≡ o → (x : Option Reading) × Named s x
+    go : (s : List ℕ) (o : Option Reading) → reading s ≡ o → (x : Option Reading) × ReadsAs s x
     go s none e = (none, unnamed (unread-right s e))
     go s (some r) e = (some r, named (reading-right s r e))

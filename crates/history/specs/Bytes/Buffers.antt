@@ -15,14 +15,15 @@ use Rattle.rows.specs.Laws.Lists.{and-left, where-found}
 use Rattle.rows.specs.Definition.Channels.{zeroChannel, sumOf}
 use Rattle.rows.specs.Laws.ChannelRows.{from, from-low, from-high, without-at, sum-without, sum-more}
 use Rattle.rows.specs.declared.Channel.{Channel}
-use Rattle.line.specs.Definition.Line.{chainIndexOf, placeOf, putLine, afterLink, Chain}
+use Rattle.line.specs.Laws.Chains.{Chain}
+use Rattle.line.specs.Definition.Line.{chainIndexOf, placeOf, putLine, afterLink}
 use Rattle.line.specs.Definition.Ram.{putAt}
-use Rattle.line.proofs.Walks.{put-elsewhere}
-use Rattle.line.proofs.Places.{place-apart}
-use Rattle.line.proofs.Held.{held-at}
-use Rattle.line.proofs.PointsOpened.{opened-points}
-use Rattle.line.proofs.PointsClosed.{closed-points}
-use Rattle.line.proofs.PointsLinked.{linked-points}
+use Rattle.line.specs.Laws.Walks.{put-elsewhere}
+use Rattle.line.specs.Laws.Places.{place-apart}
+use Rattle.line.specs.Laws.Held.{held-at}
+use Rattle.line.specs.Laws.PointsOpened.{opened-points}
+use Rattle.line.specs.Laws.PointsClosed.{closed-points}
+use Rattle.line.specs.Laws.PointsLinked.{linked-points}
 use Rattle.kernel.specs.Definition.Tables.{channelAt}
 use Rattle.kernel.specs.Definition.Line.{totalOf, recordAt, sizeAt, bufferAt}
 use Rattle.kernel.specs.Definition.Segments.{mayReach, reachOf}
@@ -34,8 +35,8 @@ use Rattle.kernel.specs.Laws.Records.{record-within}
 use Rattle.kernel.specs.Laws.KeptReset.{emptying-opened}
 use Rattle.kernel.specs.Laws.Ready.{Ready}
 use Rattle.kernel.specs.declared.Tables.{Tables}
-use Rattle.history.specs.Bytes.Runs.{patched}
-use Rattle.history.specs.Bytes.Places.{place-same, link-short, reach-users, off-line, reach-small}
+use Rattle.history.specs.Definition.Runs.{patched}
+use Rattle.history.specs.Bytes.Places.{place-same, index-short, reach-users, off-line, reach-small}
 use Rattle.history.specs.Bytes.Changes.{Opens, opens-row, opens-total, Closes, Links}
 
 -- the number of the channel in row i, and byte k of its buffer where it lies
@@ -117,7 +118,7 @@ module _ (t : Tables) (ram : List ℕ) (r : Ready t (length ram)) (f : ℕ → �
   inside i k h l = omega (arith, record-within t i (r .good) h)
 
   link-held : (p : ℕ) → p < totalOf t → chainIndexOf (t .room) p < t .held
-  link-held p h = rw (r .good .line) (link-short (t .room) (totalOf t) p h)
+  link-held p h = rw (r .good .line) (index-short (t .room) (totalOf t) p h)
 
   -- the row that a channel is found in has its number
   pub found : (channel : ℕ) → channelAt t channel < t .opened → channelIn t (channelAt t channel) ≡ channel
@@ -243,7 +244,7 @@ module _ (t : Tables) (ram : List ℕ) (r : Ready t (length ram)) (f : ℕ → �
         let points = closed-points (t .chain) (t .room) ram (recordAt t j) gap (totalOf t) chained (record-within t j (r .good) have) in
         let p = bufferAt u i + k in
         let within : p < totalOf u = omega (arith, record-within u i (s .good) a) in
-        let link : chainIndexOf (u .room) p < u .held = rw (s .good .line) (link-short (u .room) (totalOf u) p within) in
+        let link : chainIndexOf (u .room) p < u .held = rw (s .good .line) (index-short (u .room) (totalOf u) p within) in
         let place : placeOf (u .chain) (u .room) p ≡ placeOf (t .chain) (t .room) p =
         place-same (u .chain) (t .chain) (u .room) p (o .chain (chainIndexOf (u .room) p) link) ∙ ap (λ (x : ℕ). placeOf (t .chain) x p) (o .room) in
         elim (decLt i j) [

@@ -12,8 +12,8 @@ use lib.ListN.{length, getD, drop, List·getD-append}
 use Rattle.names.specs.Definition.Words.{wordOf}
 use Rattle.rows.specs.Definition.Classes.{SHARED}
 use Rattle.line.specs.Definition.Line.{placeOf, lineFrom}
-use Rattle.line.specs.Definition.Ram.{taken}
-use Rattle.line.proofs.Walks.{length-bytes, bytes-at}
+use Rattle.line.specs.Definition.Ram.{filled}
+use Rattle.line.specs.Laws.Walks.{length-bytes, bytes-at}
 use Rattle.kernel.specs.Definition.Tables.{classAt, rowOf, channelAt}
 use Rattle.kernel.specs.Definition.Line.{sizeAt, bufferAt, opening, closing}
 use Rattle.kernel.specs.Definition.Segments.{granting, sharingLast, freeing, bounding}
@@ -22,12 +22,12 @@ use Rattle.kernel.specs.Definition.Reset.{started}
 use Rattle.kernel.specs.Definition.Answers.{granted}
 use Rattle.kernel.specs.Definition.Calls.{Call, read}
 use Rattle.kernel.specs.Definition.Step.{ramOpened, ramAfter, outputAfter, completed, step}
-use Rattle.kernel.specs.Laws.Fields.{Fields}
+use Rattle.kernel.specs.Definition.Fields.{Fields}
 use Rattle.kernel.specs.Laws.Keeps.{start-passed, start-is}
 use Rattle.kernel.specs.Laws.Ready.{Ready, ready-heard}
 use Rattle.kernel.specs.declared.Tables.{Tables}
 use Rattle.kernel.specs.declared.Outcome.{Outcome}
-use Rattle.history.specs.Bytes.Runs.{State, History, after, event, Started, NotAccepted, Runs, stay, then, Run, written, lastWritten}
+use Rattle.history.specs.Definition.Runs.{State, History, after, event, Started, NotAccepted, Runs, stay, then, Run, written, lastWritten}
 use Rattle.history.specs.Bytes.Done.{Done, resets, opens, closes, reads, writes, names, counts, links, tells, bounds, grants, shares, frees, stores, loads, heard-done}
 use Rattle.history.specs.Bytes.Changes.{opening-opens, closing-closes, linking-links}
 use Rattle.history.specs.Bytes.Buffers.{Holds, found, write-law, open-law, close-law, link-law, store-law, reset-law}
@@ -98,7 +98,7 @@ read-known (reads h l) = (h, l)
 module _ (t : State) (f : ℕ → ℕ → ℕ) (r : Sound t) (holds : Holds f (t .tables) (t .ram)) where
   read-gives : (channel offset size : ℕ) (output : List ℕ) → granted (event t (read channel offset size) output .answer) ≡ true
       → (i : ℕ) → i < size → getD (event t (read channel offset size) output .output) i 0 ≡ f channel (offset + i)
-  unfolding step completed outputAfter taken
+  unfolding step completed outputAfter filled
   read-gives channel offset size output e i h =
       let u = t .tables in
       let j = channelAt u channel in

@@ -6,13 +6,14 @@ use native.Mathlib.Decide.{decLt}
 use native.Mathlib.Omega.{arith}
 use borrow.Author.Tests.{eq-eqb, lt-ltb, le-ltb}
 use lib.ListN.{length, getD}
-use Rattle.line.specs.Definition.Line.{chainIndexOf, placeOf, lineFrom, Chain}
+use Rattle.line.specs.Laws.Chains.{Chain}
+use Rattle.line.specs.Definition.Line.{chainIndexOf, placeOf, lineFrom}
 use Rattle.line.specs.Definition.Lent.{lentAt, partOf}
 use Rattle.line.specs.declared.Lent.{Lent}
 use Rattle.line.specs.declared.Lent.the-variants.{Part, Nothing}
-use Rattle.line.proofs.Walks.{bytes-at}
-use Rattle.line.proofs.Places.{chain-less}
-use Rattle.line.proofs.Lending.{lies, lent-byte, lent-length, lent-link}
+use Rattle.line.specs.Laws.Walks.{bytes-at}
+use Rattle.line.specs.Laws.Places.{chain-less}
+use Rattle.line.specs.Laws.Lending.{lies, lent-byte, lent-length, lent-index}
 use Rattle.kernel.specs.Definition.Tables.{channelAt}
 use Rattle.kernel.specs.Definition.Line.{totalOf, sizeAt, bufferAt}
 use Rattle.kernel.specs.Definition.Step.{accepted}
@@ -21,7 +22,7 @@ use Rattle.kernel.specs.Laws.Chains.{good-chain}
 use Rattle.kernel.specs.Laws.Records.{record-within}
 use Rattle.kernel.specs.Laws.Ready.{Ready, ready-accepted}
 use Rattle.kernel.specs.declared.Tables.{Tables}
-use Rattle.history.specs.Bytes.Runs.{State, History, Run, lastWritten}
+use Rattle.history.specs.Definition.Runs.{State, History, Run, lastWritten}
 use Rattle.history.specs.Bytes.Buffers.{Holds, found}
 use Rattle.history.specs.Bytes.BytesRead.{run-holds}
 
@@ -75,7 +76,7 @@ module _ (t : Tables) (ram : List ℕ) (r : Ready t (length ram)) (channel : ℕ
     lent-one = record {
       known = known;
       some = lies (t .chain) (t .room) (bufferOf t channel) (sizeOf t channel) at (chained known .small) lent .some;
-      same = lent-link (t .chain) (t .room) (bufferOf t channel) (sizeOf t channel) at ram (chained known) lent;
+      same = lent-index (t .chain) (t .room) (bufferOf t channel) (sizeOf t channel) at ram (chained known) lent;
     }
 
     lent-size : length (partOn t ram channel) ≡ sizeOf t channel

@@ -14,7 +14,7 @@ use Rattle.rows.specs.Definition.Classes.{USER, SHARED, timesHeld}
 use Rattle.rows.specs.Definition.Sizes.{chainLength, boundaryAt}
 use Rattle.rows.specs.Laws.Sizes.{Ends, ends, length-high, length-some, edge-low}
 use Rattle.line.specs.Definition.Line.{chainIndexOf, offsetOf, placeOf}
-use Rattle.line.proofs.Places.{link-low, link-high, offset-low, offset-high, offset-lt}
+use Rattle.line.specs.Laws.Places.{index-low, index-high, offset-low, offset-high, offset-lt}
 use Rattle.kernel.specs.Definition.Tables.{SEGMENT, classAt}
 use Rattle.kernel.specs.Definition.Line.{totalOf, oneMore, grown, oneLess, shrunk}
 use Rattle.kernel.specs.Definition.Segments.{mayReach, reachOf}
@@ -22,6 +22,7 @@ use Rattle.kernel.specs.Definition.Good.{Good}
 use Rattle.kernel.specs.Definition.Step.{segmentAt}
 use Rattle.kernel.specs.Laws.Facts.{chain-exactly}
 use Rattle.kernel.specs.declared.Tables.{Tables}
+use Rattle.history.specs.Definition.Users.{Users, page-zero, own, shared}
 
 -- a chain that grew, and one that shrank by k
 pub grown-chain : (k : ℕ) (t : Tables) (i : ℕ) → i < t .held → at (grown k t .chain) i ≡ at (t .chain) i
@@ -40,11 +41,11 @@ unfolding placeOf
 place-same chain other room p e = rw e
 
 -- a line's position is in one of the segments that the line takes
-pub link-short : (room total p : ℕ) → p < total → chainIndexOf room p < chainLength room total
-link-short room total p h =
+pub index-short : (room total p : ℕ) → p < total → chainIndexOf room p < chainLength room total
+index-short room total p h =
     elim (decLt p room) [
-      | yes l ↦ omega (arith, link-low room p l, length-some room total)
-      | no l ↦ let g : room ≤ p = omega arith in omega (arith, link-high room p g, length-high room total (omega arith))
+      | yes l ↦ omega (arith, index-low room p l, length-some room total)
+      | no l ↦ let g : room ≤ p = omega arith in omega (arith, index-high room p g, length-high room total (omega arith))
     ]
 
 -- and in the last of them no lower than the EXOS boundary
@@ -53,12 +54,12 @@ edge-under room total p h e =
     elim (decLt p room) [
       | yes l ↦ elim (decLe total room) [
         | yes q ↦ omega (arith, offset-low room p l, edge-low room total q)
-        | no q ↦ absurd (omega (arith, link-low room p l, length-high room total (omega arith)))
+        | no q ↦ absurd (omega (arith, index-low room p l, length-high room total (omega arith)))
       ]
       | no l ↦
           let g : room ≤ p = omega arith in
           let x : Ends room total (chainLength room total - 1) (boundaryAt room total) = ends room total (omega arith) in
-          omega (arith, link-high room p g, offset-high room p g, x .sum)
+          omega (arith, index-high room p g, offset-high room p g, x .sum)
     ]
 
 edge-small : (room total : ℕ) → room < 16384 → boundaryAt room total < 16384
@@ -67,12 +68,6 @@ edge-small room total h =
       | yes q ↦ omega (arith, edge-low room total q)
       | no q ↦ let x : Ends room total (chainLength room total - 1) (boundaryAt room total) = ends room total (omega arith) in x .top
     ]
-
--- "the page zero segment and user segments up to 16,384, a shared one up to the user boundary": an offset of the segment in this row is the user's
-pub data Users (t : Tables) (row offset : ℕ) : Type 0 where
-  page-zero : row ≡ 0 → offset < SEGMENT → Users t row offset
-  own : row < t .segments → classAt t row ≡ USER → offset < SEGMENT → Users t row offset
-  shared : row < t .segments → classAt t row ≡ SHARED → offset < t .user → Users t row offset
 
 -- what a store or load may reach is the user's
 pub reach-users : (t : Tables) (row offset : ℕ) → mayReach t row ≡ true → offset < reachOf t row → Users t row offset
@@ -138,7 +133,7 @@ module _ (t : Tables) (g : Good t) where
       let so = users-small row offset u in
       let sp = offset-lt (t .room) p (omega (arith, small)) in
       let same : at (t .chain) (chainIndexOf (t .room) p) ≡ row = omega arith in
-      let l : chainIndexOf (t .room) p < t .held = rw (g .line) (link-short (t .room) (totalOf t) p h) in
+      let l : chainIndexOf (t .room) p < t .held = rw (g .line) (index-short (t .room) (totalOf t) p h) in
       let last = users-last row offset (chainIndexOf (t .room) p) u l same in
       omega (arith, edge-under (t .room) (totalOf t) p h (last .0 ∙ g .line), last .1, g .user .most)
 

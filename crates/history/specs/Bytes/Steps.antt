@@ -10,7 +10,7 @@ use lib.ListN.{length, take, drop, replicate, length-append, length-take, length
 use Rattle.rows.specs.Laws.Lists.{and-left}
 use Rattle.line.specs.Definition.Line.{placeOf, putLine, afterOpen, afterClose, afterLink}
 use Rattle.line.specs.Definition.Ram.{putAt}
-use Rattle.line.proofs.Walks.{length-put}
+use Rattle.line.specs.Laws.Walks.{length-put}
 use Rattle.kernel.specs.Definition.Tables.{rowOf}
 use Rattle.kernel.specs.Definition.Line.{totalOf}
 use Rattle.kernel.specs.Definition.Reset.{bit4, bit5}
@@ -18,10 +18,10 @@ use Rattle.kernel.specs.Definition.Segments.{mayReach, reachOf}
 use Rattle.kernel.specs.Definition.Answers.{granted}
 use Rattle.kernel.specs.Definition.Calls.{Call, isStart}
 use Rattle.kernel.specs.Definition.Step.{segmentAt, ramAfter, completed, step}
-use Rattle.kernel.specs.Laws.Fields.{Fields}
+use Rattle.kernel.specs.Definition.Fields.{Fields}
 use Rattle.kernel.specs.Laws.Ready.{Ready, ready-heard, decided-ready, start-ready}
 use Rattle.kernel.specs.declared.Tables.{Tables}
-use Rattle.history.specs.Bytes.Runs.{State, after, event, Started, NotAccepted}
+use Rattle.history.specs.Definition.Runs.{State, after, event, Started, NotAccepted}
 use Rattle.history.specs.Bytes.Done.{Done, resets, opens, closes, reads, writes, names, counts, links, tells, bounds, grants, shares, frees, stores, loads, heard-done}
 use Rattle.kernel.specs.Laws.Refused.{refused-stays}
 use Rattle.history.specs.Bytes.Places.{reach-small}

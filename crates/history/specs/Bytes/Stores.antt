@@ -14,13 +14,14 @@ use Rattle.rows.specs.Laws.Lists.{and-left}
 use Rattle.rows.specs.Definition.Channels.{zeroChannel}
 use Rattle.rows.specs.Laws.Counts.{first-found}
 use Rattle.rows.specs.declared.Channel.{Channel}
-use Rattle.line.specs.Definition.Line.{placeOf, putLine, headingOf, afterOpen, afterLink, Chain}
+use Rattle.line.specs.Laws.Chains.{Chain}
+use Rattle.line.specs.Definition.Line.{placeOf, putLine, headingOf, afterOpen, afterLink}
 use Rattle.line.specs.Definition.Ram.{putAt}
-use Rattle.line.proofs.Walks.{put-elsewhere}
-use Rattle.line.proofs.Makes.{length-heading}
-use Rattle.line.proofs.Places.{place-low}
-use Rattle.line.proofs.PointsClosed.{closed-points}
-use Rattle.line.proofs.PointsLinked.{linked-points}
+use Rattle.line.specs.Laws.Walks.{put-elsewhere}
+use Rattle.line.specs.Laws.Makes.{length-heading}
+use Rattle.line.specs.Laws.Places.{place-low}
+use Rattle.line.specs.Laws.PointsClosed.{closed-points}
+use Rattle.line.specs.Laws.PointsLinked.{linked-points}
 use Rattle.kernel.specs.Definition.Tables.{rowOf, channelAt}
 use Rattle.kernel.specs.Definition.Line.{totalOf, recordAt, sizeAt, bufferAt, opening}
 use Rattle.kernel.specs.Definition.Segments.{mayReach, reachOf}
@@ -31,9 +32,10 @@ use Rattle.kernel.specs.Laws.Chains.{good-chain, chain-shift}
 use Rattle.kernel.specs.Laws.Records.{record-within}
 use Rattle.kernel.specs.Laws.Ready.{Ready}
 use Rattle.kernel.specs.declared.Tables.{Tables}
-use Rattle.history.specs.Bytes.Runs.{patched, stored}
+use Rattle.history.specs.Definition.Runs.{patched, stored}
 use Rattle.history.specs.Bytes.Done.{Done, resets, opens, closes, reads, writes, names, counts, links, tells, bounds, grants, shares, frees, stores, loads}
-use Rattle.history.specs.Bytes.Places.{Users, off-line, off-room, users-small, reach-small}
+use Rattle.history.specs.Definition.Users.{Users}
+use Rattle.history.specs.Bytes.Places.{off-line, off-room, users-small, reach-small}
 use Rattle.history.specs.Bytes.Changes.{Opens, opens-total, opening-opens, Links, linking-links}
 use Rattle.history.specs.Bytes.Buffers.{patched-in, patched-low, patched-high, put-at-is}
 use Rattle.history.specs.Bytes.Steps.{store-fits}

@@ -6,18 +6,19 @@ use Prim.Native.Nat.{ℕ, _+_, _≤_, _<_}
 use native.Mathlib.Omega.{arith}
 use lib.ListN.{length, getD, take, drop, length-take, length-drop, List·getD-append}
 use lib.Seq.{getD-take, getD-drop}
-use Rattle.line.specs.Definition.Ram.{taken}
+use Rattle.line.specs.Definition.Ram.{filled}
 use Rattle.kernel.specs.Definition.Tables.{rowOf}
 use Rattle.kernel.specs.Definition.Segments.{mayReach, reachOf}
 use Rattle.kernel.specs.Definition.Answers.{granted}
 use Rattle.kernel.specs.Definition.Calls.{Call, load}
 use Rattle.kernel.specs.Definition.Step.{segmentAt, outputAfter, completed, step}
-use Rattle.kernel.specs.Laws.Fields.{Fields}
+use Rattle.kernel.specs.Definition.Fields.{Fields}
 use Rattle.kernel.specs.Laws.Ready.{Ready, ready-heard}
 use Rattle.kernel.specs.declared.Tables.{Tables}
-use Rattle.history.specs.Bytes.Runs.{State, History, after, event, NotAccepted, Runs, stay, then, Run, stored, lastStored}
+use Rattle.history.specs.Definition.Runs.{State, History, after, event, NotAccepted, Runs, stay, then, Run, stored, lastStored}
 use Rattle.history.specs.Bytes.Done.{Done, loads, heard-done}
-use Rattle.history.specs.Bytes.Places.{Users, reach-users}
+use Rattle.history.specs.Definition.Users.{Users}
+use Rattle.history.specs.Bytes.Places.{reach-users}
 use Rattle.history.specs.Bytes.Changes.{done-listed}
 use Rattle.history.specs.Bytes.Steps.{Sound, store-fits, done-length, Stepped, refused, done, stepped, step-sound}
 use Rattle.history.specs.Bytes.BytesRead.{run-holds}
@@ -69,7 +70,7 @@ load-known (loads m h) = (m, h)
 pub user-loads : {h : History} {s : State} → Run h s → (segment offset size : ℕ) (output : List ℕ)
     → granted (event s (load segment offset size) output .answer) ≡ true
     → (i : ℕ) → i < size → UsersIn segment (offset + i) s × (getD (event s (load segment offset size) output .output) i 0 ≡ userByte s segment (offset + i))
-unfolding step completed outputAfter taken
+unfolding step completed outputAfter filled
 user-loads {s = s} run segment offset size output e i l =
     let r = run-holds (run .started) (run .runs) .0 in
     let t = s .tables in

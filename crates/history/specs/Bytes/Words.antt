@@ -9,7 +9,7 @@ use borrow.Author.Tests.{eq-eqb, ne-eqb}
 use lib.ListN.{length, getD}
 use Rattle.kernel.specs.Definition.Answers.{granted}
 use Rattle.kernel.specs.Definition.Calls.{Call, start, reset, «open», close, read, write, default, status, link, boundary, set-user-boundary, allocate, free, store, load, no-call, short-start}
-use Rattle.history.specs.Bytes.Runs.{Event, History, patched, written, lastWritten, stored, lastStored}
+use Rattle.history.specs.Definition.Runs.{Event, History, patched, written, lastWritten, stored, lastStored}
 use Rattle.history.specs.Bytes.Buffers.{patched-in, patched-low, patched-high}
 
 patched-not : (offset : ℕ) (bytes : List ℕ) (k old : ℕ) → (offset ≤ k → k < offset + length bytes → ⊥) → patched offset bytes k old ≡ old

@@ -12,7 +12,7 @@ use Rattle.kernel.specs.Definition.Line.{totalOf}
 use Rattle.kernel.specs.Definition.Good.{Good}
 use Rattle.kernel.specs.Laws.Facts.{chain-exactly, top-held}
 use Rattle.kernel.specs.declared.Tables.{Tables}
-use Rattle.history.specs.Room.Places.{held}
+use Rattle.history.specs.Definition.Places.{inSystem}
 
 -- the EXOS boundary is what a line of length n leaves of its chain
 pub line-sum : (r n : ℕ) → boundaryAt r n + n ≡ r + 16384 * (chainLength r n - 1)
@@ -35,8 +35,8 @@ module _ (t : Tables) (g : Good t) where
   user-small = omega (arith, g .user .most, edge-small (t .room) (totalOf t) room-small)
 
   -- "255 is always held."
-  pub top-in : held t (t .segments - 1) ≡ true
-  top-in = go (held t (t .segments - 1)) (top-held t g)
+  pub top-in : inSystem t (t .segments - 1) ≡ true
+  top-in = go (inSystem t (t .segments - 1)) (top-held t g)
     where
       go : (b : Bool) → 1 ≤ cond {A = ℕ} b 1 0 → b ≡ true
       go true h = λ i. true

@@ -11,7 +11,7 @@ use Rattle.kernel.specs.Definition.Calls.{«open»}
 use Rattle.kernel.specs.Definition.Refusals.{OpenAt, Enabled, tables-bad, ram-wrong, open-channel, open-exists, open-name, open-device, open-driver, open-full, open-room}
 use Rattle.kernel.specs.Laws.Ready.{Ready}
 use Rattle.kernel.specs.declared.Tables.{Tables}
-use Rattle.history.specs.Room.Earlier.{Passes}
+use Rattle.history.specs.Definition.Room.{Passes}
 
 -- the tables are good and RAM of their size is lent; the channel is a number and not open; the name reads, and an enabled device has it;
 -- the driver's status is 0; and there is a row left

@@ -13,14 +13,16 @@ use lib.Seq.{getD-take}
 use Rattle.rows.specs.Definition.Lists.{at, tally}
 use Rattle.rows.specs.Definition.Classes.{FREE, SHARED, inChain, timesHeld}
 use Rattle.rows.specs.Definition.Channels.{sumOf}
-use Rattle.rows.specs.Laws.Counts.{one, sumTo, sum-same, sum-plus, sum-tally, sum-zero, tally-sum}
+use Rattle.rows.specs.Definition.Lists.{sumTo}
+use Rattle.rows.specs.Laws.Counts.{one, sum-same, sum-plus, sum-tally, sum-zero, tally-sum}
 use Rattle.rows.specs.declared.Channel.{Channel}
 use Rattle.kernel.specs.Definition.Tables.{classAt, countOf, sharing, lastRow}
 use Rattle.kernel.specs.Definition.Good.{Good}
 use Rattle.kernel.specs.declared.Tables.{Tables}
 use Rattle.history.specs.Room.Sums.{total}
-use Rattle.history.specs.Room.Layout.{Place, Layout, layout-in, Between, placesOf, layout-exists}
-use Rattle.history.specs.Room.Places.{lengthsOf, size, held, offered, In, Outside}
+use Rattle.history.specs.Definition.Layout.{Place, Layout}
+use Rattle.history.specs.Room.Layout.{layout-in, Between, placesOf, layout-exists}
+use Rattle.history.specs.Definition.Places.{lengthsOf, countIn, inSystem, offered, In, Outside}
 
 -- "T is the sum of their lengths."
 pub total-records : (cs : List Channel) → total (lengthsOf cs) ≡ sumOf cs
@@ -56,12 +58,12 @@ top-sum zero f h = absurd (omega arith)
 top-sum (suc n) f h = let e : suc n - 1 ≡ n = omega arith in rw e
 
 -- a set with 255 is not empty
-pub size-some : (n : ℕ) (set : ℕ → Bool) → 1 ≤ n → set (n - 1) ≡ true → 1 ≤ size n set
+pub size-some : (n : ℕ) (set : ℕ → Bool) → 1 ≤ n → set (n - 1) ≡ true → 1 ≤ countIn n set
 size-some n set h e = let one : cond {A = ℕ} (set (n - 1)) 1 0 ≡ 1 = rw e in omega (arith, top-sum n (λ row. cond (set row) 1 0) h)
 
 -- a set with 255 has R places there, and a whole segment's in each other
 module _ (n r : ℕ) (set : ℕ → Bool) where
-  low-sum : (j : ℕ) → j ≤ n - 1 → sumTo j (hiAt n r set) ≡ 16384 * size j set
+  low-sum : (j : ℕ) → j ≤ n - 1 → sumTo j (hiAt n r set) ≡ 16384 * countIn j set
   low-sum zero h = refl
   low-sum (suc j) h = omega (arith, low-sum j (omega arith), cell (set j) refl)
     where
@@ -69,7 +71,7 @@ module _ (n r : ℕ) (set : ℕ → Bool) where
       cell true e = rw (hi-yes n r set j e, end-other n r j (λ q. omega arith), e)
       cell false e = rw (hi-no n r set j e, e)
 
-  set-places : 1 ≤ n → set (n - 1) ≡ true → sumTo n (hiAt n r set) ≡ r + 16384 * (size n set - 1)
+  set-places : 1 ≤ n → set (n - 1) ≡ true → sumTo n (hiAt n r set) ≡ r + 16384 * (countIn n set - 1)
   set-places h e =
       let one : cond {A = ℕ} (set (n - 1)) 1 0 ≡ 1 = rw e in
       omega (arith, top-sum n (hiAt n r set) h, top-sum n (λ row. cond (set row) 1 0) h, low-sum (n - 1) (omega arith), hi-yes n r set (n - 1) e, end-top n r (n - 1) refl)
@@ -110,7 +112,7 @@ module _ (t : Tables) (r : ℕ) (set : ℕ → Bool) (small : r ≤ 16384) where
       }
 
   pub in-exists : (lengths : List ℕ) → 1 ≤ t .segments → set (t .segments - 1) ≡ true
-      → Layout lengths (In t r set) ↔ (total lengths ≤ r + 16384 * (size (t .segments) set - 1))
+      → Layout lengths (In t r set) ↔ (total lengths ≤ r + 16384 * (countIn (t .segments) set - 1))
   in-exists lengths h e =
       let x = layout-exists lengths (t .segments) (λ row. 0) (hiAt (t .segments) r set) in
       let s = set-places (t .segments) r set h e in
@@ -179,7 +181,7 @@ module _ (t : Tables) (g : Good t) (r : ℕ) (set : ℕ → Bool) (small : r ≤
   ]
 
   pub outside-exists : (lengths : List ℕ) → set (t .segments - 1) ≡ true
-      → Layout lengths (Outside t r set) ↔ (total lengths + t .user ≤ r + 16384 * (size (t .segments) set - 1))
+      → Layout lengths (Outside t r set) ↔ (total lengths + t .user ≤ r + 16384 * (countIn (t .segments) set - 1))
   outside-exists lengths e =
       let x = layout-exists lengths (t .segments) (userAt t) (hiAt (t .segments) r set) in
       let s = set-places (t .segments) r set (omega (arith, g .list .least)) e in
@@ -188,7 +190,7 @@ module _ (t : Tables) (g : Good t) (r : ℕ) (set : ℕ → Bool) (small : r ≤
       (λ l. omega (arith, x .0 (layout-in outside-between l)), λ h. layout-in between-outside (x .1 (omega arith)))
 
 -- the system holds as many segments as the chain is long
-pub held-size : (t : Tables) → Good t → size (t .segments) (held t) ≡ t .held
+pub held-size : (t : Tables) → Good t → countIn (t .segments) (inSystem t) ≡ t .held
 held-size t g =
     let c = take (t .held) (t .chain) in
     let l : length c ≡ t .held = omega (arith, length-take (t .held) (t .chain), g .sized .chain, g .chain .most) in
@@ -197,16 +199,16 @@ held-size t g =
     sym (sum-same (t .segments) (λ row. tally row c) (λ row. timesHeld (classAt t row)) (g .chain .exact)) ∙ all ∙ l
 
 -- with a segment shared it may take no further one
-pub offered-shared : (t : Tables) → Good t → sharing t ≡ true → size (t .segments) (offered t) ≡ t .held
+pub offered-shared : (t : Tables) → Good t → sharing t ≡ true → countIn (t .segments) (offered t) ≡ t .held
 offered-shared t g s =
-    sum-same (t .segments) (λ row. cond (offered t row) 1 0) (λ row. cond (held t row) 1 0) (λ row h. rw s (go (held t row))) ∙ held-size t g
+    sum-same (t .segments) (λ row. cond (offered t row) 1 0) (λ row. cond (inSystem t row) 1 0) (λ row h. rw s (go (inSystem t row))) ∙ held-size t g
   where
     go : (b : Bool) → cond {A = ℕ} (b || false) 1 0 ≡ cond b 1 0
     go true = refl
     go false = refl
 
 -- with none shared it may take the free ones
-pub offered-apart : (t : Tables) → Good t → sharing t ≡ false → size (t .segments) (offered t) ≡ t .held + countOf FREE t
+pub offered-apart : (t : Tables) → Good t → sharing t ≡ false → countIn (t .segments) (offered t) ≡ t .held + countOf FREE t
 offered-apart t g s =
     let a = sum-same (t .segments) (λ row. cond (offered t row) 1 0) (λ row. timesHeld (classAt t row) + one FREE (classAt t row)) (λ row h. rw s (go (classAt t row))) in
     let b = sum-plus (t .segments) (λ row. timesHeld (classAt t row)) (λ row. one FREE (classAt t row)) in

@@ -1,7 +1,6 @@
 -- "passes every earlier check": what is left of an open and a link of which no row of the refusal table before ROOM holds.
 use mathlib.Core.Path.{_≡_, refl, ap, sym, _∙_}
 use mathlib.Core.Bool.{Bool, true, false, cond, not, _||_, false≢true}
-use mathlib.Core.Logic.{_↔_}
 use mathlib.Core.List.{List}
 use mathlib.Core.Option.{Option, none, some}
 use Prim.Native.Nat.{ℕ, _+_, _-_, _≤_, _<_}
@@ -19,7 +18,7 @@ use Rattle.names.specs.Laws.Runs.{link-finds}
 use Rattle.names.specs.Definition.Words.{wordOf}
 use Rattle.rows.specs.Laws.Lists.{where-found, where-absent}
 use Rattle.rows.specs.Definition.Channels.{zeroChannel}
-use Rattle.rows.specs.Definition.Devices.{beyondDevices, answers}
+use Rattle.rows.specs.Definition.Devices.{beyondDevices, hasName}
 use Rattle.rows.specs.Laws.Good.{same-yes}
 use Rattle.rows.specs.declared.Channel.{Channel}
 use Rattle.kernel.specs.Definition.Tables.{ramSize, channelAt}
@@ -27,20 +26,16 @@ use Rattle.kernel.specs.Definition.Line.{totalOf, roomFor}
 use Rattle.kernel.specs.Definition.Devices.{linking}
 use Rattle.kernel.specs.Definition.Names.{wanted, deviceFor}
 use Rattle.kernel.specs.declared.Wanted.{Wanted}
-use Rattle.kernel.specs.Definition.Answers.{numberOf, granted, gives}
+use Rattle.kernel.specs.Definition.Answers.{numberOf, gives}
 use Rattle.kernel.specs.Definition.Good.{Sized, Good, goodTest}
 use Rattle.kernel.specs.Definition.Calls.{Call, «open», link, onOpen, onOpenNamed, onOpenTo, onLink}
-use Rattle.kernel.specs.Definition.Refusals.{OpenAt, Enabled, NotStart, Row, tables-bad, ram-wrong, open-channel, open-exists, open-name, open-device, open-driver, open-full, link-name, link-full}
+use Rattle.kernel.specs.Definition.Refusals.{OpenAt, Enabled, NotStart, tables-bad, ram-wrong, open-channel, open-exists, open-name, open-device, open-driver, open-full, link-name, link-full}
 use Rattle.kernel.specs.Definition.Step.{heard, decided}
 use Rattle.kernel.specs.Laws.Good.{good-says}
 use Rattle.kernel.specs.Laws.Ready.{Ready, ready-heard}
 use Rattle.kernel.specs.declared.Tables.{Tables}
-use Rattle.kernel.specs.declared.Answer.{Answer}
 use Rattle.kernel.specs.declared.Answer.the-variants.{Done, NoRoom}
-
--- no row of the table before 9 ROOM holds
-abbrev pub Passes : Tables → (ram output : ℕ) → Call → Type 0
-Passes t ram output c = (k : ℕ) → k < 9 → ¬ Row t ram output c k
+use Rattle.history.specs.Definition.Room.{Passes, OnlyRoom}
 
 is-false : (b : Bool) → (b ≡ true → ⊥) → b ≡ false
 is-false true h = absurd (h refl)
@@ -49,11 +44,6 @@ is-false false h = refl
 is-true : (b : Bool) → (b ≡ false → ⊥) → b ≡ true
 is-true true h = refl
 is-true false h = absurd (h refl)
-
--- what is left of a call: refused for room exactly when it does not fit, and done when it does
-pub record OnlyRoom (answer : Answer) (Fits : Type 0) : Type 0 where
-  pub refused : (answer ≡ NoRoom) ↔ ¬ Fits
-  pub done : Fits → granted answer ≡ true
 
 left-by : (fits : Bool) (x y : ℕ) (t u : Tables) → OnlyRoom (cond (not fits) (gives NoRoom t) (gives (Done x y) u) .answer) (fits ≡ true)
 left-by true x y t u = record { refused = (λ e. absurd (omega (arith, ap numberOf e)), λ e. absurd (e refl)); done = λ _. refl }
@@ -74,9 +64,9 @@ none-enabled t g w h i e =
     let ds = take (t .known) (t .devices) in
     let l : length ds ≡ t .known = omega (arith, length-take (t .known) (t .devices), g .sized .devices, g .devices .most) in
     let d = getD (t .devices) i beyondDevices in
-    let no : answers (w .name) (w .length) d ≡ false =
-    rw (getD-take (t .known) (t .devices) i beyondDevices (e .known)) at (where-absent (answers (w .name) (w .length)) ds beyondDevices (omega arith) i (omega (arith, e .known))) in
-    let is : answers (w .name) (w .length) d ≡ true = rw (lt-ltb 0 (w .length) (e .named), e .enabled, same-yes (d .name) (d .length) (w .name) (w .length) (e .same)) in
+    let no : hasName (w .name) (w .length) d ≡ false =
+    rw (getD-take (t .known) (t .devices) i beyondDevices (e .known)) at (where-absent (hasName (w .name) (w .length)) ds beyondDevices (omega arith) i (omega (arith, e .known))) in
+    let is : hasName (w .name) (w .length) d ≡ true = rw (lt-ltb 0 (w .length) (e .named), e .enabled, same-yes (d .name) (d .length) (w .name) (w .length) (e .same)) in
     false≢true (sym no ∙ is)
 
 -- the channel found is open

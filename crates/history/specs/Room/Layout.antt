@@ -1,4 +1,4 @@
--- "A layout gives every byte of every open record a place of its own": there is one exactly when the records are no longer than there are places.
+-- There is a layout exactly when the records are no longer than there are places.
 use mathlib.Core.Path.{_≡_, refl, sym, ap, _∙_}
 use mathlib.Core.Logic.{_↔_}
 use mathlib.Core.List.{List}
@@ -7,24 +7,9 @@ use native.Mathlib.Decide.{decLt}
 use native.Mathlib.Omega.{arith}
 use lib.ListN.{length}
 use Rattle.rows.specs.Definition.Lists.{at}
-use Rattle.rows.specs.Laws.Counts.{sumTo}
+use Rattle.rows.specs.Definition.Lists.{sumTo}
+use Rattle.history.specs.Definition.Layout.{Place, ByteOf, Layout}
 use Rattle.history.specs.Room.Sums.{number-below, number-apart, pair-at, pigeonhole-rel, total, total-sum}
-
--- a place of RAM: a row of the list, and an offset in its segment
-pub record Place : Type 0 where
-  pub row : ℕ
-  pub offset : ℕ
-
--- byte k of record i, of records with these lengths
-pub record ByteOf (lengths : List ℕ) (i k : ℕ) : Type 0 where
-  pub record-known : i < length lengths
-  pub in-record : k < at lengths i
-
--- every byte of every record has a place of its own, one of the places P
-pub record Layout (lengths : List ℕ) (P : Place → Type 0) : Type 0 where
-  pub placed : ℕ → ℕ → Place
-  pub inside : (i k : ℕ) → ByteOf lengths i k → P (placed i k)
-  pub apart : (i j k l : ℕ) → ByteOf lengths i k → ByteOf lengths j l → placed i k ≡ placed j l → (i ≡ j) × (k ≡ l)
 
 -- a layout in some places is one in more places
 pub layout-in : {lengths : List ℕ} {P Q : Place → Type 0} → ((p : Place) → P p → Q p) → Layout lengths P → Layout lengths Q

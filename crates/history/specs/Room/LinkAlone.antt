@@ -12,8 +12,8 @@ use Rattle.kernel.specs.Definition.Calls.{start, link, allocate}
 use Rattle.kernel.specs.Definition.Step.{decided}
 use Rattle.kernel.specs.declared.Tables.{Tables}
 use Rattle.kernel.specs.declared.Answer.the-variants.{NoRoom}
-use Rattle.history.specs.Room.Layout.{Layout}
-use Rattle.history.specs.Room.Places.{records, offered, Outside}
+use Rattle.history.specs.Definition.Layout.{Layout}
+use Rattle.history.specs.Definition.Places.{recordLengths, offered, Outside}
 
 -- R = 11,074, list 254 and 255, and the user has allocated: 255 is shared with 11,074
 unfoldable pub shared : Tables
@@ -26,7 +26,7 @@ unfolding shared decided noTables lettersTest upTo chainLength boundaryAt grown 
 link-refused = refl
 
 -- and there is a layout with R - 1
-pub link-layout : Layout (records shared) (Outside shared (shared .room - 1) (offered shared))
+pub link-layout : Layout (recordLengths shared) (Outside shared (shared .room - 1) (offered shared))
 unfolding shared decided noTables lettersTest upTo chainLength boundaryAt grown shrunk
 link-layout = record {
   placed = λ i k. record { row = 0; offset = 0 };

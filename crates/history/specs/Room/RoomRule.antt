@@ -21,10 +21,11 @@ use Rattle.kernel.specs.Laws.Facts.{chain-exactly}
 use Rattle.kernel.specs.Laws.KeptLine.{shares-no}
 use Rattle.kernel.specs.declared.Tables.{Tables}
 use Rattle.history.specs.Room.Sums.{total}
-use Rattle.history.specs.Room.Layout.{Layout}
-use Rattle.history.specs.Room.Places.{size, offered, held, Outside}
+use Rattle.history.specs.Definition.Layout.{Layout}
+use Rattle.history.specs.Definition.Places.{countIn, offered, inSystem, Outside}
 use Rattle.history.specs.Room.Counts.{outside-exists, offered-shared, offered-apart}
 use Rattle.history.specs.Room.Bounds.{line-sum, user-small, top-in, top-alone}
+use Rattle.history.specs.Definition.Room.{Clear}
 
 -- with a segment shared: how far the line may reach, where it takes no fewer segments than the chain has
 rule-shared : (t : Tables) (r n : ℕ) → 1 ≤ t .held → sharing t ≡ true → t .held ≤ chainLength r n
@@ -47,12 +48,8 @@ rule-apart : (t : Tables) (r n : ℕ) → sharing t ≡ false → (roomFor t r n
 unfolding roomFor
 rule-apart t r n s = (λ e. leb-true _ _ (rw s at e), λ e. rw (s, le-leb _ _ e))
 
--- R = r leaves the user's part of 255 whole
-abbrev pub Clear : Tables → ℕ → Type 0
-Clear t r = classAt t (t .segments - 1) ≡ SHARED → t .user ≤ r
-
 module _ (t : Tables) (g : Good t) (r : ℕ) (small : r ≤ 16384) (lengths : List ℕ) (long : t .held ≤ chainLength r (total lengths)) where
-  fits : (c : Clear t r) → Layout lengths (Outside t r (offered t)) ↔ (total lengths + t .user ≤ r + 16384 * (size (t .segments) (offered t) - 1))
+  fits : (c : Clear t r) → Layout lengths (Outside t r (offered t)) ↔ (total lengths + t .user ≤ r + 16384 * (countIn (t .segments) (offered t) - 1))
   fits c = outside-exists t g r (offered t) small (user-small t g) (λ row b e. rw e) c lengths (rw (top-in t g))
 
   go : (s : Bool) → sharing t ≡ s → (roomFor t r (total lengths) ≡ true) ↔ (Layout lengths (Outside t r (offered t)) × Clear t r)
@@ -93,6 +90,6 @@ module _ (t : Tables) (g : Good t) (r : ℕ) (small : r ≤ 16384) (lengths : Li
 
       alone : (row : ℕ) → sharing t ≡ true → row < t .segments → offered t row ≡ true → classAt t (t .segments - 1) ≡ SHARED → row ≡ t .segments - 1
       alone row s b c q =
-          let (i, w, e) = chain-exactly t g .all row b (one (held t row) (rw s at c)) in
+          let (i, w, e) = chain-exactly t g .all row b (one (inSystem t row) (rw s at c)) in
           let z : i ≡ 0 = omega (arith, top-alone t g q) in
           sym e ∙ rw z (g .chain .starts)

@@ -1,9 +1,9 @@
 -- `put_answer` puts six bytes.
 use mathlib.Core.Path.{_≡_, ap, _∙_}
 use native.Mathlib.Omega.{arith}
-use Rattle.text.proofs.Laws.{put-then}
+use Rattle.text.specs.Laws.Text.{put-then}
 use Rattle.image.specs.Definition.Image.{u16Bytes}
-use Rattle.image.proofs.Laws.{put-same}
+use Rattle.image.specs.Laws.Bytes.{put-same}
 use borrow.Author.Needs.{needs}
 use Rattle.image.proofs.put_answer.Statement.{statement}
 use Rattle.image.proofs.put_answer.Tie as tie

@@ -16,7 +16,7 @@ use Rattle.events.specs.Definition.Records.{u8At, u16At}
 use Rattle.image.specs.Definition.Image.{SIZE, u8Bytes, u16Bytes, bitOf, flagOf, runAt, rowsBytes, rowsOf, channelBytes, channelFrom, deviceBytes, deviceFrom, segmentBytes, boundaryBytes, rowBytes, defaultBytes, imageOf, tablesOf}
 
 -- the arrays have their types' lengths
-pub record Whole (t : Tables) : Type 0 where
+pub record FullSize (t : Tables) : Type 0 where
   pub sized : Sized t
   pub name : length (t .name) ≡ 28
   pub names : (i : ℕ) → i < 16 → length (getD (t .devices) i beyondDevices .name) ≡ 28
@@ -149,7 +149,7 @@ module _ (t : Tables) where
       ∙ ap (λ (l : List ℕ). t .segments ∷ (t .list ++ (t .classes ++ (t .held ∷ (t .chain ++ (boundaryBytes t ++ l))))))
       (rows-then (t .opened) (t .known) cs ds (defaultBytes t) ∙ ap (λ (l : List ℕ). t .opened ∷ (cs ++ (t .known ∷ (ds ++ l)))) (append-assoc (t .name) (t .length ∷ []) (t .unit ∷ [])))
 
-  module _ (w : Whole t) where
+  module _ (w : FullSize t) where
     named : (i : ℕ) → i < length (t .devices) → Named (getD (t .devices) i beyondDevices)
     named i h = w .names i (omega (arith, w .sized .devices))
 

@@ -19,7 +19,7 @@ recordAt t i = sumOf (take i (t .channels))
 abbrev pub totalOf : Tables → ℕ
 totalOf t = recordAt t (t .opened)
 
--- "a 16-byte heading and then its buffer of n bytes": n, and the position where the buffer starts
+-- "a 16-byte heading and then its buffer of n bytes, 0 <= n <= 65,535": n, a u16 of the row, and the position where the buffer starts
 abbrev pub sizeAt : Tables → ℕ → ℕ
 sizeAt t i = getD (t .channels) i zeroChannel .n
 

@@ -55,10 +55,10 @@ pub record Room (t : Tables) (r n : ℕ) : Type 0 where
   pub above : Some t SHARED → t .user ≤ boundaryAt r n
 
 -- "the user gives back user .. or shared ..; a device gives back device"
-pub data Gives : (caller class : ℕ) → Type 0 where
-  user : Gives 0 USER
-  shared : Gives 0 SHARED
-  device : Gives 1 DEVICE
+pub data GivesBack : (caller class : ℕ) → Type 0 where
+  user : GivesBack 0 USER
+  shared : GivesBack 0 SHARED
+  device : GivesBack 1 DEVICE
 
 -- "Store and load reach the page zero segment and user segments .., a shared one"
 abbrev pub Reached : Tables → ℕ → Type 0
@@ -115,7 +115,7 @@ pub data Row (t : Tables) (ram output : ℕ) : (c : Call) (k : ℕ) → Type 0 w
   -- 10 SEGMENT: "nothing to allocate"
   allocate-none : {caller : ℕ} → ¬ Some t FREE → (caller ≢ 0) ⊎ (Some t SHARED ⊎ (boundaryOf t ≡ 0)) → Row t ram output (allocate caller) 10
   -- 11 OWNER: "segment not the caller's to free, store or load"
-  free-owner : {caller segment : ℕ} → ((row : ℕ) → InList t segment row → ¬ Gives caller (classAt t row)) → Row t ram output (free caller segment) 11
+  free-owner : {caller segment : ℕ} → ((row : ℕ) → InList t segment row → ¬ GivesBack caller (classAt t row)) → Row t ram output (free caller segment) 11
   store-owner : {segment offset : ℕ} {bytes : List ℕ} → ((row : ℕ) → InList t segment row → ¬ Reached t row) → Row t ram output (store segment offset bytes) 11
   load-owner : {segment offset size : ℕ} → ((row : ℕ) → InList t segment row → ¬ Reached t row) → Row t ram output (load segment offset size) 11
   -- 12 BOUNDARY: "nothing shared, or value above the EXOS boundary"

@@ -5,7 +5,7 @@ use Prim.Native.Nat.{ℕ, _+_, _-_, _*_}
 use lib.Dec.{eqb}
 use lib.ListN.{length, getD, take, drop, replicate}
 use Rattle.line.specs.Definition.Line.{lineFrom, putLine, afterOpen, afterClose, afterLink}
-use Rattle.line.specs.Definition.Ram.{putAt, taken}
+use Rattle.line.specs.Definition.Ram.{putAt, filled}
 use Rattle.rows.specs.Definition.Classes.{FREE, USER, SYSTEM, DEVICE, SHARED}
 use Rattle.rows.specs.Definition.Channels.{zeroChannel}
 use Rattle.kernel.specs.Definition.Tables.{SEGMENT, ramSize, countOf, rowOf, channelAt}
@@ -97,23 +97,23 @@ countsOf t = countOf FREE t ∷ countOf USER t ∷ countOf SYSTEM t ∷ countOf 
 
 -- "Read, load and status fill the first b bytes of the lent output; the rest stays."
 unfoldable pub outputAfter : Tables → List ℕ → Call → List ℕ → List ℕ
-outputAfter t ram (start room list) out = out
-outputAfter t ram (reset flags) out = out
-outputAfter t ram («open» channel driver n name) out = out
-outputAfter t ram (close channel) out = out
-outputAfter t ram (read channel offset size) out = taken size (lineFrom (t .chain) (t .room) ram (bufferAt t (channelAt t channel) + offset) size) out
-outputAfter t ram (write channel offset bytes) out = out
-outputAfter t ram (default unit name) out = out
-outputAfter t ram status out = taken 5 (countsOf t) out
-outputAfter t ram (link m name) out = out
-outputAfter t ram boundary out = out
-outputAfter t ram (set-user-boundary value) out = out
-outputAfter t ram (allocate caller) out = out
-outputAfter t ram (free caller segment) out = out
-outputAfter t ram (store segment offset bytes) out = out
-outputAfter t ram (load segment offset size) out = taken size (take size (drop (segmentAt (rowOf t segment) + offset) ram)) out
-outputAfter t ram no-call out = out
-outputAfter t ram short-start out = out
+outputAfter t ram (start room list) output = output
+outputAfter t ram (reset flags) output = output
+outputAfter t ram («open» channel driver n name) output = output
+outputAfter t ram (close channel) output = output
+outputAfter t ram (read channel offset size) output = filled size (lineFrom (t .chain) (t .room) ram (bufferAt t (channelAt t channel) + offset) size) output
+outputAfter t ram (write channel offset bytes) output = output
+outputAfter t ram (default unit name) output = output
+outputAfter t ram status output = filled 5 (countsOf t) output
+outputAfter t ram (link m name) output = output
+outputAfter t ram boundary output = output
+outputAfter t ram (set-user-boundary value) output = output
+outputAfter t ram (allocate caller) output = output
+outputAfter t ram (free caller segment) output = output
+outputAfter t ram (store segment offset bytes) output = output
+outputAfter t ram (load segment offset size) output = filled size (take size (drop (segmentAt (rowOf t segment) + offset) ram)) output
+outputAfter t ram no-call output = output
+outputAfter t ram short-start output = output
 
 -- what a call leaves
 pub record Result : Type 0 where

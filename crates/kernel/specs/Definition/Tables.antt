@@ -11,6 +11,8 @@ use Rattle.rows.specs.declared.Channel.{Channel}
 use Rattle.rows.specs.declared.Device.{Device}
 use Rattle.kernel.specs.declared.Tables.{Tables}
 
+-- "Tables are a value: each call takes the tables and hands the next tables back. They hold the list, classes, system chain, user boundary, R, cold R,
+-- channels in line order (number, device, unit, n), devices and default name with its unit."
 -- The fields: `list` has the numbers of `segments` segments, and `classes` a class for each row of it; `chain` has rows of the list, `held` of them;
 -- `user` is the user boundary, `room` is R, "the room in the system segment for channels, offsets 0 to R-1", and `cold` the cold R; "255 is the system segment", the
 -- list's last row; `channels` has `opened` rows in line order, `devices` `known` rows;
@@ -53,7 +55,7 @@ lastRow t = at (t .chain) (t .held - 1)
 
 -- the row of an open channel, or the number of open channels where it is not open
 abbrev pub channelAt : Tables → ℕ → ℕ
-channelAt t ch = rowIn (take (t .opened) (t .channels)) ch
+channelAt t channel = rowIn (take (t .opened) (t .channels)) channel
 
 abbrev pub withSegments : Tables → (classes : List ℕ) (held : ℕ) (chain : List ℕ) (user : ℕ) → Tables
 withSegments t classes held chain user =

@@ -19,7 +19,7 @@ use Rattle.kernel.specs.Laws.KeptLine.{shares-yes, shares-no, opening-ke
 use Rattle.kernel.specs.Laws.KeptSegments.{class-outside, granting-keeps, sharing-keeps, freeing-shared, freeing-outside, bounding-keeps}
 use Rattle.kernel.specs.Laws.KeptNames.{linking-keeps, naming-keeps}
 use Rattle.kernel.specs.Laws.KeptReset.{resetting-keeps, start-good}
-use Rattle.kernel.specs.Laws.Fields.{Fields}
+use Rattle.kernel.specs.Definition.Fields.{Fields}
 use Rattle.kernel.specs.Laws.Effects.{Effect, bars, refuses, leaves, starts, resets, opens, closes, names, links, bounds, grants, shares, frees, parts, decided-effect}
 use Rattle.kernel.specs.declared.Tables.{Tables}
 use Rattle.kernel.specs.declared.Answer.the-variants.{Done, BadStart}

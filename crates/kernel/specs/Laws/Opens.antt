@@ -11,7 +11,7 @@ use Rattle.rows.specs.Definition.Channels.{zeroChannel}
 use Rattle.rows.specs.Laws.ChannelRows.{sum-set}
 use Rattle.rows.specs.Definition.Sizes.{chainLength}
 use Rattle.rows.specs.declared.Channel.{Channel}
-use Rattle.line.specs.Definition.Line.{Chain}
+use Rattle.line.specs.Laws.Chains.{Chain}
 use Rattle.kernel.specs.Definition.Tables.{ramSize, channelAt, withChannels}
 use Rattle.kernel.specs.Definition.Good.{Good}
 use Rattle.kernel.specs.Definition.Line.{totalOf, oneMore, grown, roomFor, opening}

@@ -29,7 +29,7 @@ use Rattle.kernel.specs.Laws.Good.{good-says}
 use Rattle.kernel.specs.Laws.Grow.{grown-rest}
 use Rattle.kernel.specs.Laws.Shrink.{shrunk-rest}
 use Rattle.kernel.specs.Laws.KeptReset.{start-good}
-use Rattle.kernel.specs.Laws.Fields.{Fields}
+use Rattle.kernel.specs.Definition.Fields.{Fields}
 use Rattle.kernel.specs.Laws.Effects.{Effect, bars, refuses, leaves, starts, resets, opens, closes, names, links, bounds, grants, shares, frees, parts, decided-effect}
 use Rattle.kernel.specs.Laws.Keeps.{decided-keeps, start-passed, start-is}
 use Rattle.kernel.specs.declared.Tables.{Tables}

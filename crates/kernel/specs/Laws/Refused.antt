@@ -5,7 +5,7 @@ use Prim.Native.Nat.{ℕ}
 use Rattle.kernel.specs.Definition.Answers.{granted}
 use Rattle.kernel.specs.Definition.Calls.{Call}
 use Rattle.kernel.specs.Definition.Step.{decided}
-use Rattle.kernel.specs.Laws.Fields.{Fields}
+use Rattle.kernel.specs.Definition.Fields.{Fields}
 use Rattle.kernel.specs.Laws.Effects.{Effect, bars, refuses, leaves, starts, resets, opens, closes, names, links, bounds, grants, shares, frees, parts, decided-effect}
 use Rattle.kernel.specs.declared.Tables.{Tables}
 use Rattle.kernel.specs.declared.Outcome.{Outcome}

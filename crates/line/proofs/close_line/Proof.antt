@@ -1,10 +1,10 @@
--- `line::close_line` meets its contract: the two calls make `closed`.
+-- `line::close_line` meets its contract: the two calls make `afterClose`.
 use denote.Ref.{now}
 use native.Mathlib.Omega.{arith}
 use borrow.Author.Needs.{needs}
 use lib.ListN.{length}
-use Rattle.line.proofs.Places.{chain-less}
-use Rattle.line.proofs.Makes.{closed-of}
+use Rattle.line.specs.Laws.Places.{chain-less}
+use Rattle.line.specs.Laws.Makes.{closed-of}
 use Rattle.line.proofs.close_line.Statement.{statement}
 use Rattle.line.proofs.close_line.Tie as tie
 

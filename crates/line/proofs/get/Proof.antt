@@ -9,7 +9,7 @@ use Rattle.line.specs.Definition.Ram.{putFrom}
 use Rattle.line.specs.Definition.Line.{lineFrom, placeOf}
 use Rattle.line.specs.Laws.Runs.{rise}
 use Rattle.line.proofs.Loops.{copy-none}
-use Rattle.line.proofs.Places.{place-inside}
+use Rattle.line.specs.Laws.Places.{place-inside}
 use Rattle.line.proofs.Turns.{get-turn, got}
 use Rattle.line.proofs.get.Statement.{statement}
 use Rattle.line.proofs.get.Tie as tie

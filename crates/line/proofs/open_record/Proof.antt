@@ -1,12 +1,12 @@
--- `line::open_record` meets its contract: the two calls make `opened`.
+-- `line::open_record` meets its contract: the two calls make `afterOpen`.
 use denote.Ref.{now}
 use mathlib.Core.Path.{refl, ap}
 use Prim.Native.Nat.{_+_}
 use native.Mathlib.Omega.{arith}
 use borrow.Author.Needs.{needs}
 use lib.ListN.{length}
-use Rattle.line.proofs.Places.{chain-less}
-use Rattle.line.proofs.Makes.{opened-of, length-heading}
+use Rattle.line.specs.Laws.Places.{chain-less}
+use Rattle.line.specs.Laws.Makes.{opened-of, length-heading}
 use Rattle.line.proofs.open_record.Statement.{statement}
 use Rattle.line.proofs.open_record.Tie as tie
 

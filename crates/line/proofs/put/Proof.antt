@@ -10,7 +10,7 @@ use Rattle.line.specs.Definition.Line.{putLine, placeOf}
 use Rattle.line.specs.Laws.Runs.{rise}
 use Rattle.line.proofs.Loops.{copy-none}
 use Rattle.line.proofs.Sides.{bytes-all}
-use Rattle.line.proofs.Places.{place-inside}
+use Rattle.line.specs.Laws.Places.{place-inside}
 use Rattle.line.proofs.Turns.{put-turn}
 use Rattle.line.proofs.put.Statement.{statement}
 use Rattle.line.proofs.put.Tie as tie

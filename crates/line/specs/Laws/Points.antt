@@ -1,4 +1,4 @@
--- `closed`, `opened` and `linked` said byte by byte: which byte comes to which place, and that every other byte is kept.
+-- `afterClose`, `afterOpen` and `afterLink` said byte by byte: which byte comes to which place, and that every other byte is kept.
 use mathlib.Core.Path.{_≡_}
 use mathlib.Core.List.{List}
 use Prim.Native.Nat.{ℕ, _+_, _-_, _*_, _<_, _≤_}

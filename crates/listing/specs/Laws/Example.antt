@@ -10,14 +10,14 @@ use lib.ListN.{length, getD, drop, set, replicate, length-replicate, length-set,
 use lib.Seq.{getD-set-same, getD-set-other}
 use Rattle.rows.specs.Definition.Lists.{upTo}
 use Rattle.rows.specs.Definition.Sizes.{chainLength, boundaryAt}
-use Rattle.line.specs.Definition.Ram.{bytesFrom, putFrom, taken}
+use Rattle.line.specs.Definition.Ram.{bytesFrom, putFrom, filled}
 use Rattle.line.specs.Definition.Line.{chainIndexOf, offsetOf, placeOf, afterOpen, afterClose}
-use Rattle.line.proofs.Walks.{length-put}
+use Rattle.line.specs.Laws.Walks.{length-put}
 use Rattle.kernel.specs.Definition.Line.{grown, shrunk}
 use Rattle.kernel.specs.Definition.Calls.{Call}
 use Rattle.kernel.specs.Definition.Step.{Result, decided, completed}
 use Rattle.kernel.specs.declared.Tables.{Tables}
-use Rattle.events.specs.Definition.Records.{u16At, startIn, openIn, closeIn, readIn, writeIn, boundaryIn, decode}
+use Rattle.events.specs.Definition.Records.{u16At, startIn, openIn, closeIn, readIn, writeIn, boundaryIn, callIn}
 use Rattle.text.specs.Definition.Text.{decimalIn, decimalOf, fieldsOf}
 use Rattle.kernel.specs.Definition.Reset.{noTables}
 use Rattle.listing.specs.Definition.Log.{showsOf, lineOf, lineAfter, lentTo, logStep, found, next, textFrom, listing}
@@ -73,8 +73,8 @@ bodyAt : ℕ → List ℕ
 bodyAt k = drop 4 (getD input k [])
 
 callAt : ℕ → Call
-unfolding kindAt bodyAt decode startIn openIn closeIn readIn writeIn boundaryIn
-callAt k = decode (kindAt k) (bodyAt k)
+unfolding kindAt bodyAt callIn startIn openIn closeIn readIn writeIn boundaryIn
+callAt k = callIn (kindAt k) (bodyAt k)
 
 -- the tables before record k
 before : ℕ → Tables
@@ -134,16 +134,16 @@ said-5 : Says Any 5
 unfolding left next lentTo lineOf showsOf fieldsOf decimalOf decimalIn
 said-5 = says Any Any 5 refl refl refl (λ ram out h g p. record { line-is = refl; ram-length = h; output-length = g; such = tt }) said-6
 
-shown : (x y : ℕ) (out : List ℕ) → x ≡ 0xAA → y ≡ 0x55 → lineOf 6 0 0 2 (taken 2 (x ∷ y ∷ []) out) ≡ lineWith "6 0 0 2 aa55"
-unfolding lineOf showsOf fieldsOf decimalOf decimalIn taken
+shown : (x y : ℕ) (out : List ℕ) → x ≡ 0xAA → y ≡ 0x55 → lineOf 6 0 0 2 (filled 2 (x ∷ y ∷ []) out) ≡ lineWith "6 0 0 2 aa55"
+unfolding lineOf showsOf fieldsOf decimalOf decimalIn filled
 shown x y out e f = rw (e, f)
 
-filled : (x y : ℕ) (out : List ℕ) → length out ≡ 4096 → length (taken 2 (x ∷ y ∷ []) out) ≡ 4096
-unfolding taken
+filled : (x y : ℕ) (out : List ℕ) → length out ≡ 4096 → length (filled 2 (x ∷ y ∷ []) out) ≡ 4096
+unfolding filled
 filled x y out g = rw length-drop (omega arith)
 
 said-4 : Says Written 4
-unfolding left next lentTo taken bytesFrom placeOf chainIndexOf offsetOf
+unfolding left next lentTo filled bytesFrom placeOf chainIndexOf offsetOf
 said-4 =
     says Written Any 4 refl refl refl
     (λ ram out h g p. record { line-is = shown (getD ram 60111 0) (getD ram 60110 0) out (p .0) (p .1); ram-length = h; output-length = filled (getD ram 60111 0) (getD ram 60110 0) out g; such = tt }) said-5

@@ -17,8 +17,8 @@ use Rattle.kernel.specs.Definition.Step.{decided, completed, step}
 use Rattle.kernel.specs.Definition.Tables.{ramSize}
 use Rattle.kernel.specs.Laws.Ready.{decided-ready, start-ready}
 use Rattle.kernel.specs.declared.Tables.{Tables}
-use Rattle.events.specs.Definition.Records.{u16At, startIn, decode}
-use Rattle.events.specs.Laws.Bodies.{Bytes, decode-fields}
+use Rattle.events.specs.Definition.Records.{u16At, startIn, callIn}
+use Rattle.events.specs.Laws.Bodies.{Bytes, call-fields}
 use Rattle.listing.specs.Definition.Log.{lentTo, logStep}
 use Rattle.listing.specs.Laws.Starts.{before-start, refused-leaves, short-answers}
 
@@ -53,7 +53,7 @@ lent-size ram segments kind size h = rw length-take (omega arith)
 module _ (t : Tables) (ram out : List ℕ) (body : List ℕ) (s : length ram ≡ 65536) where
   -- a start that is done
   start-held : granted (logStep t ram out 256 body .answer) ≡ true → Held (logStep t ram out 256 body .tables)
-  unfolding logStep step completed decode startIn
+  unfolding logStep step completed callIn startIn
   start-held d = elim (split (ltb (length body) 2)) [
     | inl e ↦ absurd (false≢true (sym (ap granted (short-answers t ram out body (ltb-true (length body) 2 e))) ∙ d))
     | inr e ↦
@@ -70,7 +70,7 @@ module _ (t : Tables) (ram out : List ℕ) (body : List ℕ) (s : length ram ≡
       let e = lent-theirs t kind (length body) n l in
       let q = lent-size ram (t .segments) kind (length body) s in
       let lent = length (take (lentTo (t .segments) kind (length body)) ram) in
-      let r = decided-ready t lent (length out) (decode kind body) (record { good = g; size = q ∙ e }) (decode-fields kind body b) in
+      let r = decided-ready t lent (length out) (callIn kind body) (record { good = g; size = q ∙ e }) (call-fields kind body b) in
       started (r .good) (omega (arith, r .size))
 
 -- a record keeps what is carried: no test of the tables is run for each

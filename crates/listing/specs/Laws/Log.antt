@@ -10,7 +10,7 @@ use lib.Dec.{eqb, ltb}
 use borrow.Author.Tests.{eq-eqb, eqb-false}
 use Rattle.kernel.specs.Definition.Step.{decided, completed, step}
 use Rattle.kernel.specs.declared.Tables.{Tables}
-use Rattle.events.specs.Definition.Records.{u16At, decode}
+use Rattle.events.specs.Definition.Records.{u16At, callIn}
 use Rattle.listing.specs.Definition.Log.{logStep, lineAfter, lentTo, Next, finished, broken, found, next, turn, textIn, textFrom, badText}
 
 only : (b₁ b₂ b₃ b₄ b₅ : Bool) (k k′ : ℕ) (b b′ r r′ : List ℕ)
@@ -81,7 +81,7 @@ text-finished t ram out = refl
 
 -- a call that is lent all four segments: what it leaves, by their length alone
 pub log-full : (t : Tables) (ram out : List ℕ) (kind : ℕ) (body : List ℕ) → lentTo (t .segments) kind (length body) ≡ 65536 → length ram ≡ 65536
-    → logStep t ram out kind body ≡ completed t (decided t 65536 (length out) (decode kind body)) ram (decode kind body) out
+    → logStep t ram out kind body ≡ completed t (decided t 65536 (length out) (callIn kind body)) ram (callIn kind body) out
 unfolding logStep step
 log-full t ram out kind body e h =
     rw (e, take-all 65536 ram (omega arith), h, nothing 65536 ram (omega arith), append-nil)

@@ -6,7 +6,7 @@ use Prim.Native.Nat.{ℕ, _+_, _≤_, _<_}
 use lib.ListN.{length, take, drop}
 use lib.Dec.{eqb}
 use Rattle.kernel.specs.declared.Tables.{Tables}
-use Rattle.text.specs.Definition.Text.{Put}
+use Rattle.text.specs.Definition.Put.{Put}
 use Rattle.listing.specs.declared.Front.{Front}
 use Rattle.listing.specs.declared.Front.the-variants.{Record, Cut, Bad}
 use Rattle.listing.specs.declared.Listed.{Listed}

@@ -12,8 +12,8 @@ use Rattle.kernel.specs.Definition.Step.{decided, completed, step}
 use Rattle.kernel.specs.Laws.Refused.{refused-stays}
 use Rattle.kernel.specs.declared.Tables.{Tables}
 use Rattle.kernel.specs.declared.Answer.the-variants.{BadTables, BadCall, BadStart}
-use Rattle.events.specs.Definition.Records.{u16At, startIn, decode}
-use Rattle.events.specs.Laws.Bodies.{Bytes, decode-fields, no-start}
+use Rattle.events.specs.Definition.Records.{u16At, startIn, callIn}
+use Rattle.events.specs.Laws.Bodies.{Bytes, call-fields, no-start}
 use Rattle.kernel.specs.Definition.Reset.{noTables}
 use Rattle.listing.specs.Definition.Log.{lentTo, logStep}
 
@@ -24,17 +24,17 @@ barred ram output c e = rw e
 -- "Before an accepted start every other kind answers 1."
 pub before-start : (ram out : List ℕ) (kind : ℕ) (body : List ℕ) → (kind ≡ 256 → ⊥) → logStep noTables ram out kind body .answer ≡ BadTables
 unfolding logStep step completed
-before-start ram out kind body h = rw (barred _ (length out) (decode kind body) (no-start kind body h))
+before-start ram out kind body h = rw (barred _ (length out) (callIn kind body) (no-start kind body h))
 
 -- a record that is not done leaves the tables: there is no accepted start until one is done
 pub refused-leaves : (t : Tables) (ram out : List ℕ) (kind : ℕ) (body : List ℕ) → Bytes body → granted (logStep t ram out kind body .answer) ≡ false
     → logStep t ram out kind body .tables ≡ t
 unfolding logStep step completed
-refused-leaves t ram out kind body b f = refused-stays t _ (length out) (decode kind body) (decode-fields kind body b) f
+refused-leaves t ram out kind body b f = refused-stays t _ (length out) (callIn kind body) (call-fields kind body b) f
 
 -- kind 256 with a body short of R answers 2
 pub short-answers : (t : Tables) (ram out body : List ℕ) → length body < 2 → logStep t ram out 256 body .answer ≡ BadCall
-unfolding logStep step completed decided decode startIn
+unfolding logStep step completed decided callIn startIn
 short-answers t ram out body h = rw (lt-ltb (length body) 2 h)
 
 no-and : (b : Bool) → b && false ≡ false
@@ -50,7 +50,7 @@ too-few ram n h e = omega (arith, rw length-take at e)
 
 -- "A start of more than four segments answers 16."
 pub long-answers : (t : Tables) (ram out body : List ℕ) → 6 < length body → logStep t ram out 256 body .answer ≡ BadStart
-unfolding logStep step completed decode startIn lentTo
+unfolding logStep step completed callIn startIn lentTo
 long-answers t ram out body h =
     let n = length body - 2 in
     let e : length (drop 2 body) ≡ n = length-drop 2 body in

@@ -1,6 +1,6 @@
 -- A string's reading, computed: the file starts after the first colon, the device is the letters at the front, and the unit stands between.
 use Prim.Native.Nat.{ℕ, _+_}
-use mathlib.Core.Bool.{cond, _&&_}
+use mathlib.Core.Bool.{Bool, cond, _&&_}
 use mathlib.Core.List.{List}
 use mathlib.Core.Option.{Option, none, some}
 use lib.ListN.{length, getD, take, drop}
@@ -9,18 +9,14 @@ use Rattle.names.specs.Definition.Grammar.{UnitPart, no-unit, plain, das
 use Rattle.names.specs.Definition.Tests.{runOf, allOf, fileTest}
 use Rattle.names.specs.declared.Kind.the-variants.{Letter, Digit, BeforeColon}
 
--- all above 256 as 256, which is no unit's number
-unfoldable pub capped : ℕ → ℕ
-capped n = cond (leb n 256) n 256
-
--- the number of one or more digits, capped; 256 where the bytes are no digits
-unfoldable pub cappedNumber : List ℕ → ℕ
-unfolding capped allOf
-cappedNumber ds = cond (leb 1 (length ds) && allOf Digit ds) (capped (value 0 ds)) 256
+-- "one or more decimal digits, value 0 to 255, leading zeros allowed"
+unfoldable pub digitsTest : List ℕ → Bool
+unfolding allOf
+digitsTest ds = leb 1 (length ds) && allOf Digit ds && leb (value 0 ds) 255
 
 unfoldable pub withDigits : List ℕ → UnitPart → List ℕ → List ℕ → Option Reading
-unfolding cappedNumber
-withDigits d u ds f = cond (leb (cappedNumber ds) 255) (some (full d u f)) none
+unfolding digitsTest
+withDigits d u ds f = cond (digitsTest ds) (some (full d u f)) none
 
 -- `rest` is what stands between the device and the colon
 unfoldable pub withUnit : List ℕ → List ℕ → List ℕ → Option Reading

@@ -1,7 +1,7 @@
 -- Laws of a unit's number, capped, and that it is found exactly where the rule on digits holds.
 use Prim.Native.Nat.{ℕ, zero, suc, _+_, _*_, _-_, _≤_, _<_}
 use mathlib.Core.Path.{_≡_, refl, sym, _∙_}
-use mathlib.Core.Bool.{Bool, true, false, _&&_, and-eq-true-iff}
+use mathlib.Core.Bool.{Bool, true, false, cond, _&&_, and-eq-true-iff}
 use mathlib.Core.List.{List, [], _∷_}
 use lib.ListN.{length, getD, drop, drop-of-length-le}
 use lib.Seq.{drop-cons}
@@ -12,9 +12,18 @@ use native.Mathlib.Numerals.{add-one}
 use native.Mathlib.Decide.{decLe}
 use Rattle.names.specs.Definition.Grammar.{All, value, DigitsRule}
 use Rattle.names.specs.Definition.Tests.{allOf}
-use Rattle.names.specs.Definition.Read.{capped, cappedNumber}
+use Rattle.names.specs.Definition.Read.{digitsTest}
 use Rattle.names.specs.Laws.Runs.{all-right, all-finds}
 use Rattle.names.specs.declared.Kind.the-variants.{Digit}
+
+-- all above 256 as 256, which is no unit's number
+unfoldable pub capped : ℕ → ℕ
+capped n = cond (leb n 256) n 256
+
+-- the number of one or more digits, capped; 256 where the bytes are no digits
+unfoldable pub cappedNumber : List ℕ → ℕ
+unfolding capped allOf
+cappedNumber ds = cond (leb 1 (length ds) && allOf Digit ds) (capped (value 0 ds)) 256
 
 pub capped-low : (n : ℕ) → n ≤ 256 → capped n ≡ n
 unfolding capped
@@ -89,3 +98,24 @@ number-right ds h = go (leb 1 (length ds) && allOf Digit ds) refl
         low : Dec (value 0 ds ≤ 255) → capped (value 0 ds) ≤ 255 → value 0 ds ≤ 255
         low (yes a) l = a
         low (no a) l = absurd (omega (arith, capped-full (value 0 ds) (omega arith)))
+
+-- ---- the test and the rule
+
+pub digits-finds : (ds : List ℕ) → DigitsRule ds → digitsTest ds ≡ true
+unfolding digitsTest
+digits-finds ds h = rw (le-leb 1 (length ds) (h .0), all-finds Digit ds (h .1), le-leb (value 0 ds) 255 (h .2))
+
+pub digits-hold : (ds : List ℕ) → digitsTest ds ≡ true → DigitsRule ds
+unfolding digitsTest
+digits-hold ds e =
+    let (both, r) = and-eq-true-iff (leb 1 (length ds) && allOf Digit ds) (leb (value 0 ds) 255) .0 e in
+    let (p, q) = and-eq-true-iff (leb 1 (length ds)) (allOf Digit ds) .0 both in
+    (leb-true 1 (length ds) p, all-right Digit ds q, leb-true (value 0 ds) 255 r)
+
+-- a capped number above 255 is no unit's
+pub number-high : (ds : List ℕ) → 255 < cappedNumber ds → digitsTest ds ≡ false
+number-high ds h = go (digitsTest ds) refl
+  where
+    go : (t : Bool) → digitsTest ds ≡ t → t ≡ false
+    go false e = refl
+    go true e = let rule = digits-hold ds e in absurd (omega (arith, number-finds ds rule, rule .2))

@@ -14,9 +14,9 @@ use native.Mathlib.Numerals.{add-one}
 use Rattle.names.specs.Definition.Grammar.{All, FileByte, UnitPart, no-unit, plain, dashed, Reading, file-only, full, unit-text, spell, value}
 use Rattle.names.specs.Definition.Grammar.{DeviceRule, DigitsRule, UnitRule, FileRule, Rule, Reads}
 use Rattle.names.specs.Definition.Tests.{runOf, fileTest}
-use Rattle.names.specs.Definition.Read.{cappedNumber, withDigits, withUnit, withHead, withColon, withoutColon, reading}
+use Rattle.names.specs.Definition.Read.{digitsTest, withDigits, withUnit, withHead, withColon, withoutColon, reading}
 use Rattle.names.specs.Laws.Runs.{kindRule, run-le, run-front, run-next, run-all, run-stop, file-right, file-finds}
-use Rattle.names.specs.Laws.Numbers.{number-right, number-finds}
+use Rattle.names.specs.Laws.Numbers.{digits-finds, digits-hold}
 use Rattle.names.specs.declared.Kind.the-variants.{Letter, Digit, BeforeColon}
 
 -- ---- every reading is found
@@ -50,7 +50,7 @@ letters-end d (dashed ds) a h = run-stop Letter d 45 ds a (not-letter 45 (omega 
 
 digits-found : (d : List ℕ) (u : UnitPart) (ds f : List ℕ) → DigitsRule ds → withDigits d u ds f ≡ some (full d u f)
 unfolding withDigits
-digits-found d u ds f h = rw (number-finds ds h, le-leb (value 0 ds) 255 (h .2))
+digits-found d u ds f h = rw (digits-finds ds h)
 
 unit-found : (d : List ℕ) (u : UnitPart) (f : List ℕ) → UnitRule u → withUnit d (unit-text u) f ≡ some (full d u f)
 unfolding withUnit
@@ -113,8 +113,8 @@ cond-either false x y z e = inr (refl, e)
 digits-right : (d : List ℕ) (u : UnitPart) (ds f : List ℕ) (r : Reading) → withDigits d u ds f ≡ some r → DigitsRule ds × (full d u f ≡ r)
 unfolding withDigits
 digits-right d u ds f r e =
-    let (low, found) = cond-some (leb (cappedNumber ds) 255) (some (full d u f)) r e in
-    (number-right ds (leb-true (cappedNumber ds) 255 low), cc)
+    let (passed, found) = cond-some (digitsTest ds) (some (full d u f)) r e in
+    (digits-hold ds passed, cc)
 
 module _ (d f : List ℕ) (device : DeviceRule d) (file : FileRule f) where
   unit-right : (rest : List ℕ) (r : Reading) → withUnit d rest f ≡ some r → Fits (d ++ (rest ++ (58 ∷ f))) r

@@ -13,8 +13,8 @@ use Rattle.rows.specs.Laws.Lists.{and-left, and-right}
 use Rattle.kernel.specs.Definition.Reset.{noTables}
 use Rattle.kernel.specs.Definition.Step.{decided, completed, step}
 use Rattle.events.specs.Laws.Bodies.{Bytes}
-use Rattle.events.specs.Definition.Records.{startIn, decode}
-use Rattle.history.specs.Bytes.Runs.{Run}
+use Rattle.events.specs.Definition.Records.{startIn, callIn}
+use Rattle.history.specs.Definition.Runs.{Run}
 use Rattle.replay.specs.Definition.Replay.{EventRecord, whole, sizeOf, recordsIn, records, bytesOf, replayed, before}
 use Rattle.replay.specs.Laws.Runs.{stateOf, since, Starts, replay-run}
 
@@ -50,7 +50,7 @@ tested (x ∷ xs) e (suc i) = tested xs (and-right (ltb x 256) (bytesTest xs) e)
 
 module _ (ram out : List ℕ) (four : length ram ≡ 65536) where
   starts-here : Starts (before noTables ram out) (records buffer)
-  unfolding step completed decided noTables upTo decode startIn
+  unfolding step completed decided noTables upTo callIn startIn
   starts-here = rw two-records (inl (rw four))
 
   pub run-here : Run (since [] (before noTables ram out) (records buffer)) (stateOf (replayed (before noTables ram out) (records buffer)))

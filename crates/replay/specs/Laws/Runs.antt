@@ -11,9 +11,9 @@ use lib.Seq.{getD-drop}
 use Rattle.kernel.specs.Definition.Answers.{granted}
 use Rattle.kernel.specs.Definition.Calls.{Call, start, reset, «open», close, read, write, default, status, link, boundary, set-user-boundary, allocate, free, store, load, no-call, short-start, isStart}
 use Rattle.kernel.specs.Definition.Step.{Result, heard, decided, completed, step}
-use Rattle.events.specs.Definition.Records.{decode}
-use Rattle.events.specs.Laws.Bodies.{Bytes, decode-fields}
-use Rattle.history.specs.Bytes.Runs.{State, Event, History, after, event, stay, then, Run, lastWritten}
+use Rattle.events.specs.Definition.Records.{callIn}
+use Rattle.events.specs.Laws.Bodies.{Bytes, call-fields}
+use Rattle.history.specs.Definition.Runs.{State, Event, History, after, event, stay, then, Run, lastWritten}
 use Rattle.history.specs.Bytes.BytesRead.{bytes-read}
 use Rattle.replay.specs.Definition.Replay.{EventRecord, sizeOf, front, recordsIn, records, asked, replayed}
 
@@ -21,7 +21,7 @@ abbrev pub stateOf : Result → State
 stateOf m = record { tables = m .tables; ram = m .ram }
 
 abbrev pub callOf : EventRecord → Call
-callOf r = decode (r .kind) (r .body)
+callOf r = callIn (r .kind) (r .body)
 
 -- a record's call on what the last one left, and its reply
 abbrev pub eventOf : Result → EventRecord → Event
@@ -107,7 +107,7 @@ module _ (m : Result) (r : EventRecord) where
       go false e = record {
         first = run .first;
         started = run .started;
-        runs = then (run .runs) (callOf r) (m .output) (decode-fields (r .kind) (r .body) b) e tt;
+        runs = then (run .runs) (callOf r) (m .output) (call-fields (r .kind) (r .body) b) e tt;
       }
 
 -- from any state of a run, the records lead to a state of a run

@@ -1,5 +1,5 @@
 -- The rows of channels: the sum of their records, and the place of a channel.
-use mathlib.Core.Bool.{true, false}
+use mathlib.Core.Bool.{cond}
 use mathlib.Core.List.{List, [], _∷_}
 use Prim.Native.Nat.{ℕ, _+_}
 use lib.Dec.{ltb, eqb}
@@ -17,10 +17,10 @@ abbrev pub sumOf : List Channel → ℕ
 sumOf [] = 0
 sumOf (c ∷ cs) = (16 + c .n) + sumOf cs
 
--- the row of the channel numbered ch, or the number of rows where it is not open
+-- the row of this channel, or the number of rows where it is not open
 abbrev pub rowIn : List Channel → ℕ → ℕ
-rowIn cs ch = firstWhere (λ (c : Channel). eqb (c .number) ch) cs
+rowIn rows channel = firstWhere (λ (row : Channel). eqb (row .number) channel) rows
 
 -- a place among the first n rows, as the code says it
 abbrev pub foundAt : ℕ → ℕ → Lookup
-foundAt i n = elim (ltb i n) [ true ↦ At i | false ↦ Nowhere ]
+foundAt i n = cond (ltb i n) (At i) Nowhere

@@ -48,9 +48,9 @@ abbrev pub added : List Device → ℕ → List ℕ → ℕ → List Device
 added ds known s n = set (map (disabledBy s n) ds) known (record { name = s; length = n; enabled = true })
 
 -- enabled and so named. "The empty default matches no device"
-abbrev pub answers : List ℕ → ℕ → Device → Bool
-answers s n d = ltb 0 n && (d .enabled && sameName (d .name) (d .length) s n)
+abbrev pub hasName : List ℕ → ℕ → Device → Bool
+hasName s n d = ltb 0 n && (d .enabled && sameName (d .name) (d .length) s n)
 
 -- the row of the first enabled device so named, or the number of rows where there is none
 abbrev pub deviceIn : List Device → List ℕ → ℕ → ℕ
-deviceIn ds s n = firstWhere (answers s n) ds
+deviceIn ds s n = firstWhere (hasName s n) ds

@@ -25,7 +25,7 @@ every p (x ∷ xs) = p x && every p xs
 -- the place of the first element that passes the test, or the length where there is none
 abbrev pub firstWhere : {A : Type 0} → (A → Bool) → List A → ℕ
 firstWhere p [] = 0
-firstWhere p (x ∷ xs) = elim (p x) [ true ↦ 0 | false ↦ suc (firstWhere p xs) ]
+firstWhere p (x ∷ xs) = cond (p x) 0 (suc (firstWhere p xs))
 
 -- the place of the first k
 abbrev pub firstOf : ℕ → List ℕ → ℕ
@@ -40,6 +40,11 @@ lastOf k (x ∷ xs) = let r = lastOf k xs in cond (ltb 0 r) (suc r) (cond (eqb x
 abbrev pub tally : ℕ → List ℕ → ℕ
 tally k [] = 0
 tally k (x ∷ xs) = cond (eqb x k) 1 0 + tally k xs
+
+-- the sum of f over the numbers below n
+abbrev pub sumTo : ℕ → (ℕ → ℕ) → ℕ
+sumTo zero f = 0
+sumTo (suc n) f = sumTo n f + f n
 
 -- the test passes at each number below n
 abbrev pub below : ℕ → (ℕ → Bool) → Bool

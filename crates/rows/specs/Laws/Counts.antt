@@ -11,7 +11,7 @@ use borrow.Author.Tests.{eq-eqb, ne-eqb, eqb-true, lt-ltb}
 use lib.Dec.{eqb}
 use lib.ListN.{length, getD, take, drop, set, take-append-drop}
 use lib.Seq.{take-suc}
-use Rattle.rows.specs.Definition.Lists.{tally, lastOf, firstOf}
+use Rattle.rows.specs.Definition.Lists.{tally, lastOf, firstOf, sumTo}
 use Rattle.rows.specs.Laws.Lists.{where-found, where-absent}
 
 -- 1 if x is k
@@ -71,11 +71,6 @@ last-found k (x ∷ xs) h =
             | no q ↦ absurd (omega (arith, one-no k x q))
           ]
     ]
-
--- the sum of f over the numbers below n
-abbrev pub sumTo : ℕ → (ℕ → ℕ) → ℕ
-sumTo zero f = 0
-sumTo (suc n) f = sumTo n f + f n
 
 pub sum-same : (n : ℕ) (f g : ℕ → ℕ) → ((i : ℕ) → i < n → f i ≡ g i) → sumTo n f ≡ sumTo n g
 sum-same zero f g e = refl

@@ -1,6 +1,6 @@
 -- `field` writes a number of at most five digits, and a space.
 use native.Mathlib.Omega.{arith}
-use Rattle.text.proofs.Laws.{put-then}
+use Rattle.text.specs.Laws.Text.{put-then}
 use borrow.Author.Needs.{needs}
 use Rattle.text.proofs.field.Statement.{statement}
 use Rattle.text.proofs.field.Tie as tie

@@ -1,6 +1,6 @@
 -- `fields` writes four numbers, one space between.
 use native.Mathlib.Omega.{arith}
-use Rattle.text.proofs.Laws.{four}
+use Rattle.text.specs.Laws.Text.{four}
 use borrow.Author.Needs.{needs}
 use Rattle.text.proofs.fields.Statement.{statement}
 use Rattle.text.proofs.fields.Tie as tie

@@ -5,8 +5,9 @@ use Prim.Native.Nat.{_+_, _*_, _/_, _-_, _<_, _≤_}
 use native.Mathlib.Omega.{arith}
 use lib.ListN.{length, take}
 use lib.Seq.{take-all}
-use Rattle.text.specs.Definition.Text.{Put, hexOf}
-use Rattle.text.proofs.Laws.{put-none, hex-turn}
+use Rattle.text.specs.Definition.Put.{Put}
+use Rattle.text.specs.Definition.Text.{hexOf}
+use Rattle.text.specs.Laws.Text.{put-none, hex-turn}
 use Rattle.text.proofs.hex.Statement.{statement}
 use Rattle.text.proofs.hex.Tie as tie
 

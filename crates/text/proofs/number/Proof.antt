@@ -1,6 +1,6 @@
 -- `number` writes at most five digits.
 use native.Mathlib.Omega.{arith}
-use Rattle.text.proofs.Laws.{short}
+use Rattle.text.specs.Laws.Text.{short}
 use borrow.Author.Needs.{needs}
 use Rattle.text.proofs.number.Statement.{statement}
 use Rattle.text.proofs.number.Tie as tie

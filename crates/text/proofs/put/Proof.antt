@@ -1,6 +1,6 @@
 -- `put` writes one byte.
 use denote.Ref.{now}
-use Rattle.text.proofs.Laws.{put-one}
+use Rattle.text.specs.Laws.Text.{put-one}
 use borrow.Author.Needs.{needs}
 use Rattle.text.proofs.put.Statement.{statement}
 use Rattle.text.proofs.put.Tie as tie

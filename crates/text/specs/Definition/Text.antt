@@ -1,16 +1,8 @@
 -- Numbers and bytes as text: "in decimal, one space between", "the bytes in lower-case hex".
-use mathlib.Core.Path.{_≡_}
 use mathlib.Core.Bool.{cond}
 use mathlib.Core.List.{List, [], _∷_, _++_}
 use Prim.Native.Nat.{ℕ, zero, suc, _+_, _/_, _%_}
-use lib.ListN.{length, take, drop}
 use lib.Dec.{ltb}
-
--- the bytes xs were written at `at` of a buffer, up to r: what stood before and behind them stands there still
-pub record Put (before after : List ℕ) (at r : ℕ) (xs : List ℕ) : Type 0 where
-  pub stop : r ≡ at + length xs
-  pub text : take r after ≡ take at before ++ xs
-  pub behind : drop r after ≡ drop r before
 
 abbrev pub digitOf : ℕ → ℕ
 digitOf n = 48 + n % 10

@@ -13,7 +13,7 @@ use Rattle.kernel.specs.Definition.Line.{boundaryOf}
 use Rattle.kernel.specs.Definition.Segments.{classFor, someFree, mayShare, mayFree}
 use Rattle.kernel.specs.Definition.Answers.{granted}
 use Rattle.kernel.specs.Definition.Calls.{set-user-boundary, allocate, free, onSetUserBoundary, onAllocate, onFree}
-use Rattle.kernel.specs.Definition.Refusals.{Row, Some, InList, Gives, user, shared, device, allocate-caller, free-caller, allocate-none, free-owner, bound-none, bound-above}
+use Rattle.kernel.specs.Definition.Refusals.{Row, Some, InList, GivesBack, user, shared, device, allocate-caller, free-caller, allocate-none, free-owner, bound-none, bound-above}
 use Rattle.kernel.specs.declared.Tables.{Tables}
 use Rattle.kernel.specs.declared.Answer.the-variants.{BadCall, NoSegment, NotOwner, BadBoundary}
 use Rattle.kernel.specs.declared.Outcome.{Outcome}
@@ -28,14 +28,14 @@ NoShare t caller = (caller ≢ 0) ⊎ (Some t SHARED ⊎ (boundaryOf t ≡ 0))
 
 -- the segment is in the list, and the caller gives it back
 abbrev Own : Tables → (caller segment : ℕ) → Type 0
-Own t caller segment = (row : ℕ) × InList t segment row × Gives caller (classAt t row)
+Own t caller segment = (row : ℕ) × InList t segment row × GivesBack caller (classAt t row)
 
-gives-own : (caller class : ℕ) → caller ≤ 1 → class ≡ classFor caller → Gives caller class
+gives-own : (caller class : ℕ) → caller ≤ 1 → class ≡ classFor caller → GivesBack caller class
 gives-own zero class h e = rw e user
 gives-own (suc zero) class h e = rw e device
 gives-own (suc (suc n)) class h e = absurd (omega arith)
 
-gives-class : {caller class : ℕ} → Gives caller class → (class ≡ classFor caller) ⊎ ((caller ≡ 0) × (class ≡ SHARED))
+gives-class : {caller class : ℕ} → GivesBack caller class → (class ≡ classFor caller) ⊎ ((caller ≡ 0) × (class ≡ SHARED))
 gives-class user = inl refl
 gives-class shared = inr (refl, refl)
 gives-class device = inl refl

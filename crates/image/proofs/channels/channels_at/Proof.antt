@@ -6,7 +6,7 @@ use native.Mathlib.Omega.{arith}
 use lib.ListN.{length, take, drop, length-set}
 use lib.Seq.{take-all}
 use Rattle.image.specs.Definition.Image.{channelFrom, rowsOf}
-use Rattle.image.proofs.Laws.{row-read}
+use Rattle.image.specs.Laws.Bytes.{row-read}
 use Rattle.image.proofs.channels.channels_at.Statement.{statement}
 use Rattle.image.proofs.channels.channels_at.Tie as tie
 

@@ -1,5 +1,5 @@
 -- `channels::put_channel` puts five bytes.
-use Rattle.text.proofs.Laws.{put-then}
+use Rattle.text.specs.Laws.Text.{put-then}
 use borrow.Author.Needs.{needs}
 use Rattle.image.proofs.channels.put_channel.Statement.{statement}
 use Rattle.image.proofs.channels.put_channel.Tie as tie

@@ -5,11 +5,11 @@ use Prim.Native.Nat.{_+_, _*_, _-_, _<_, _≤_}
 use native.Mathlib.Omega.{arith}
 use lib.ListN.{length, take, drop, length-set}
 use lib.Seq.{take-all}
-use Rattle.text.specs.Definition.Text.{Put}
-use Rattle.text.proofs.Laws.{put-none}
+use Rattle.text.specs.Definition.Put.{Put}
+use Rattle.text.specs.Laws.Text.{put-none}
 use Rattle.rows.specs.Definition.Channels.{zeroChannel}
 use Rattle.image.specs.Definition.Image.{rowsBytes, channelBytes}
-use Rattle.image.proofs.Laws.{row-put}
+use Rattle.image.specs.Laws.Bytes.{row-put}
 use Rattle.image.proofs.channels.put_channels.Statement.{statement}
 use Rattle.image.proofs.channels.put_channels.Tie as tie
 

@@ -3,10 +3,10 @@ use mathlib.Core.Path.{_≡_, ap}
 use Prim.Native.Nat.{ℕ}
 use native.Mathlib.Omega.{arith}
 use lib.ListN.{length}
-use Rattle.text.proofs.Laws.{put-then}
+use Rattle.text.specs.Laws.Text.{put-then}
 use Rattle.image.specs.Definition.Image.{u8Bytes}
 use Rattle.image.proofs.Known.{device-name}
-use Rattle.image.proofs.Laws.{put-same}
+use Rattle.image.specs.Laws.Bytes.{put-same}
 use borrow.Author.Needs.{needs}
 use Rattle.image.proofs.devices.put_device.Statement.{statement}
 use Rattle.image.proofs.devices.put_device.Tie as tie

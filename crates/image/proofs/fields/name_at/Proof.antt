@@ -5,7 +5,7 @@ use Prim.Native.Nat.{_+_, _*_, _-_, _<_, _≤_}
 use native.Mathlib.Omega.{arith}
 use lib.ListN.{length, take, drop, length-set}
 use lib.Seq.{take-all}
-use Rattle.image.proofs.Laws.{run-read}
+use Rattle.image.specs.Laws.Bytes.{run-read}
 use Rattle.image.proofs.fields.name_at.Statement.{statement}
 use Rattle.image.proofs.fields.name_at.Tie as tie
 

@@ -5,9 +5,9 @@ use Prim.Native.Nat.{_+_, _*_, _-_, _<_, _≤_}
 use native.Mathlib.Omega.{arith}
 use lib.ListN.{length, take, drop, length-set}
 use lib.Seq.{take-all}
-use Rattle.text.specs.Definition.Text.{Put}
-use Rattle.text.proofs.Laws.{put-none}
-use Rattle.image.proofs.Laws.{run-put}
+use Rattle.text.specs.Definition.Put.{Put}
+use Rattle.text.specs.Laws.Text.{put-none}
+use Rattle.image.specs.Laws.Bytes.{run-put}
 use Rattle.image.proofs.fields.put_run.Statement.{statement}
 use Rattle.image.proofs.fields.put_run.Tie as tie
 

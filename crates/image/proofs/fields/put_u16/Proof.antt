@@ -1,5 +1,5 @@
 -- `fields::put_u16` puts two bytes.
-use Rattle.text.proofs.Laws.{put-then}
+use Rattle.text.specs.Laws.Text.{put-then}
 use borrow.Author.Needs.{needs}
 use Rattle.image.proofs.fields.put_u16.Statement.{statement}
 use Rattle.image.proofs.fields.put_u16.Tie as tie

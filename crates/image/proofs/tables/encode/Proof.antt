@@ -1,9 +1,9 @@
 -- `tables::encode` puts the four parts of an image.
 use mathlib.Core.Path.{_∙_}
 use native.Mathlib.Omega.{arith}
-use Rattle.text.proofs.Laws.{put-then}
+use Rattle.text.specs.Laws.Text.{put-then}
 use Rattle.image.specs.Definition.Image.{imageOf}
-use Rattle.image.proofs.Laws.{whole}
+use Rattle.image.specs.Laws.Bytes.{whole}
 use borrow.Author.Needs.{needs}
 use Rattle.image.proofs.tables.encode.Statement.{statement}
 use Rattle.image.proofs.tables.encode.Tie as tie

@@ -1,6 +1,6 @@
 -- `tables::put_boundaries` puts three numbers.
 use native.Mathlib.Omega.{arith}
-use Rattle.text.proofs.Laws.{put-then}
+use Rattle.text.specs.Laws.Text.{put-then}
 use Rattle.image.specs.Definition.Image.{boundaryBytes}
 use borrow.Author.Needs.{needs}
 use Rattle.image.proofs.tables.put_boundaries.Statement.{statement}

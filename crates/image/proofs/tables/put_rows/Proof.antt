@@ -1,6 +1,6 @@
 -- `tables::put_rows` puts 642 bytes.
 use native.Mathlib.Omega.{arith}
-use Rattle.text.proofs.Laws.{put-then}
+use Rattle.text.specs.Laws.Text.{put-then}
 use Rattle.image.specs.Definition.Image.{rowBytes}
 use borrow.Author.Needs.{needs}
 use Rattle.image.proofs.tables.put_rows.Statement.{statement}

@@ -1,7 +1,7 @@
 -- `tables::put_segments` puts 98 bytes.
 use native.Mathlib.Omega.{arith}
 use Rattle.kernel.proofs.Known.{sized}
-use Rattle.text.proofs.Laws.{put-then}
+use Rattle.text.specs.Laws.Text.{put-then}
 use Rattle.image.specs.Definition.Image.{segmentBytes}
 use borrow.Author.Needs.{needs}
 use Rattle.image.proofs.tables.put_segments.Statement.{statement}

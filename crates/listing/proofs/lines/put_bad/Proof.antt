@@ -1,6 +1,6 @@
 -- `listing::put_bad` meets its contract.
 use native.Mathlib.Omega.{arith}
-use Rattle.text.proofs.Laws.{put-then}
+use Rattle.text.specs.Laws.Text.{put-then}
 use borrow.Author.Needs.{needs}
 use Rattle.listing.proofs.lines.put_bad.Statement.{statement}
 use Rattle.listing.proofs.lines.put_bad.Tie as tie

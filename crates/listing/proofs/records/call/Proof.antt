@@ -1,6 +1,6 @@
 -- `listing::call` meets its contract.
 use mathlib.Core.Path.{refl, _∙_}
-use Rattle.events.specs.Definition.Records.{decode}
+use Rattle.events.specs.Definition.Records.{callIn}
 use Rattle.events.proofs.ByKind.{by-kind}
 use Rattle.listing.specs.Laws.Held.{held-none, held-started, lent-theirs}
 use Rattle.listing.proofs.Calls.{unstarted}
@@ -15,7 +15,7 @@ same-length : tie.Need-same-length
 same-length c = search needs
 
 returns : tie.Need-returns
-unfolding decode
+unfolding callIn
 returns c = by-kind _ _ _ _ _ 256 _ _ (c .before .before .before .before .if1 .taken) refl (c .before .before .start-event .ensures _)
 
 refuse-requires : tie.Need-refuse-requires

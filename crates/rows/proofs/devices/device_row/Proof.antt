@@ -8,13 +8,13 @@ use native.Mathlib.Omega.{arith}
 use lib.ListN.{getD, length, take}
 use Rattle.rows.specs.Definition.Channels.{foundAt}
 use Rattle.rows.specs.Laws.Channels.{found-no, found-yes}
-use Rattle.rows.specs.Definition.Devices.{answers, deviceIn, beyondDevices}
+use Rattle.rows.specs.Definition.Devices.{hasName, deviceIn, beyondDevices}
 use Rattle.rows.specs.Laws.Lists.{where-here, where-none}
 use Rattle.rows.proofs.devices.device_row.Statement.{statement}
 use Rattle.rows.proofs.devices.device_row.Tie as tie
 
 abbrev Inv-loop : tie.InvT-loop
-Inv-loop known name length devices i₀ i = (i ≤ known) × ((j : ℕ) → j < i → answers name length (getD devices j beyondDevices) ≡ false)
+Inv-loop known name length devices i₀ i = (i ≤ known) × ((j : ℕ) → j < i → hasName name length (getD devices j beyondDevices) ≡ false)
 
 abbrev μ-loop : tie.MeasureT-loop
 μ-loop known name length devices i₀ i = known - i
@@ -37,7 +37,7 @@ returns c =
     let at = c .before .before .before .before .loop in
     let l : length (s .args .t1) ≡ 16 = s .good .0 .1 .0 .1 in
     let e : deviceIn (take (s .args .known) (s .args .t1)) (s .args .name) (s .args .length) ≡ at .i =
-    where-here (answers (s .args .name) (s .args .length)) (s .args .t1) beyondDevices (at .i) (s .args .known) (omega arith) (omega arith)
+    where-here (hasName (s .args .name) (s .args .length)) (s .args .t1) beyondDevices (at .i) (s .args .known) (omega arith) (omega arith)
     (at .inv .1) (sym (c .before .has-name .ensures) ∙ c .if1 .taken) in
     sym (ap (λ (k : ℕ). foundAt k (s .args .known)) e ∙ found-yes (at .i) (s .args .known) (omega arith))
 
@@ -55,7 +55,7 @@ returns-2 c =
     let s = c .before .before in
     let l : length (s .args .t1) ≡ 16 = s .good .0 .1 .0 .1 in
     let e : deviceIn (take (s .args .known) (s .args .t1)) (s .args .name) (s .args .length) ≡ s .args .known =
-    where-none (answers (s .args .name) (s .args .length)) (s .args .t1) beyondDevices (s .args .known) (omega arith)
+    where-none (hasName (s .args .name) (s .args .length)) (s .args .t1) beyondDevices (s .args .known) (omega arith)
     (λ j g. c .before .loop .inv .1 j (omega arith)) in
     sym (found-no _ (s .args .known) (omega (arith, e)))
 

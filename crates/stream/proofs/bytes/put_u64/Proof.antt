@@ -5,9 +5,9 @@ use Prim.Native.Nat.{_+_, _-_, _≤_}
 use native.Mathlib.Omega.{arith}
 use lib.ListN.{length, take, drop}
 use lib.Seq.{take-all}
-use Rattle.text.specs.Definition.Text.{Put}
-use Rattle.text.proofs.Laws.{put-none}
-use Rattle.stream.specs.Numbers.{lowBytes, u64Bytes}
+use Rattle.text.specs.Definition.Put.{Put}
+use Rattle.text.specs.Laws.Text.{put-none}
+use Rattle.stream.specs.Definition.Numbers.{lowBytes, u64Bytes}
 use Rattle.stream.proofs.Laws.{low-put, low-rest}
 use Rattle.stream.proofs.bytes.put_u64.Statement.{statement}
 use Rattle.stream.proofs.bytes.put_u64.Tie as tie

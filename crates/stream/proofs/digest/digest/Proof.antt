@@ -4,7 +4,7 @@ use mathlib.Core.Path.{_≡_, refl}
 use Prim.Native.Nat.{_-_, _<_, _≤_}
 use native.Mathlib.Omega.{arith}
 use lib.ListN.{length, drop}
-use Rattle.stream.specs.Digest.{digestFrom, digestOf}
+use Rattle.stream.specs.Definition.Digest.{digestFrom, digestOf}
 use Rattle.stream.proofs.Laws.{digest-turn, digest-end}
 use Rattle.stream.proofs.digest.digest.Statement.{statement}
 use Rattle.stream.proofs.digest.digest.Tie as tie

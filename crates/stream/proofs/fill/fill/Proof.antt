@@ -5,7 +5,7 @@ use mathlib.Core.List.{_++_}
 use Prim.Native.Nat.{ℕ, _+_, _*_, _/_, _-_, _<_, _≤_}
 use native.Mathlib.Omega.{arith}
 use lib.ListN.{length, take, length-set}
-use Rattle.stream.specs.Seed.{next, seeded}
+use Rattle.stream.specs.Definition.Seed.{next, seeded}
 use Rattle.stream.proofs.Laws.{lay-turn, lay-end, seeded-more}
 use Rattle.stream.proofs.fill.fill.Statement.{statement}
 use Rattle.stream.proofs.fill.fill.Tie as tie

@@ -1,6 +1,6 @@
 -- `replies::image_digest` is the digest of the image.
 use mathlib.Core.Path.{ap, _∙_}
-use Rattle.stream.specs.Digest.{digestOf}
+use Rattle.stream.specs.Definition.Digest.{digestOf}
 use borrow.Author.Needs.{needs}
 use Rattle.stream.proofs.replies.image_digest.Statement.{statement}
 use Rattle.stream.proofs.replies.image_digest.Tie as tie

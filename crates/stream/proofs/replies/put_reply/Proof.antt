@@ -1,9 +1,9 @@
 -- `replies::put_reply` puts 30 bytes.
 use mathlib.Core.Path.{ap}
 use native.Mathlib.Omega.{arith}
-use Rattle.text.proofs.Laws.{put-then}
-use Rattle.image.proofs.Laws.{put-same}
-use Rattle.stream.specs.Numbers.{u64Bytes}
+use Rattle.text.specs.Laws.Text.{put-then}
+use Rattle.image.specs.Laws.Bytes.{put-same}
+use Rattle.stream.specs.Definition.Numbers.{u64Bytes}
 use borrow.Author.Needs.{needs}
 use Rattle.stream.proofs.replies.put_reply.Statement.{statement}
 use Rattle.stream.proofs.replies.put_reply.Tie as tie

@@ -4,12 +4,13 @@ use mathlib.Core.List.{List, _++_}
 use Prim.Native.Nat.{ℕ, _+_, _-_, _≤_}
 use native.Mathlib.Omega.{arith}
 use lib.ListN.{length, getD, replicate, length-append, length-replicate}
-use Rattle.line.specs.Definition.Line.{placeOf, lineFrom, headingOf, afterClose, afterOpen, afterLink, Chain}
-use Rattle.line.proofs.Walks.{bytes-agree, length-bytes}
-use Rattle.line.proofs.Held.{held-put, held-other}
-use Rattle.line.proofs.Makes.{length-heading}
-use Rattle.line.proofs.PointsClosed.{closed-points}
-use Rattle.line.proofs.PointsLinked.{linked-points}
+use Rattle.line.specs.Laws.Chains.{Chain}
+use Rattle.line.specs.Definition.Line.{placeOf, lineFrom, headingOf, afterClose, afterOpen, afterLink}
+use Rattle.line.specs.Laws.Walks.{bytes-agree, length-bytes}
+use Rattle.line.specs.Laws.Held.{held-put, held-other}
+use Rattle.line.specs.Laws.Makes.{length-heading}
+use Rattle.line.specs.Laws.PointsClosed.{closed-points}
+use Rattle.line.specs.Laws.PointsLinked.{linked-points}
 
 module _ (chain : List ℕ) (room : ℕ) (ram : List ℕ) (start gap total : ℕ) (good : Chain chain room total (length ram)) (fits : start + gap ≤ total) where
   -- what lies before a record that is closed

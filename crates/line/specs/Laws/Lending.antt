@@ -9,30 +9,31 @@ use lib.ListN.{length, getD, take, drop, length-drop}
 use lib.Seq.{getD-take, getD-drop, length-take-le}
 use borrow.Author.Tests.{lt-ltb, eq-eqb, ne-eqb}
 use Rattle.line.specs.declared.Lent.the-variants.{Part, Nothing}
-use Rattle.line.specs.Definition.Line.{chainIndexOf, offsetOf, placeOf, lineFrom, Chain}
+use Rattle.line.specs.Laws.Chains.{Chain}
+use Rattle.line.specs.Definition.Line.{chainIndexOf, offsetOf, placeOf, lineFrom}
 use Rattle.line.specs.Definition.Lent.{lentAt, partOf}
-use Rattle.line.proofs.Walks.{bytes-at}
-use Rattle.line.proofs.Places.{link-low, link-high, offset-low, offset-high, place-inside, place-fall, place-offset}
+use Rattle.line.specs.Laws.Walks.{bytes-at}
+use Rattle.line.specs.Laws.Places.{index-low, index-high, offset-low, offset-high, place-inside, place-fall, place-offset}
 
 -- down to the foot of its segment a position's segment is the same, and past it another
 
 pub link-fall : (room p i : ℕ) → i ≤ offsetOf room p → chainIndexOf room (p + i) ≡ chainIndexOf room p
 link-fall room p i h =
     by-cases (decLt p room)
-    (λ l. let m : p + i < room = omega (arith, offset-low room p l) in omega (arith, link-low room p l, link-low room (p + i) m))
+    (λ l. let m : p + i < room = omega (arith, offset-low room p l) in omega (arith, index-low room p l, index-low room (p + i) m))
     (λ l.
     let g : room ≤ p = omega arith in
     let m : room ≤ p + i = omega arith in
-    omega (arith, offset-high room p g, link-high room p g, link-high room (p + i) m))
+    omega (arith, offset-high room p g, index-high room p g, index-high room (p + i) m))
 
 pub link-past : (room p i : ℕ) → offsetOf room p < i → chainIndexOf room p < chainIndexOf room (p + i)
 link-past room p i h =
     by-cases (decLt p room)
-    (λ l. let m : room ≤ p + i = omega (arith, offset-low room p l) in omega (arith, link-low room p l, link-high room (p + i) m))
+    (λ l. let m : room ≤ p + i = omega (arith, offset-low room p l) in omega (arith, index-low room p l, index-high room (p + i) m))
     (λ l.
     let g : room ≤ p = omega arith in
     let m : room ≤ p + i = omega arith in
-    omega (arith, offset-high room p g, link-high room p g, link-high room (p + i) m))
+    omega (arith, offset-high room p g, index-high room p g, index-high room (p + i) m))
 
 -- the cases of `lentAt`
 
@@ -102,8 +103,8 @@ module _ (chain : List ℕ) (room start n at : ℕ) (ram : List ℕ) (good : Cha
   lent-length = length-take-le n (drop at ram) (omega (arith, length-drop at ram, lent-inside))
 
   -- all of its bytes lie in one segment
-  pub lent-link : (i : ℕ) → i < n → chainIndexOf room (start + i) ≡ chainIndexOf room start
-  lent-link i h = link-fall room start i (omega (arith, lies chain room start n at (good .small) e .low))
+  pub lent-index : (i : ℕ) → i < n → chainIndexOf room (start + i) ≡ chainIndexOf room start
+  lent-index i h = link-fall room start i (omega (arith, lies chain room start n at (good .small) e .low))
 
   -- its i-th byte is the buffer's byte n - 1 - i
   pub lent-byte : (i : ℕ) → i < n → getD (partOf ram n (Part at)) i 0 ≡ getD (lineFrom chain room ram start n) (n - 1 - i) 0

@@ -5,8 +5,8 @@ use Prim.Native.Nat.{ℕ, _+_, _-_, _≤_}
 use native.Mathlib.Omega.{arith}
 use lib.ListN.{length, replicate}
 use Rattle.line.specs.Definition.Line.{placeOf, lineFrom, putLine, headingOf, afterOpen, afterClose, afterLink}
-use Rattle.line.proofs.Walks.{length-put, length-bytes, put-append}
-use Rattle.line.proofs.Held.{put-lower}
+use Rattle.line.specs.Laws.Walks.{length-put, length-bytes, put-append}
+use Rattle.line.specs.Laws.Held.{put-lower}
 
 -- what is moved, and then the zeros
 pub closed-of : (chain : List ℕ) (room : ℕ) (ram₀ ram₁ ram₂ : List ℕ) (start gap total : ℕ) → start + gap ≤ total

@@ -6,12 +6,13 @@ use Prim.Native.Nat.{ℕ, _+_, _-_}
 use native.Mathlib.Omega.{arith}
 use native.Mathlib.Decide.{decLt}
 use lib.ListN.{length, replicate, length-replicate, length-append, List·getD-append}
-use Rattle.line.specs.Definition.Line.{placeOf, headingOf, afterOpen, Chain}
+use Rattle.line.specs.Laws.Chains.{Chain}
+use Rattle.line.specs.Definition.Line.{placeOf, headingOf, afterOpen}
 use Rattle.line.specs.Laws.Points.{Opened}
-use Rattle.line.proofs.Walks.{length-put, put-elsewhere}
-use Rattle.line.proofs.Held.{held-at}
-use Rattle.line.proofs.Makes.{length-heading}
-use Rattle.line.proofs.Points.{one-ram, zero-after}
+use Rattle.line.specs.Laws.Walks.{length-put, put-elsewhere}
+use Rattle.line.specs.Laws.Held.{held-at}
+use Rattle.line.specs.Laws.Makes.{length-heading}
+use Rattle.line.specs.Laws.OneRam.{one-ram, zero-after}
 
 pub opened-points : (chain : List ℕ) (room : ℕ) (ram : List ℕ) (total number device unit n : ℕ) → Chain chain room (total + 16 + n) (length ram)
     → Opened chain room ram total number device unit n (afterOpen chain room ram total number device unit n)

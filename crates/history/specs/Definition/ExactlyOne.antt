@@ -11,7 +11,7 @@ use Rattle.kernel.specs.Definition.Answers.{numberOf, granted}
 use Rattle.kernel.specs.Definition.Calls.{Call}
 use Rattle.kernel.specs.Definition.Refusals.{Row}
 use Rattle.kernel.specs.Definition.Step.{decided, step, Result}
-use Rattle.kernel.specs.Laws.Fields.{Fields}
+use Rattle.kernel.specs.Definition.Fields.{Fields}
 use Rattle.kernel.specs.declared.Tables.{Tables}
 use Rattle.kernel.specs.declared.Answer.{Answer}
 
@@ -73,12 +73,12 @@ OneResult = ExactlyOne Defined
 
 -- ---- names: a string's reading, or none
 
-pub data Named (s : List ℕ) : Option Reading → Type 0 where
-  named : {r : Reading} → Reads s r → Named s (some r)
-  unnamed : ((r : Reading) → ¬ Reads s r) → Named s none
+pub data ReadsAs (s : List ℕ) : Option Reading → Type 0 where
+  named : {r : Reading} → Reads s r → ReadsAs s (some r)
+  unnamed : ((r : Reading) → ¬ Reads s r) → ReadsAs s none
 
 abbrev pub OneReading : Type 0
 OneReading = (s : List ℕ) (r q : Reading) → Reads s r → Reads s q → r ≡ q
 
 abbrev pub OneName : Type 0
-OneName = ExactlyOne Named
+OneName = ExactlyOne ReadsAs

@@ -5,12 +5,12 @@ use Prim.Native.Nat.{ℕ, _+_}
 use lib.ListN.{length, drop, replicate}
 use Rattle.kernel.specs.Definition.Step.{Result}
 use Rattle.kernel.specs.declared.Tables.{Tables}
-use Rattle.text.specs.Definition.Text.{Put}
+use Rattle.text.specs.Definition.Put.{Put}
 use Rattle.events.specs.Definition.Records.{u16At, stepOf}
 use Rattle.image.specs.Definition.Image.{runAt, imageOf, tablesOf, answerBytes}
-use Rattle.stream.specs.Digest.{digestOf}
-use Rattle.stream.specs.Seed.{seeded}
-use Rattle.stream.specs.Numbers.{u32At, u64Bytes}
+use Rattle.stream.specs.Definition.Digest.{digestOf}
+use Rattle.stream.specs.Definition.Seed.{seeded}
+use Rattle.stream.specs.Definition.Numbers.{u32At, u64Bytes}
 
 -- the image, and the RAM by its length and the seed
 pub record Brought (bytes : List ℕ) (t : Tables) (ram : List ℕ) : Type 0 where

@@ -5,9 +5,10 @@ use Prim.Native.Nat.{ℕ, _+_, _-_, _<_, _≤_}
 use native.Mathlib.Omega.{arith}
 use lib.ListN.{length, getD}
 use lib.Seq.{ext-getD}
-use Rattle.line.specs.Definition.Line.{placeOf, lineFrom, putLine, Chain}
-use Rattle.line.proofs.Walks.{length-bytes, bytes-at, bytes-kept, put-at, put-same}
-use Rattle.line.proofs.Places.{place-inside, place-apart, place-shift}
+use Rattle.line.specs.Laws.Chains.{Chain}
+use Rattle.line.specs.Definition.Line.{placeOf, lineFrom, putLine}
+use Rattle.line.specs.Laws.Walks.{length-bytes, bytes-at, bytes-kept, put-at, put-same}
+use Rattle.line.specs.Laws.Places.{place-inside, place-apart, place-shift}
 
 module _ (chain : List ℕ) (room total : ℕ) (ram : List ℕ) (good : Chain chain room total (length ram)) (xs : List ℕ) (p : ℕ) (fits : p + length xs ≤ total) where
   -- a position on which a byte was put has it

@@ -7,18 +7,19 @@ use native.Mathlib.Decide.{decLt}
 use native.Mathlib.Omega.{arith}
 use lib.ListN.{getD}
 use borrow.Author.Tests.{lt-ltb, le-ltb}
-use Rattle.line.specs.Definition.Line.{chainIndexOf, offsetOf, placeOf, Chain}
+use Rattle.line.specs.Laws.Chains.{Chain}
+use Rattle.line.specs.Definition.Line.{chainIndexOf, offsetOf, placeOf}
 use Rattle.line.specs.Laws.Runs.{runUpTo}
 
 -- the two cases of a position: in the room of the chain's first segment, or past it
 
-pub link-low : (room p : ℕ) → p < room → chainIndexOf room p ≡ 0
+pub index-low : (room p : ℕ) → p < room → chainIndexOf room p ≡ 0
 unfolding chainIndexOf
-link-low room p h = simp (lt-ltb p room h)
+index-low room p h = simp (lt-ltb p room h)
 
-pub link-high : (room p : ℕ) → room ≤ p → chainIndexOf room p ≡ 1 + (p - room) / 16384
+pub index-high : (room p : ℕ) → room ≤ p → chainIndexOf room p ≡ 1 + (p - room) / 16384
 unfolding chainIndexOf
-link-high room p h = simp (le-ltb p room h)
+index-high room p h = simp (le-ltb p room h)
 
 pub offset-low : (room p : ℕ) → p < room → offsetOf room p ≡ room - 1 - p
 unfolding offsetOf
@@ -30,12 +31,12 @@ offset-high room p h = simp (le-ltb p room h)
 
 pub place-low : (chain : List ℕ) (room p : ℕ) → p < room → placeOf chain room p ≡ getD chain 0 0 * 16384 + (room - 1 - p)
 unfolding placeOf
-place-low chain room p h = rw (link-low room p h, offset-low room p h)
+place-low chain room p h = rw (index-low room p h, offset-low room p h)
 
 pub place-high : (chain : List ℕ) (room p : ℕ) → room ≤ p
     → placeOf chain room p ≡ getD chain (1 + (p - room) / 16384) 0 * 16384 + (16383 - (p - room) % 16384)
 unfolding placeOf
-place-high chain room p h = rw (link-high room p h, offset-high room p h)
+place-high chain room p h = rw (index-high room p h, offset-high room p h)
 
 pub reach-low : (room p : ℕ) → p < room → runUpTo room p ≡ p + 1
 unfolding runUpTo
@@ -69,14 +70,14 @@ same-position room p q small l o =
     by-cases (decLt p room)
     (λ hp. by-cases (decLt q room)
     (λ hq. omega (arith, offset-low room p hp, offset-low room q hq))
-    (λ hq. let gq : room ≤ q = omega arith in omega (arith, link-low room p hp, link-high room q gq)))
+    (λ hq. let gq : room ≤ q = omega arith in omega (arith, index-low room p hp, index-high room q gq)))
     (λ hp.
     let gp : room ≤ p = omega arith in
     by-cases (decLt q room)
-    (λ hq. omega (arith, link-high room p gp, link-low room q hq))
+    (λ hq. omega (arith, index-high room p gp, index-low room q hq))
     (λ hq.
     let gq : room ≤ q = omega arith in
-    omega (arith, link-high room p gp, link-high room q gq, offset-high room p gp, offset-high room q gq)))
+    omega (arith, index-high room p gp, index-high room q gq, offset-high room p gp, offset-high room q gq)))
 
 -- row and offset are fixed by the index
 same-row : (a b x y : ℕ) → x < 16384 → y < 16384 → a * 16384 + x ≡ b * 16384 + y → (a ≡ b) × (x ≡ y)
@@ -89,8 +90,8 @@ module _ (chain : List ℕ) (room total size : ℕ) (good : Chain chain room tot
   pub link-lt : (p : ℕ) → p < total → chainIndexOf room p < good .held
   link-lt p h =
       by-cases (decLt p room)
-      (λ l. omega (arith, link-low room p l, good .some))
-      (λ l. let g : room ≤ p = omega arith in omega (arith, link-high room p g, good .some, good .enough))
+      (λ l. omega (arith, index-low room p l, good .some))
+      (λ l. let g : room ≤ p = omega arith in omega (arith, index-high room p g, good .some, good .enough))
 
   -- a position of the line lies in the RAM
   pub place-inside : (p : ℕ) → p < total → placeOf chain room p < size

@@ -6,27 +6,27 @@ use Prim.Native.Nat.{ℕ, _+_, _-_, _≤_, _<_}
 use lib.Dec.{eqb}
 use lib.ListN.{take}
 use Rattle.rows.specs.Definition.Classes.{FREE, SHARED, inChain}
-use Rattle.rows.specs.Laws.Counts.{sumTo}
+use Rattle.rows.specs.Definition.Lists.{sumTo}
 use Rattle.rows.specs.declared.Channel.{Channel}
 use Rattle.kernel.specs.Definition.Tables.{SEGMENT, classAt, sharing}
 use Rattle.kernel.specs.declared.Tables.{Tables}
-use Rattle.history.specs.Room.Layout.{Place}
+use Rattle.history.specs.Definition.Layout.{Place}
 
 -- the lengths of the open records: "length L = 16 + n"
 abbrev pub lengthsOf : List Channel → List ℕ
 lengthsOf [] = []
 lengthsOf (c ∷ cs) = (16 + c .n) ∷ lengthsOf cs
 
-abbrev pub records : Tables → List ℕ
-records t = lengthsOf (take (t .opened) (t .channels))
+abbrev pub recordLengths : Tables → List ℕ
+recordLengths t = lengthsOf (take (t .opened) (t .channels))
 
 -- a set of segments says of each row of the list whether it has it: how many of n rows it has
-abbrev pub size : ℕ → (ℕ → Bool) → ℕ
-size n set = sumTo n (λ row. cond (set row) 1 0)
+abbrev pub countIn : ℕ → (ℕ → Bool) → ℕ
+countIn n set = sumTo n (λ row. cond (set row) 1 0)
 
 -- what the system holds: the system and shared segments
-abbrev pub held : Tables → ℕ → Bool
-held t row = inChain (classAt t row)
+abbrev pub inSystem : Tables → ℕ → Bool
+inSystem t row = inChain (classAt t row)
 
 -- what the system holds "and, if nothing is shared, .. the free segments"
 abbrev pub offered : Tables → ℕ → Bool

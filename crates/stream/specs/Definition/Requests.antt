@@ -6,7 +6,7 @@ use Prim.Native.Nat.{ℕ, _+_, _<_, _≤_}
 use lib.Dec.{eqb, ltb}
 use lib.ListN.{length}
 use Rattle.events.specs.Definition.Records.{u8At, u16At}
-use Rattle.stream.specs.Numbers.{u32At}
+use Rattle.stream.specs.Definition.Numbers.{u32At}
 use Rattle.stream.specs.declared.Request.{Request}
 use Rattle.stream.specs.declared.Found.{Found}
 use Rattle.stream.specs.declared.Found.the-variants.{Whole, Part, Bad}

@@ -6,11 +6,12 @@ use Prim.Native.Nat.{ℕ, _+_, _-_, _<_, _≤_}
 use native.Mathlib.Omega.{arith}
 use native.Mathlib.Decide.{decLt}
 use lib.ListN.{length, replicate, length-replicate, length-append, List·getD-append}
-use Rattle.line.specs.Definition.Line.{placeOf, lineFrom, afterClose, Chain}
+use Rattle.line.specs.Laws.Chains.{Chain}
+use Rattle.line.specs.Definition.Line.{placeOf, lineFrom, afterClose}
 use Rattle.line.specs.Laws.Points.{Closed}
-use Rattle.line.proofs.Walks.{length-bytes, bytes-at, length-put, put-elsewhere}
-use Rattle.line.proofs.Held.{held-at}
-use Rattle.line.proofs.Points.{one-ram, zero-after}
+use Rattle.line.specs.Laws.Walks.{length-bytes, bytes-at, length-put, put-elsewhere}
+use Rattle.line.specs.Laws.Held.{held-at}
+use Rattle.line.specs.Laws.OneRam.{one-ram, zero-after}
 
 pub closed-points : (chain : List ℕ) (room : ℕ) (ram : List ℕ) (start gap total : ℕ) → Chain chain room total (length ram) → start + gap ≤ total
     → Closed chain room ram start gap total (afterClose chain room ram start gap total)

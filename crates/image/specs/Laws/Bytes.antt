@@ -6,8 +6,8 @@ use native.Mathlib.Omega.{arith}
 use native.Mathlib.Numerals.{add-one}
 use lib.ListN.{length, getD, take, drop, set, length-drop}
 use lib.Seq.{take-suc-set, take-suc, take-all, getD-drop, drop-drop}
-use Rattle.text.specs.Definition.Text.{Put}
-use Rattle.text.proofs.Laws.{put-then}
+use Rattle.text.specs.Definition.Put.{Put}
+use Rattle.text.specs.Laws.Text.{put-then}
 use Rattle.image.specs.Definition.Image.{rowsBytes, rowsOf}
 
 pub put-same : {d e : List ℕ} {at r : ℕ} {xs ys : List ℕ} → xs ≡ ys → Put d e at r xs → Put d e at r ys

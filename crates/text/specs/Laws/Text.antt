@@ -10,7 +10,8 @@ use lib.Seq.{take-suc-set, take-suc, take-all, drop-set-lt, drop-drop}
 use lib.Dec.{ltb}
 use borrow.Author.Tests.{lt-ltb, le-ltb, ltb-true, ltb-false}
 use mathlib.Core.Logic.{_⊎_, inl, inr}
-use Rattle.text.specs.Definition.Text.{Put, fieldsOf, digitOf, decimalIn, decimalOf, glyph, hexOf}
+use Rattle.text.specs.Definition.Put.{Put}
+use Rattle.text.specs.Definition.Text.{fieldsOf, digitOf, decimalIn, decimalOf, glyph, hexOf}
 
 pub put-none : (d : List ℕ) (at : ℕ) → Put d d at at []
 put-none d at = record { stop = omega arith; text = sym (append-nil (take at d)); behind = refl }

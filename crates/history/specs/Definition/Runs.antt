@@ -8,7 +8,7 @@ use lib.ListN.{length, getD}
 use Rattle.kernel.specs.Definition.Answers.{granted}
 use Rattle.kernel.specs.Definition.Calls.{Call, start, reset, «open», close, read, write, default, status, link, boundary, set-user-boundary, allocate, free, store, load, no-call, short-start, isStart}
 use Rattle.kernel.specs.Definition.Step.{step}
-use Rattle.kernel.specs.Laws.Fields.{Fields}
+use Rattle.kernel.specs.Definition.Fields.{Fields}
 use Rattle.kernel.specs.declared.Tables.{Tables}
 use Rattle.kernel.specs.declared.Answer.{Answer}
 

@@ -7,12 +7,13 @@ use native.Mathlib.Nat.{zero-add}
 use native.Mathlib.Omega.{arith}
 use native.Mathlib.Decide.{decLt}
 use lib.ListN.{length, getD, replicate, length-replicate, getD-replicate}
-use Rattle.line.specs.Definition.Line.{placeOf, lineFrom, putLine, afterLink, Chain}
+use Rattle.line.specs.Laws.Chains.{Chain}
+use Rattle.line.specs.Definition.Line.{placeOf, lineFrom, putLine, afterLink}
 use Rattle.line.specs.Laws.Points.{Linked}
-use Rattle.line.proofs.Walks.{length-bytes, bytes-at, length-put, put-elsewhere}
-use Rattle.line.proofs.Places.{place-low, place-apart, chain-less, place-shift}
-use Rattle.line.proofs.Held.{held-at, put-lower}
-use Rattle.line.proofs.Points.{one-ram}
+use Rattle.line.specs.Laws.Walks.{length-bytes, bytes-at, length-put, put-elsewhere}
+use Rattle.line.specs.Laws.Places.{place-low, place-apart, chain-less, place-shift}
+use Rattle.line.specs.Laws.Held.{held-at, put-lower}
+use Rattle.line.specs.Laws.OneRam.{one-ram}
 
 -- the offset o that the room loses was that of position room - 1 - o
 lost : (chain : List ℕ) (room o : ℕ) → o < room → getD chain 0 0 * 16384 + o ≡ placeOf chain room (room - 1 - o)

@@ -1,0 +1,3 @@
+-- What the library's functions leave in the bytes they are given.
+pub mod Call
+pub mod Replays

@@ -1,0 +1,7 @@
+-- The words of condition 3, and what is said of the definition.
+pub mod Runs
+pub mod Users
+pub mod Layout
+pub mod Places
+pub mod Room
+pub mod ExactlyOne

@@ -1,0 +1,6 @@
+-- What the stream's requests and replies mean.
+pub mod Numbers
+pub mod Digest
+pub mod Seed
+pub mod Requests
+pub mod Replies

@@ -1,0 +1,2 @@
+-- Laws of text.
+pub mod Text
