@@ -11,7 +11,9 @@ use Rattle.rows.specs.Definition.Classes.{FREE, SYSTEM, SHARED}
 use Rattle.rows.specs.Definition.Channels.{sumOf}
 use Rattle.rows.specs.Definition.Sizes.{chainLength, boundaryAt}
 use Rattle.kernel.specs.Definition.Tables.{SEGMENT, withSegments}
+use Rattle.kernel.specs.Definition.Good.{Good}
 use Rattle.kernel.specs.Definition.Line.{totalOf, oneMore, grown, roomFor}
+use Rattle.kernel.specs.Laws.Chains.{line-fits}
 use Rattle.kernel.specs.declared.Tables.{Tables}
 
 pub more-made : (t : Tables) (found row held : ℕ) → found ≡ lastOf FREE (t .classes) → found ≤ 32 → row ≡ found - 1 → held ≡ t .held
@@ -34,6 +36,10 @@ grown-none k t = let e : k - k ≡ 0 = omega arith in rw e
 -- T, as the code sums it
 pub end-of : (t : Tables) (count end : ℕ) → count ≡ t .opened → end ≡ sumOf (take count (t .channels)) → end ≡ totalOf t
 end-of t count end e f = rw (f, e)
+
+-- T is no more than 32 segments hold under the highest room
+pub end-most : (t : Tables) → Good t → (end : ℕ) → end ≡ totalOf t → end ≤ 524032
+end-most t g end e = omega (arith, line-fits (t .room) (totalOf t), g .line, g .chain .most, g .room .most, g .room .top)
 
 -- the room rule, with a segment shared and with none
 module _ (t : Tables) (room n segments held row : ℕ) (count : segments ≡ t .segments) (links : held ≡ t .held) (f : row ≡ firstOf SHARED (take segments (t .classes))) where

@@ -8,7 +8,6 @@ use borrow.Author.Tests.{lt-ltb, le-ltb, le-leb, lt-leb, ltb-false, not-true, no
 use lib.Dec.{ltb}
 use lib.ListN.{length, take, set}
 use lib.Seq.{take-all}
-use Rattle.rows.specs.Definition.Channels.{sumOf}
 use Rattle.rows.specs.Definition.Devices.{disabledBy}
 use Rattle.rows.specs.Definition.Sizes.{chainLength}
 use Rattle.rows.specs.declared.Device.{Device}
@@ -37,10 +36,10 @@ neither true y e = absurd (true≢false e)
 neither false y e = (refl, e)
 
 -- the device added
-module _ (t : Tables) (m : ℕ) (name : List ℕ) (count end long held more : ℕ) (a : count ≡ t .opened) (b : end ≡ sumOf (take count (t .channels)))
+module _ (t : Tables) (m : ℕ) (name : List ℕ) (end long held more : ℕ) (b : end ≡ totalOf t)
     (e : long ≡ chainLength (t .room - m) end) (f : held ≡ t .held) (d : more ≡ long - held) where
   growth : more ≡ chainLength (t .room - m) (totalOf t) - t .held
-  growth = rw (d, f, e, b, a)
+  growth = rw (d, f, e, b)
 
   pub device-held : Good t → Links t m name → t .held + more ≤ 32
   device-held g l = rw growth (linking-held t m name g l)
@@ -59,11 +58,10 @@ module _ (t : Tables) (m room size : ℕ) (a : room ≡ t .room) (b : size ≡ m
   pub room-low : room < 256 + size → false ≡ roomToLink t m
   room-low h = let g : t .room < 256 + m = rw (a, b) at h in rw (lt-ltb _ _ g)
 
-  pub room-left : (count end : ℕ) (ok : Bool) → 256 + size ≤ room → count ≡ t .opened → end ≡ sumOf (take count (t .channels)) → ok ≡ roomFor t (t .room - m) end
-      → ok ≡ roomToLink t m
-  room-left count end ok h c e r =
+  pub room-left : (end : ℕ) (ok : Bool) → 256 + size ≤ room → end ≡ totalOf t → ok ≡ roomFor t (t .room - m) end → ok ≡ roomToLink t m
+  room-left end ok h e r =
       let g : 256 + m ≤ t .room = rw (a, b) at h in
-      rw (le-ltb _ _ g, twice) (rw (r, e, c))
+      rw (le-ltb _ _ g, twice) (rw (r, e))
 
 -- the name, the number of devices, and the room
 module _ (t : Tables) (m : ℕ) (name : List ℕ) (ok : Bool) (n : ok ≡ linkNameTest name) where

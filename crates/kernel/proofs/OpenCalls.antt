@@ -7,7 +7,7 @@ use native.Mathlib.Omega.{arith}
 use borrow.Author.Tests.{lt-ltb, le-ltb, le-leb, lt-leb, ne-eqb, ltb-false, not-false}
 use lib.Dec.{ltb}
 use lib.ListN.{length, take, set, length-take}
-use Rattle.rows.specs.Definition.Channels.{sumOf, rowIn, foundAt}
+use Rattle.rows.specs.Definition.Channels.{rowIn, foundAt}
 use Rattle.rows.specs.Laws.Channels.{found-at, found-nowhere}
 use Rattle.rows.specs.Definition.Devices.{deviceIn}
 use Rattle.rows.specs.Definition.Sizes.{chainLength}
@@ -101,17 +101,17 @@ module _ (t : Tables) (s : List ℕ) (letters : ℕ) (number : UnitNumber) (word
       rw (e, f) v
 
 -- the row appended
-module _ (t : Tables) (c : Channel) (count end size long held more : ℕ) (a : count ≡ t .opened) (b : end ≡ sumOf (take count (t .channels))) (d : size ≡ c .n)
+module _ (t : Tables) (c : Channel) (end size long held more : ℕ) (b : end ≡ totalOf t) (d : size ≡ c .n)
     (e : long ≡ chainLength (t .room) (end + (16 + size))) (f : held ≡ t .held) (m : more ≡ long - held) where
   growth : more ≡ chainLength (t .room) (totalOf t + (16 + c .n)) - t .held
-  growth = rw (m, f, e, d, b, a)
+  growth = rw (m, f, e, d, b)
 
   pub append-held : Good t → New t c → Fits t c → t .held + more ≤ 32
   append-held g new fits = rw growth (opening-held t c g new fits)
 
-  pub append-made : (after : Tables) → after ≡ grown more (withChannels t (t .opened + 1) (set (t .channels) count c)) → after ≡ opening t c
+  pub append-made : (count : ℕ) (after : Tables) → count ≡ t .opened → after ≡ grown more (withChannels t (t .opened + 1) (set (t .channels) count c)) → after ≡ opening t c
   unfolding opening
-  append-made after h = rw (h, growth, a)
+  append-made count after a h = rw (h, growth, a)
 
 -- the row, against the number of channels and the room
 module _ (t : Tables) (c : Channel) where
@@ -119,10 +119,10 @@ module _ (t : Tables) (c : Channel) where
   unfolding onOpenRow
   row-full h = rw (le-leb _ _ h)
 
-  module _ (count end size : ℕ) (ok : Bool) (few : t .opened < 32) (a : count ≡ t .opened) (b : end ≡ sumOf (take count (t .channels))) (d : size ≡ c .n)
+  module _ (end size : ℕ) (ok : Bool) (few : t .opened < 32) (b : end ≡ totalOf t) (d : size ≡ c .n)
       (r : ok ≡ roomFor t (t .room) (end + (16 + size))) where
     room-is : ok ≡ roomFor t (t .room) (totalOf t + (16 + c .n))
-    room-is = rw (r, d, b, a)
+    room-is = rw (r, d, b)
 
     pub row-none : not ok ≡ true → onOpenRow t c ≡ gives NoRoom t
     unfolding onOpenRow

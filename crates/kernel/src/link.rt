@@ -6,6 +6,7 @@ ghost use lib.ListN.{length};
 ghost use Rattle.names.specs.Definition.Words.{wordOf};
 ghost use Rattle.kernel.specs.Definition.Tables.{ramSize};
 ghost use Rattle.kernel.specs.Definition.Good.{Good};
+ghost use Rattle.kernel.specs.Definition.Line.{totalOf};
 ghost use Rattle.kernel.specs.Definition.Devices.{linking};
 ghost use Rattle.kernel.specs.Definition.Calls.{onLink};
 ghost use Rattle.kernel.specs.Definition.Calls as calls;
@@ -26,13 +27,11 @@ use rows::numbers::wide16;
 use rows::sizes::chain_length;
 
 impl Tables {
-    // The tables with one device more, an older one of its name disabled, and the chain as long as the line takes.
-    fn add_device(self, m: u16, name: &[u8]) -> Tables
-        requires { ⌜ Good self × Links self m (now name) ⌝ }
+    // The tables with one device more, an older one of its name disabled, and the chain as long as the line takes; `end` is T.
+    fn add_device(self, m: u16, name: &[u8], end: usize) -> Tables
+        requires { ⌜ Good self × Links self m (now name) × (end ≡ totalOf self) ⌝ }
         ensures { λ r. ⌜ r ≡ linking self m (wordOf (now (name .entry))) (length (now (name .entry))) ⌝ }
     {
-        let channels = self.channels;
-        let end = total(channels, wide(self.opened));
         let room = self.room - m;
         let more = less(chain_length(room, end), wide(self.held));
         let bytes = word(name, name.len());
@@ -56,16 +55,14 @@ impl Tables {
         next.grow(more)
     }
 
-    // The room rule, for a device with `m` bytes.
-    fn room_to_link(self, m: u16) -> bool
-        requires { ⌜ Good self ⌝ }
+    // The room rule, for a device with `m` bytes; `end` is T.
+    fn room_to_link(self, m: u16, end: usize) -> bool
+        requires { ⌜ Good self × (end ≡ totalOf self) ⌝ }
         ensures { λ r. ⌜ r ≡ roomToLink self m ⌝ }
     {
         if wide16(self.room) < 256 + wide16(m) {
             return false;
         }
-        let channels = self.channels;
-        let end = total(channels, wide(self.opened));
         self.room_for(self.room - m, end)
     }
 
@@ -88,13 +85,13 @@ impl Tables {
         if 16 <= self.known {
             return self.refuse(Answer::Full);
         }
-        if !self.room_to_link(m) {
-            return self.refuse(Answer::NoRoom);
-        }
-        let next = self.add_device(m, name);
-        let chain = next.chain;
         let channels = self.channels;
         let end = total(channels, wide(self.opened));
+        if !self.room_to_link(m, end) {
+            return self.refuse(Answer::NoRoom);
+        }
+        let next = self.add_device(m, name, end);
+        let chain = next.chain;
         link_line(ram, &chain, wide16(self.room), wide16(m), end);
         Outcome {
             answer: Answer::Done(self.known, next.room),

@@ -7,7 +7,7 @@ ghost use lib.ListN.{length, take};
 ghost use Rattle.names.specs.Definition.Read.{reading};
 ghost use Rattle.kernel.specs.Definition.Tables.{ramSize, channelAt};
 ghost use Rattle.kernel.specs.Definition.Good.{Good};
-ghost use Rattle.kernel.specs.Definition.Line.{opening};
+ghost use Rattle.kernel.specs.Definition.Line.{totalOf, opening};
 ghost use Rattle.kernel.specs.Definition.Names.{wantedBy};
 ghost use Rattle.kernel.specs.Definition.Calls.{onOpen, onOpenNamed, onOpenTo};
 ghost use Rattle.kernel.specs.Definition.Calls as calls;
@@ -80,14 +80,13 @@ impl Tables {
         }
     }
 
-    // The tables with one row more, and the chain as long as the line takes.
-    fn append(self, c: Channel) -> Tables
-        requires { ⌜ Good self × New self c × Fits self c ⌝ }
+    // The tables with one row more, and the chain as long as the line takes; `end` is T, where the record starts.
+    fn append(self, c: Channel, end: usize) -> Tables
+        requires { ⌜ Good self × New self c × Fits self c × (end ≡ totalOf self) ⌝ }
         ensures { λ r. ⌜ r ≡ opening self c ⌝ }
     {
         let opened = wide(self.opened);
-        let channels = self.channels;
-        let size = total(channels, opened) + (16 + wide16(c.n));
+        let size = end + (16 + wide16(c.n));
         let more = less(chain_length(self.room, size), wide(self.held));
         let mut next = self;
         next.opened = self.opened + 1;
@@ -113,7 +112,7 @@ impl Tables {
         if !self.room_for(room, end + (16 + wide16(c.n))) {
             return self.refuse(Answer::NoRoom);
         }
-        let next = self.append(c);
+        let next = self.append(c, end);
         let chain = next.chain;
         open_record(
             ram,

@@ -14,7 +14,7 @@ use Rattle.kernel.specs.Laws.Facts.{chain-exactly}
 use Rattle.kernel.specs.declared.Tables.{Tables}
 
 -- a line lies in as many segments as it takes
-line-fits : (r n : ℕ) → n ≤ r + 16384 * (chainLength r n - 1)
+pub line-fits : (r n : ℕ) → n ≤ r + 16384 * (chainLength r n - 1)
 line-fits r n = elim (decLe n r) [ yes h ↦ omega arith | no h ↦ let e : Ends r n (chainLength r n - 1) _ = ends r n (omega arith) in omega (arith, e .sum) ]
 
 pub good-chain : (t : Tables) (size : ℕ) → Good t → size ≡ ramSize t → Chain (t .chain) (t .room) (totalOf t) size

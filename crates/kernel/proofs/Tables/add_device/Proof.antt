@@ -1,24 +1,19 @@
 -- `Tables::add_device` meets its contract.
 use borrow.Author.Needs.{needs}
 use Rattle.kernel.proofs.NoChange.{grown-none}
+use Rattle.kernel.proofs.GrowCalls.{end-most}
 use Rattle.kernel.proofs.LinkCalls.{device-held, device-made}
 use Rattle.kernel.proofs.Tables.add_device.Statement.{statement}
 use Rattle.kernel.proofs.Tables.add_device.Tie as tie
-
-wide-requires : tie.Need-wide-requires
-wide-requires c κs = search needs
-
-total-requires : tie.Need-total-requires
-total-requires c κs = search needs
 
 sub-room : tie.Need-sub-room
 sub-room c = search needs
 
 chain-length-requires : tie.Need-chain-length-requires
-chain-length-requires c κs = search needs
+chain-length-requires c κs = let s = c .before .before in let h = end-most _ (s .pre .0) _ (s .pre .2) in search needs
 
-wide-requires-2 : tie.Need-wide-requires-2
-wide-requires-2 c κs = search needs
+wide-requires : tie.Need-wide-requires
+wide-requires c κs = search needs
 
 less-requires : tie.Need-less-requires
 less-requires c κs = search needs
@@ -32,8 +27,8 @@ cast-length c = search needs
 disable-requires : tie.Need-disable-requires
 disable-requires c κs = search needs
 
-wide-requires-3 : tie.Need-wide-requires-3
-wide-requires-3 c κs = search needs
+wide-requires-2 : tie.Need-wide-requires-2
+wide-requires-2 c κs = search needs
 
 mul-rows : tie.Need-mul-rows
 mul-rows c = search needs
@@ -45,28 +40,39 @@ add-next : tie.Need-add-next
 add-next c = search needs
 
 returns : tie.Need-returns
-returns c = device-made (c .before .before .before .before .before .before .before .before .before .before .before .before .before .before .args .self) (c .before .before .before .before .before .before .before .before .before .before .before .before .before .before .args .m) _ _ _ _ _ _ (c .before .before .before .before .before .before .before .before .before .before .before .wide .ensures .0) (c .before .before .before .before .before .before .before .before .before .before .total .ensures .0) (c .before .before .before .before .before .before .before .before .chain-length .ensures) (c .before .before .before .before .before .before .before .wide2 .ensures .0) (c .before .before .before .before .before .before .less .ensures) _ _ _ _ (c .before .before .before .before .before .word .ensures) (c .before .before .before .disable .ensures) (c .before .before .wide3 .ensures .0) (grown-none _ _ (c .if1 .taken))
+returns c =
+    let d = c .before .before .before in
+    let l = d .before .before .before in
+    let s = l .before .before .before .before .before in
+    device-made (s .args .self) (s .args .m) _ _ _ _ _ (s .pre .2) (l .before .before .chain-length .ensures) (l .before .wide .ensures .0) (l .less .ensures) _ _ _ _
+    (d .before .before .word .ensures) (d .disable .ensures) (c .before .before .wide2 .ensures .0) (grown-none _ _ (c .if1 .taken))
 
 grow-requires : tie.Need-grow-requires
-grow-requires c κs = device-held (c .before .before .before .before .before .before .before .before .before .before .before .before .before .before .args .self) (c .before .before .before .before .before .before .before .before .before .before .before .before .before .before .args .m) _ _ _ _ _ _ (c .before .before .before .before .before .before .before .before .before .before .before .wide .ensures .0) (c .before .before .before .before .before .before .before .before .before .before .total .ensures .0) (c .before .before .before .before .before .before .before .before .chain-length .ensures) (c .before .before .before .before .before .before .before .wide2 .ensures .0) (c .before .before .before .before .before .before .less .ensures) (c .before .before .before .before .before .before .before .before .before .before .before .before .before .before .pre .0) (c .before .before .before .before .before .before .before .before .before .before .before .before .before .before .pre .1)
+grow-requires c κs =
+    let l = c .before .before .before .before .before .before in
+    let s = l .before .before .before .before .before in
+    device-held (s .args .self) (s .args .m) _ _ _ _ _ (s .pre .2) (l .before .before .chain-length .ensures) (l .before .wide .ensures .0) (l .less .ensures) (s .pre .0) (s .pre .1)
 
 returns-2 : tie.Need-returns-2
-returns-2 c = device-made (c .before .before .before .before .before .before .before .before .before .before .before .before .before .before .before .args .self) (c .before .before .before .before .before .before .before .before .before .before .before .before .before .before .before .args .m) _ _ _ _ _ _ (c .before .before .before .before .before .before .before .before .before .before .before .before .wide .ensures .0) (c .before .before .before .before .before .before .before .before .before .before .before .total .ensures .0) (c .before .before .before .before .before .before .before .before .before .chain-length .ensures) (c .before .before .before .before .before .before .before .before .wide2 .ensures .0) (c .before .before .before .before .before .before .before .less .ensures) _ _ _ _ (c .before .before .before .before .before .before .word .ensures) (c .before .before .before .before .disable .ensures) (c .before .before .before .wide3 .ensures .0) (c .grow .ensures)
+returns-2 c =
+    let d = c .before .before .before .before in
+    let l = d .before .before .before in
+    let s = l .before .before .before .before .before in
+    device-made (s .args .self) (s .args .m) _ _ _ _ _ (s .pre .2) (l .before .before .chain-length .ensures) (l .before .wide .ensures .0) (l .less .ensures) _ _ _ _
+    (d .before .before .word .ensures) (d .disable .ensures) (c .before .before .before .wide2 .ensures .0) (c .grow .ensures)
 
 pub add-device-spec : {M : Type 1} → statement M
 add-device-spec =
     tie.close
     (tie.spec
-    wide-requires
-    total-requires
     sub-room
     chain-length-requires
-    wide-requires-2
+    wide-requires
     less-requires
     word-requires
     cast-length
     disable-requires
-    wide-requires-3
+    wide-requires-2
     mul-rows
     array-set-from-rows
     add-next

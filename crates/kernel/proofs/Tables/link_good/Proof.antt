@@ -1,6 +1,7 @@
 -- `Tables::link_good` meets its contract.
-use mathlib.Core.Path.{refl}
+use mathlib.Core.Path.{_≡_, refl}
 use borrow.Author.Needs.{needs}
+use Rattle.kernel.specs.Definition.Line.{totalOf}
 use Rattle.kernel.specs.Laws.Links.{Links}
 use Rattle.kernel.proofs.Refusing.{refused}
 use Rattle.kernel.proofs.GrowCalls.{end-of}
@@ -8,12 +9,16 @@ use Rattle.kernel.proofs.LinkCalls.{link-unnamed, link-full, link-none,
 use Rattle.kernel.proofs.Tables.link_good.Statement.{statement}
 use Rattle.kernel.proofs.Tables.link_good.Tie as tie
 
+-- the line's end is T
+end : (c : tie.After-total) → c .total .result ≡ totalOf (c .before .before .before .before .before .before .before .before .before .args .self)
+end c = end-of (c .before .before .before .before .before .before .before .before .before .args .self) _ _ (c .before .wide .ensures .0) (c .total .ensures .0)
+
 -- once the room is known: the device may be linked
 links : (c : tie.Else3) →
-    let s = c .before .before .before .before .before .before .before .before .args in
+    let s = c .before .before .before .before .before .before .before .before .before .before .before .args in
     Links (s .self) (s .m) (s .name .now)
 links c =
-    links-of _ _ _ _ (c .before .before .before .before .before .link-name .ensures) (c .before .before .before .before .if1 .left) (c .before .before .if2 .left) _
+    links-of _ _ _ _ (c .before .before .before .before .before .before .before .before .link-name .ensures) (c .before .before .before .before .before .before .before .if1 .left) (c .before .before .before .before .before .if2 .left) _
     (c .before .room-to-link .ensures) (c .if3 .left)
 
 link-name-requires : tie.Need-link-name-requires
@@ -31,27 +36,27 @@ refuse-requires-2 c κs = search needs
 returns-2 : tie.Need-returns-2
 returns-2 c = λ out. refused (c .before .before .before .before .before .before .before .args .self) _ _ _ _ _ out (c .refuse2 .ensures) refl (link-full _ _ _ _ (c .before .before .before .before .link-name .ensures) (c .before .before .before .if1 .left) (c .before .if2 .taken))
 
+wide-requires : tie.Need-wide-requires
+wide-requires c κs = search needs
+
+total-requires : tie.Need-total-requires
+total-requires c κs = search needs
+
 room-to-link-requires : tie.Need-room-to-link-requires
-room-to-link-requires c κs = search needs
+room-to-link-requires c κs = (c .before .before .before .before .before .before .before .before .before .pre .0, end c)
 
 refuse-requires-3 : tie.Need-refuse-requires-3
 refuse-requires-3 c κs = search needs
 
 returns-3 : tie.Need-returns-3
 returns-3 c =
-    let s = c .before .before .before .before .before .before .before .before .before in
+    let s = c .before .before .before .before .before .before .before .before .before .before .before .before in
     λ out. refused (s .args .self) _ _ _ _ _ out (c .refuse3 .ensures) refl
-    (link-none _ _ _ _ (c .before .before .before .before .before .before .link-name .ensures) (c .before .before .before .before .before .if1 .left)
-    (c .before .before .before .if2 .left) _ (c .before .before .room-to-link .ensures) (c .before .if3 .taken))
+    (link-none _ _ _ _ (c .before .before .before .before .before .before .before .before .before .link-name .ensures) (c .before .before .before .before .before .before .before .before .if1 .left)
+    (c .before .before .before .before .before .before .if2 .left) _ (c .before .before .room-to-link .ensures) (c .before .if3 .taken))
 
 add-device-requires : tie.Need-add-device-requires
-add-device-requires c κs = (c .before .before .before .before .before .before .before .before .pre .0, links c)
-
-wide-requires : tie.Need-wide-requires
-wide-requires c κs = search needs
-
-total-requires : tie.Need-total-requires
-total-requires c κs = search needs
+add-device-requires c κs = (c .before .before .before .before .before .before .before .before .before .before .before .pre .0, links c, end (c .before .before))
 
 wide16-requires : tie.Need-wide16-requires
 wide16-requires c κs = search needs
@@ -61,12 +66,11 @@ wide16-requires-2 c κs = search needs
 
 link-line-requires : tie.Need-link-line-requires
 link-line-requires c κs =
-    let t = c .before .before .before .before in
-    let a = t .before .before .before .before in
+    let a = c .before .before .before .before .before in
     let d = a .before in
-    let s = d .before .before .before .before .before .before .before .before in
+    let s = d .before .before .before .before .before .before .before .before .before .before .before in
     link-chain (s .args .self) _ _ (s .pre .0) (links d) _ (a .add-device .ensures) _ _ _ (c .before .wide16 .ensures .0) (c .wide162 .ensures .0)
-    (end-of (s .args .self) _ _ (t .before .wide .ensures .0) (t .total .ensures .0)) _ (s .pre .1)
+    (end (d .before .before)) _ (s .pre .1)
 
 same-length : tie.Need-same-length
 same-length c = search needs
@@ -74,14 +78,13 @@ same-length c = search needs
 returns-4 : tie.Need-returns-4
 returns-4 c =
     let w = c .before .before .before in
-    let t = w .before .before .before .before in
-    let a = t .before .before .before .before in
+    let a = w .before .before .before .before .before in
     let d = a .before in
-    let s = d .before .before .before .before .before .before .before .before in
+    let s = d .before .before .before .before .before .before .before .before .before .before .before in
     λ out. link-done (s .args .self) _ _ (s .pre .0) (links d) _ (a .add-device .ensures) _ _ _ (w .before .wide16 .ensures .0) (w .wide162 .ensures .0)
-    (end-of (s .args .self) _ _ (t .before .wide .ensures .0) (t .total .ensures .0)) _ _ out (c .before .before .link-line .ensures)
-    (link-answer _ _ _ _ (d .before .before .before .before .before .link-name .ensures) (d .before .before .before .before .if1 .left)
-    (d .before .before .if2 .left) _ (d .before .room-to-link .ensures) (d .if3 .left))
+    (end (d .before .before)) _ _ out (c .before .before .link-line .ensures)
+    (link-answer _ _ _ _ (d .before .before .before .before .before .before .before .before .link-name .ensures) (d .before .before .before .before .before .before .before .if1 .left)
+    (d .before .before .before .before .before .if2 .left) _ (d .before .room-to-link .ensures) (d .if3 .left))
 
 pub link-good-spec : {M : Type 1} → statement M
 link-good-spec =
@@ -92,12 +95,12 @@ link-good-spec =
     returns
     refuse-requires-2
     returns-2
+    wide-requires
+    total-requires
     room-to-link-requires
     refuse-requires-3
     returns-3
     add-device-requires
-    wide-requires
-    total-requires
     wide16-requires
     wide16-requires-2
     link-line-requires

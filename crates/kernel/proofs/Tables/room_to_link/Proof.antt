@@ -1,5 +1,6 @@
 -- `Tables::room_to_link` meets its contract.
 use borrow.Author.Needs.{needs}
+use Rattle.kernel.proofs.GrowCalls.{end-most}
 use Rattle.kernel.proofs.LinkCalls.{room-low, room-left}
 use Rattle.kernel.proofs.Tables.room_to_link.Statement.{statement}
 use Rattle.kernel.proofs.Tables.room_to_link.Tie as tie
@@ -16,20 +17,16 @@ add-if1 c = search needs
 returns : tie.Need-returns
 returns c = room-low (c .before .before .before .args .self) _ _ _ (c .before .before .wide16 .ensures .0) (c .before .wide162 .ensures .0) (c .if1 .taken)
 
-wide-requires : tie.Need-wide-requires
-wide-requires c κs = search needs
-
-total-requires : tie.Need-total-requires
-total-requires c κs = search needs
-
 sub-room-for : tie.Need-sub-room-for
 sub-room-for c = search needs
 
 room-for-requires : tie.Need-room-for-requires
-room-for-requires c κs = search needs
+room-for-requires c κs = let s = c .before .before .before .before in let h = end-most _ (s .pre .0) _ (s .pre .1) in search needs
 
 returns-2 : tie.Need-returns-2
-returns-2 c = room-left (c .before .before .before .before .before .before .before .before .args .self) _ _ _ (c .before .before .before .before .before .before .before .wide16 .ensures .0) (c .before .before .before .before .before .before .wide162 .ensures .0) _ _ _ (c .before .before .before .before .before .if1 .left) (c .before .before .before .wide .ensures .0) (c .before .before .total .ensures .0) (c .room-for .ensures)
+returns-2 c =
+    let s = c .before .before .before .before .before in
+    room-left (s .args .self) _ _ _ (c .before .before .before .before .wide16 .ensures .0) (c .before .before .before .wide162 .ensures .0) _ _ (c .before .before .if1 .left) (s .pre .1) (c .room-for .ensures)
 
 pub room-to-link-spec : {M : Type 1} → statement M
 room-to-link-spec =
@@ -39,8 +36,6 @@ room-to-link-spec =
     wide16-requires-2
     add-if1
     returns
-    wide-requires
-    total-requires
     sub-room-for
     room-for-requires
     returns-2)
