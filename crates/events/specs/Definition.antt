@@ -1,2 +1,2 @@
--- Event records as calls.
+-- Event records, as they stand in a log and as calls.
 pub mod Records

@@ -1,2 +1,3 @@
--- What a call can hold that a record brings.
+-- What stands at the front of a log, and what a call can hold that a record brings.
+pub mod Next
 pub mod Bodies

@@ -8,9 +8,10 @@ use lib.ListN.{length, getD, take, drop, set, length-drop}
 use lib.Seq.{drop-drop, getD-drop, take-suc-set, take-suc, drop-set-lt}
 use borrow.Author.Tests.{eq-eqb, ne-eqb}
 use Rattle.kernel.specs.declared.Tables.{Tables}
+use Rattle.events.specs.Definition.Records.{broken, next}
 use Rattle.text.specs.Definition.Put.{Put}
 use Rattle.text.specs.Laws.Text.{put-none}
-use Rattle.listing.specs.Definition.Log.{broken, next, textFrom, badText}
+use Rattle.listing.specs.Definition.Log.{textFrom, badText}
 use Rattle.listing.specs.Laws.Log.{text-found, text-broken}
 use Rattle.listing.specs.Laws.Pieces.{Stepped, Whole, Carry, ending}
 

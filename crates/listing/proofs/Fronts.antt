@@ -5,57 +5,39 @@ use Prim.Native.Nat.{ℕ, _+_, _-_, _<_, _≤_}
 use native.Mathlib.Omega.{arith}
 use lib.ListN.{length, take, drop, length-append, length-drop, List·getD-append}
 use lib.Seq.{take-append-le, drop-append-le}
-use borrow.Author.Tests.{ne-eqb, lt-ltb, le-ltb}
-use Rattle.events.specs.Definition.Records.{u16At}
+use borrow.Author.Tests.{ne-eqb}
+use Rattle.events.specs.Definition.Records.{u16At, broken, next}
+use Rattle.events.specs.Laws.Next.{next-cut, next-low, next-high, next-short, next-whole}
 use Rattle.events.proofs.Laws.{rest-of}
 use Rattle.listing.specs.declared.Front.{Front}
 use Rattle.listing.specs.declared.Front.the-variants.{Record, Cut, Bad}
-use Rattle.listing.specs.Definition.Log.{broken, found, next}
 use Rattle.listing.specs.Laws.Pieces.{Short, Whole, Stands}
 
 -- less than a length
 pub short-two : (xs : List ℕ) → length xs < 2 → Short xs
-unfolding next
-short-two xs l = record { stops = rw (lt-ltb (length xs) 2 l); short = omega arith }
+short-two xs l = record { stops = next-cut xs l; short = omega arith }
 
 module _ (xs : List ℕ) (n : ℕ) (e : n ≡ u16At xs 0) (l : 2 ≤ length xs) where
   -- less than a record
   pub short-record : 2 ≤ n → n ≤ 4096 → length xs < n + 2 → Short xs
-  unfolding next
   short-record h g c =
-      record { stops = rw (← e, le-ltb (length xs) 2 l, le-ltb n 2 h, le-ltb 4096 n g, lt-ltb (length xs) (n + 2) c); short = omega arith }
+      record { stops = rw (next-short xs n e l h g c, ne-eqb (length xs) 0 (λ q. omega arith)); short = omega arith }
 
   -- the fields at the front stay, whatever follows
   field : (ys : List ℕ) (i : ℕ) → i + 1 < length xs → u16At (xs ++ ys) i ≡ u16At xs i
   field ys i h = rw (List·getD-append xs ys 0 i (omega arith), List·getD-append xs ys 0 (i + 1) h)
 
-  size : (ys : List ℕ) → u16At (xs ++ ys) 0 ≡ n
-  size ys = field ys 0 (omega arith) ∙ sym e
+  size : (ys : List ℕ) → n ≡ u16At (xs ++ ys) 0
+  size ys = e ∙ sym (field ys 0 (omega arith))
 
-  long : (ys : List ℕ) → length xs ≤ length (xs ++ ys)
-  long ys = rw length-append (omega arith)
+  long : (m : ℕ) (ys : List ℕ) → m ≤ length xs → m ≤ length (xs ++ ys)
+  long m ys h = rw length-append (omega arith)
 
   pub bad-low : n < 2 → (ys : List ℕ) → next (xs ++ ys) ≡ broken
-  unfolding next
-  bad-low h ys =
-      let k = long ys in
-      let z = length (xs ++ ys) in
-      rw (size ys, ne-eqb z 0 (λ q. omega arith), le-ltb z 2 (omega arith), lt-ltb n 2 h)
+  bad-low h ys = next-low (xs ++ ys) n (size ys) (long 2 ys l) h
 
   pub bad-high : 4096 < n → (ys : List ℕ) → next (xs ++ ys) ≡ broken
-  unfolding next
-  bad-high h ys =
-      let k = long ys in
-      let z = length (xs ++ ys) in
-      rw (size ys, ne-eqb z 0 (λ q. omega arith), le-ltb z 2 (omega arith), le-ltb n 2 (omega arith), lt-ltb 4096 n h)
-
-  is-found : 2 ≤ n → n ≤ 4096 → n + 2 ≤ length xs → (ys : List ℕ)
-      → next (xs ++ ys) ≡ found (u16At (xs ++ ys) 2) (take (n - 2) (drop 4 (xs ++ ys))) (drop (n + 2) (xs ++ ys))
-  unfolding next
-  is-found h g c ys =
-      let k = long ys in
-      let z = length (xs ++ ys) in
-      rw (size ys, ne-eqb z 0 (λ q. omega arith), le-ltb z 2 (omega arith), le-ltb n 2 h, le-ltb 4096 n g, le-ltb z (n + 2) (omega arith))
+  bad-high h ys = next-high (xs ++ ys) n (size ys) (long 2 ys l) h
 
   pub whole-record : 2 ≤ n → n ≤ 4096 → n + 2 ≤ length xs → (kind : ℕ) → kind ≡ u16At xs 2 → Whole xs kind (n - 2)
   whole-record h g c kind f =
@@ -65,7 +47,7 @@ module _ (xs : List ℕ) (n : ℕ) (e : n ≡ u16At xs 0) (l : 2 ≤ length xs) 
             let m : n + 2 ≡ 4 + (n - 2) = omega arith in
             let d : 4 ≤ length xs = omega arith in
             let b : n - 2 ≤ length (drop 4 xs) = rw length-drop (omega arith) in
-            is-found h g c ys
+            next-whole (xs ++ ys) n (size ys) (long 2 ys l) h g (long (n + 2) ys c)
             ∙ rw (field ys 2 (omega arith), ← f, drop-append-le 4 xs ys d, take-append-le (n - 2) (drop 4 xs) ys b, drop-append-le (n + 2) xs ys c, m);
       }
 

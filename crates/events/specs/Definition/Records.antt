@@ -1,8 +1,8 @@
--- "Calls and their bodies": an event record's kind and body as a call, and what that call leaves.
+-- "Calls and their bodies": the event record at the front of a log, its kind and body as a call, and what that call leaves.
 use mathlib.Core.Bool.{cond}
 use mathlib.Core.List.{List}
-use Prim.Native.Nat.{ℕ, _+_, _*_}
-use lib.ListN.{length, getD, drop}
+use Prim.Native.Nat.{ℕ, _+_, _-_, _*_}
+use lib.ListN.{length, getD, take, drop}
 use lib.Dec.{ltb, eqb}
 use Rattle.kernel.specs.Definition.Calls.{Call, start, reset, «open», close, read, write, default, status, link, boundary, set-user-boundary, allocate, free, store, load, no-call, short-start}
 use Rattle.kernel.specs.Definition.Step.{Result, step}
@@ -14,6 +14,23 @@ u8At body i = getD body i 0
 
 abbrev pub u16At : (body : List ℕ) (i : ℕ) → ℕ
 u16At body i = u8At body i + 256 * u8At body (i + 1)
+
+-- what stands at the front of a log: nothing, "A bad length or cut record", or a record and the rest
+pub data Next : Type 0 where
+  finished : Next
+  broken : Next
+  found : (kind : ℕ) (body rest : List ℕ) → Next
+
+-- "An event record (build): length in 2 bytes counting kind and body (2 to 4,096), kind in 2 bytes, body."
+unfoldable pub next : List ℕ → Next
+next xs =
+    let n = u16At xs 0 in
+    cond (eqb (length xs) 0) finished
+    (cond (ltb (length xs) 2) broken
+    (cond (ltb n 2) broken
+    (cond (ltb 4096 n) broken
+    (cond (ltb (length xs) (n + 2)) broken
+    (found (u16At xs 2) (take (n - 2) (drop 4 xs)) (drop (n + 2) xs))))))
 
 -- 2 CALL: "body short of its fixed fields": these are n bytes, and a name, data or list is the rest of the body
 abbrev pub atLeast : (n : ℕ) (body : List ℕ) → Call → Call

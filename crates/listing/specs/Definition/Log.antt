@@ -1,7 +1,7 @@
 -- "The listing program": the text of a log of event records.
 use mathlib.Core.Bool.{Bool, cond, _&&_, _||_}
 use mathlib.Core.List.{List, [], _∷_, _++_}
-use Prim.Native.Nat.{ℕ, zero, suc, _+_, _-_, _*_, min}
+use Prim.Native.Nat.{ℕ, zero, suc, _-_, _*_, min}
 use lib.ListN.{length, take, drop, replicate}
 use lib.Dec.{ltb, eqb}
 use Rattle.kernel.specs.Definition.Tables.{SEGMENT}
@@ -9,7 +9,7 @@ use Rattle.kernel.specs.Definition.Reset.{noTables}
 use Rattle.kernel.specs.Definition.Answers.{numberOf, aOf, bOf}
 use Rattle.kernel.specs.Definition.Step.{Result}
 use Rattle.kernel.specs.declared.Tables.{Tables}
-use Rattle.events.specs.Definition.Records.{u16At, stepOf}
+use Rattle.events.specs.Definition.Records.{Next, finished, broken, found, next, stepOf}
 use Rattle.text.specs.Definition.Text.{fieldsOf, hexOf}
 
 -- "a fifth field .. where 6, 20 or 258 is done with b > 0"
@@ -34,23 +34,6 @@ onRest ram n r = record { answer = r .answer; tables = r .tables; ram = r .ram +
 -- what one record leaves of the tables, of the four segments and of the output
 unfoldable pub logStep : Tables → (ram out : List ℕ) (kind : ℕ) (body : List ℕ) → Result
 logStep t ram out kind body = let n = lentTo (t .segments) kind (length body) in onRest ram n (stepOf t (take n ram) kind body out)
-
--- what stands at the front of the input: nothing, "A bad length or cut record", or a record and the rest
-pub data Next : Type 0 where
-  finished : Next
-  broken : Next
-  found : (kind : ℕ) (body rest : List ℕ) → Next
-
--- "length in 2 bytes counting kind and body (2 to 4,096), kind in 2 bytes, body"
-unfoldable pub next : List ℕ → Next
-next xs =
-    let n = u16At xs 0 in
-    cond (eqb (length xs) 0) finished
-    (cond (ltb (length xs) 2) broken
-    (cond (ltb n 2) broken
-    (cond (ltb 4096 n) broken
-    (cond (ltb (length xs) (n + 2)) broken
-    (found (u16At xs 2) (take (n - 2) (drop 4 xs)) (drop (n + 2) xs))))))
 
 -- `bad` and a newline
 abbrev pub badText : List ℕ

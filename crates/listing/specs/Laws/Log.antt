@@ -1,42 +1,15 @@
 -- The listing record by record: its text is the first record's line and then the text of what follows.
 use mathlib.Core.Path.{_≡_, refl, ap, _∙_}
-use mathlib.Core.Bool.{Bool, true, false, cond}
 use mathlib.Core.List.{List, [], _∷_, _++_, append-nil}
-use Prim.Native.Nat.{ℕ, zero, suc, _+_, _-_, _<_, _≤_}
+use Prim.Native.Nat.{ℕ, zero, suc, _≤_}
 use native.Mathlib.Omega.{arith}
-use lib.ListN.{length, take, drop, length-drop}
+use lib.ListN.{length, drop}
 use lib.Seq.{take-all}
-use lib.Dec.{eqb, ltb}
-use borrow.Author.Tests.{eq-eqb, eqb-false}
 use Rattle.kernel.specs.Definition.Step.{decided, completed, step}
 use Rattle.kernel.specs.declared.Tables.{Tables}
-use Rattle.events.specs.Definition.Records.{u16At, callIn}
-use Rattle.listing.specs.Definition.Log.{logStep, lineAfter, lentTo, Next, finished, broken, found, next, turn, textIn, textFrom, badText}
-
-only : (b₁ b₂ b₃ b₄ b₅ : Bool) (k k′ : ℕ) (b b′ r r′ : List ℕ)
-    → cond b₁ finished (cond b₂ broken (cond b₃ broken (cond b₄ broken (cond b₅ broken (found k b r))))) ≡ found k′ b′ r′ → (b₁ ≡ false) × (r ≡ r′)
-only true b₂ b₃ b₄ b₅ k k′ b b′ r r′ e = absurd (let z : _≡_ {A = ℕ} 0 1 = cc in omega arith)
-only false true b₃ b₄ b₅ k k′ b b′ r r′ e = absurd (let z : _≡_ {A = ℕ} 0 1 = cc in omega arith)
-only false false true b₄ b₅ k k′ b b′ r r′ e = absurd (let z : _≡_ {A = ℕ} 0 1 = cc in omega arith)
-only false false false true b₅ k k′ b b′ r r′ e = absurd (let z : _≡_ {A = ℕ} 0 1 = cc in omega arith)
-only false false false false true k k′ b b′ r r′ e = absurd (let z : _≡_ {A = ℕ} 0 1 = cc in omega arith)
-only false false false false false k k′ b b′ r r′ e = (refl, cc)
-
--- a record takes bytes
-shorter : (xs : List ℕ) (kind : ℕ) (body rest : List ℕ) → next xs ≡ found kind body rest → length rest < length xs
-unfolding next
-shorter xs kind body rest e =
-    let n = u16At xs 0 in
-    let h = only (eqb (length xs) 0) (ltb (length xs) 2) (ltb n 2) (ltb 4096 n) (ltb (length xs) (n + 2)) (u16At xs 2) kind (take (n - 2) (drop 4 xs)) body (drop (n + 2) xs) rest e in
-    rw (← h .1, length-drop) (some (length xs) n (eqb-false (length xs) 0 (h .0)))
-  where
-    some : (l m : ℕ) → (l ≡ 0 → ⊥) → l - (m + 2) < l
-    some zero m f = absurd (f refl)
-    some (suc l) m f = omega arith
-
-next-none : (xs : List ℕ) → length xs ≤ 0 → next xs ≡ finished
-unfolding next
-next-none xs h = rw (eq-eqb (length xs) 0 (omega arith))
+use Rattle.events.specs.Definition.Records.{Next, finished, broken, found, next, callIn}
+use Rattle.events.specs.Laws.Next.{next-none, shorter}
+use Rattle.listing.specs.Definition.Log.{logStep, lineAfter, lentTo, turn, textIn, textFrom, badText}
 
 same-on : (f g : Tables → List ℕ → List ℕ → List ℕ → List ℕ) (t : Tables) (ram out : List ℕ) (v : Next)
     → ((t′ : Tables) (ram′ out′ : List ℕ) (kind : ℕ) (body rest : List ℕ) → v ≡ found kind body rest → f t′ ram′ out′ rest ≡ g t′ ram′ out′ rest)

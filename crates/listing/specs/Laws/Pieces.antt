@@ -6,6 +6,7 @@ use Prim.Native.Nat.{ℕ, _+_, _≤_, _<_}
 use lib.ListN.{length, take, drop}
 use lib.Dec.{eqb}
 use Rattle.kernel.specs.declared.Tables.{Tables}
+use Rattle.events.specs.Definition.Records.{finished, broken, found, next}
 use Rattle.text.specs.Definition.Put.{Put}
 use Rattle.listing.specs.declared.Front.{Front}
 use Rattle.listing.specs.declared.Front.the-variants.{Record, Cut, Bad}
@@ -13,7 +14,7 @@ use Rattle.listing.specs.declared.Listed.{Listed}
 use Rattle.listing.specs.declared.Listed.the-variants.{Text, Over}
 use Rattle.listing.specs.declared.Stop.{Stop}
 use Rattle.listing.specs.declared.Stop.the-variants.{More, Full, Bad as Ends}
-use Rattle.listing.specs.Definition.Log.{logStep, lineAfter, finished, broken, found, next, textFrom, listing, badText}
+use Rattle.listing.specs.Definition.Log.{logStep, lineAfter, textFrom, listing, badText}
 
 -- what one record leaves: the definition's tables, RAM and output, and its line in the text
 pub record Stepped (t : Tables) (ram out : List ℕ) (kind : ℕ) (body text : List ℕ) (used : ℕ) (t′ : Tables) (ram′ out′ text′ : List ℕ) (used′ : ℕ) : Type 0 where
