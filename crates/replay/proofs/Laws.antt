@@ -16,9 +16,9 @@ use Rattle.kernel.specs.Laws.Ready.{Ready, decided-ready}
 use Rattle.kernel.specs.declared.Tables.{Tables}
 use Rattle.kernel.specs.declared.Outcome.{Outcome}
 use Rattle.events.specs.Definition.Records.{u16At, callIn, stepOf}
-use Rattle.events.specs.Laws.Bodies.{Bytes, call-fields}
-use Rattle.replay.specs.Definition.Replay.{sizeOf, front, records, bytesOf, asked, replayed}
-use Rattle.replay.specs.Laws.Records.{whole-size, records-none, records-more, at-front}
+use Rattle.events.specs.Laws.Bodies.{Bytes, decode-fields}
+use Rattle.replay.specs.Definition.Replay.{records, bytesOf, asked, replayed}
+use Rattle.replay.specs.Laws.Records.{sizeOf, front, size-fits, records-none, records-more, at-front}
 
 pub accepted-ready : (t : Tables) (ram : ℕ) (b : Bool) → b ≡ accepted t ram → (b ≡ true → Good t) → b ≡ true → Ready t ram
 accepted-ready t ram b e g h = record { good = g h; size = eqb-true ram (ramSize t) (and-right (goodTest t) (eqb ram (ramSize t)) (sym e ∙ h)) }
@@ -31,15 +31,15 @@ stays-ready t ram kind body out r ram' out' h b l e =
 
 -- the record that stands at a place lies in the buffer
 lies : (xs : List ℕ) (at n : ℕ) → at ≤ length xs → n ≡ sizeOf (drop at xs) → (n ≡ 0 → ⊥) → (4 ≤ n) × (at + n ≤ length xs)
-lies xs at n h e s = let w = whole-size (drop at xs) n e s in (w .least, omega (arith, w .fits, w .least, length-drop at xs))
+lies xs at n h e s = let w = size-fits (drop at xs) n e s in (w .0, omega (arith, w, length-drop at xs))
 
 -- and takes its length, its kind and its body
 body-long : (ys : List ℕ) (n : ℕ) → n ≡ sizeOf ys → (n ≡ 0 → ⊥) → 4 + length (front ys .body) ≡ n
 body-long ys n e s =
-    let w = whole-size ys n e s in
-    let l : n - 4 ≤ length (drop 4 ys) = omega (arith, w .fits, length-drop 4 ys) in
+    let w = size-fits ys n e s in
+    let l : n - 4 ≤ length (drop 4 ys) = omega (arith, w, length-drop 4 ys) in
     let b : length (take (n - 4) (drop 4 ys)) ≡ n - 4 = omega (arith, length-take (n - 4) (drop 4 ys)) in
-    rw (← e, b) (omega (arith, w .least))
+    rw (← e, b) (omega (arith, w))
 
 -- the replay from `first` has come with m to the place `at` of the buffer, where a record of n bytes stands or, with n = 0, none:
 -- the records from there on are still to be asked

@@ -13,9 +13,9 @@ use Rattle.rows.specs.Laws.Lists.{and-left, and-right}
 use Rattle.kernel.specs.Definition.Reset.{noTables}
 use Rattle.kernel.specs.Definition.Step.{decided, completed, step}
 use Rattle.events.specs.Laws.Bodies.{Bytes}
-use Rattle.events.specs.Definition.Records.{startIn, callIn}
+use Rattle.events.specs.Definition.Records.{next, startIn, callIn}
 use Rattle.history.specs.Definition.Runs.{Run}
-use Rattle.replay.specs.Definition.Replay.{EventRecord, whole, sizeOf, recordsIn, records, bytesOf, replayed, before}
+use Rattle.replay.specs.Definition.Replay.{EventRecord, recordsTo, recordsIn, records, bytesOf, replayed, before}
 use Rattle.replay.specs.Laws.Runs.{stateOf, since, Starts, replay-run}
 
 -- "start, bytes 08 00 00 01 42 2B FC FD FE FF; open 5, status 0, n 100, "VIDEO:"", and two bytes of a boundary's four
@@ -32,11 +32,11 @@ abbrev open-record : EventRecord
 open-record = record { kind = 1; body = 5 ∷ 0 ∷ 100 ∷ 0 ∷ 86 ∷ 73 ∷ 68 ∷ 69 ∷ 79 ∷ 58 ∷ [] }
 
 pub two-records : records buffer ≡ start-record ∷ open-record ∷ []
-unfolding records recordsIn sizeOf whole
+unfolding records recordsIn recordsTo next
 two-records = refl
 
 pub two-taken : bytesOf (records buffer) ≡ 24
-unfolding records recordsIn sizeOf whole
+unfolding records recordsIn recordsTo next
 two-taken = refl
 
 abbrev bytesTest : List ℕ → Bool

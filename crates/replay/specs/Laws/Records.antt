@@ -1,78 +1,98 @@
 -- The records of a buffer, one at a time from any place of it.
 use mathlib.Core.Path.{_≡_, refl, sym, ap, _∙_}
-use mathlib.Core.Bool.{Bool, true, false}
+use mathlib.Core.Bool.{Bool, true, false, cond}
 use mathlib.Core.List.{List, [], _∷_}
+use mathlib.Core.Logic.{_⊎_, inl, inr}
 use Prim.Native.Nat.{ℕ, zero, suc, _+_, _-_, _≤_, _<_}
-use native.Mathlib.Decide.{ℕ-discrete}
 use native.Mathlib.Omega.{arith}
-use borrow.Author.Tests.{eq-eqb, ne-eqb, leb-true, le-leb, lt-leb}
-use lib.Dec.{leb, eqb}
-use lib.ListN.{length, drop, length-drop}
-use lib.Seq.{getD-drop}
-use Rattle.rows.specs.Laws.Lists.{and-left, and-right}
-use Rattle.events.specs.Definition.Records.{u16At}
-use Rattle.replay.specs.Definition.Replay.{EventRecord, whole, sizeOf, front, recordsIn, records}
+use lib.Dec.{eqb}
+use lib.ListN.{length, take, drop, length-drop}
+use lib.Seq.{getD-drop, length-take-le}
+use Rattle.events.specs.Definition.Records.{u16At, Next, finished, broken, found, next}
+use Rattle.events.specs.Laws.Next.{next-none, next-cut, next-low, next-high, next-short, next-whole, next-found, shorter}
+use Rattle.replay.specs.Definition.Replay.{EventRecord, recordsTo, recordsIn, records}
 
--- a record that stands there: its size is in order, and the buffer has it whole
-pub record Whole (xs : List ℕ) (n : ℕ) : Type 0 where
-  pub is : n ≡ 2 + u16At xs 0
-  pub least : 4 ≤ n
-  pub most : n ≤ 4098
-  pub fits : n ≤ length xs
-
-pub whole-size : (xs : List ℕ) (n : ℕ) → n ≡ sizeOf xs → (n ≡ 0 → ⊥) → Whole xs n
-unfolding sizeOf whole
-whole-size xs n e s = go (whole xs) refl
-  where
-    go : (b : Bool) → whole xs ≡ b → Whole xs n
-    go false w = absurd (s (rw w at e))
-    go true w =
-        let a : n ≡ 2 + u16At xs 0 = rw w at e in
-        let q = and-right (leb 2 (length xs)) _ w in
-        let q' = and-right (leb 2 (u16At xs 0)) _ q in
-        record {
-          is = a;
-          least = omega (arith, leb-true 2 (u16At xs 0) (and-left (leb 2 (u16At xs 0)) _ q));
-          most = omega (arith, leb-true (u16At xs 0) 4096 (and-left (leb (u16At xs 0) 4096) _ q'));
-          fits = omega (arith, leb-true (2 + u16At xs 0) (length xs) (and-right (leb (u16At xs 0) 4096) _ q'));
-        }
-
-none-short : (xs : List ℕ) → length xs ≤ 0 → eqb (sizeOf xs) 0 ≡ true
-none-short xs h =
-    elim (ℕ-discrete (sizeOf xs) 0) [
-      | yes q ↦ eq-eqb _ _ q
-      | no q ↦ let w = whole-size xs (sizeOf xs) refl q in absurd (omega (arith, w .least, w .fits))
-    ]
+same-on : (f g : List ℕ → List EventRecord) (v : Next) → ((kind : ℕ) (body rest : List ℕ) → v ≡ found kind body rest → f rest ≡ g rest) → recordsTo f v ≡ recordsTo g v
+unfolding recordsTo
+same-on f g finished h = refl
+same-on f g broken h = refl
+same-on f g (found kind body rest) h = ap (λ (rs : List EventRecord). record { kind = kind; body = body } ∷ rs) (h kind body rest refl)
 
 -- more turns than bytes change nothing
 enough : (k m : ℕ) (xs : List ℕ) → length xs ≤ k → length xs ≤ m → recordsIn k xs ≡ recordsIn m xs
-unfolding recordsIn
+unfolding recordsIn recordsTo
 enough zero zero xs h g = refl
-enough zero (suc m) xs h g = rw (none-short xs h)
-enough (suc k) zero xs h g = rw (none-short xs g)
+enough zero (suc m) xs h g = rw (next-none xs h)
+enough (suc k) zero xs h g = rw (next-none xs g)
 enough (suc k) (suc m) xs h g =
-    elim (ℕ-discrete (sizeOf xs) 0) [
-      | yes q ↦ rw (eq-eqb _ _ q)
-      | no q ↦
-          let w = whole-size xs (sizeOf xs) refl q in
-          let l : length (drop (sizeOf xs) xs) ≡ length xs - sizeOf xs = length-drop (sizeOf xs) xs in
-          rw (ne-eqb _ _ q) (ap (λ (rs : List EventRecord). front xs ∷ rs) (enough k m (drop (sizeOf xs) xs) (omega (arith, w .least)) (omega (arith, w .least))))
-    ]
+    same-on (recordsIn k) (recordsIn m) (next xs)
+    (λ kind body rest e. enough k m rest (omega (arith, shorter xs kind body rest e)) (omega (arith, shorter xs kind body rest e)))
+
+-- the record at the front and the records of the rest: none is left out
+pub records-turn : (xs : List ℕ) → records xs ≡ recordsTo records (next xs)
+unfolding records recordsIn recordsTo
+records-turn [] = rw (next-none [] (omega arith))
+records-turn (x ∷ xs) =
+    same-on (recordsIn (length xs)) records (next (x ∷ xs))
+    (λ kind body rest e. enough (length xs) (length rest) rest (omega (arith, shorter (x ∷ xs) kind body rest e)) (omega arith))
+
+abbrev pub sizeTo : Next → ℕ
+sizeTo finished = 0
+sizeTo broken = 0
+sizeTo (found kind body rest) = 4 + length body
+
+-- the bytes that the record at the front takes with its length; 0 where none is
+unfoldable pub sizeOf : List ℕ → ℕ
+sizeOf xs = sizeTo (next xs)
+
+abbrev pub front : List ℕ → EventRecord
+front xs = record { kind = u16At xs 2; body = take (sizeOf xs - 4) (drop 4 xs) }
+
+-- it is 0 exactly where no record is found, and else says which one is, and what the rest is
+pub size-none : (xs : List ℕ) → sizeOf xs ≡ 0 → (next xs ≡ finished) ⊎ (next xs ≡ broken)
+unfolding sizeOf
+size-none xs z = go (next xs) refl
+  where
+    go : (v : Next) → next xs ≡ v → (next xs ≡ finished) ⊎ (next xs ≡ broken)
+    go finished e = inl e
+    go broken e = inr e
+    go (found kind body rest) e = let s : 4 + length body ≡ 0 = rw e at z in absurd (omega arith)
+
+pub size-some : (xs : List ℕ) → (sizeOf xs ≡ 0 → ⊥) → next xs ≡ found (u16At xs 2) (take (sizeOf xs - 4) (drop 4 xs)) (drop (sizeOf xs) xs)
+unfolding sizeOf
+size-some xs s = go (next xs) refl
+  where
+    go : (v : Next) → next xs ≡ v → next xs ≡ found (u16At xs 2) (take (sizeOf xs - 4) (drop 4 xs)) (drop (sizeOf xs) xs)
+    go finished e = absurd (s (rw e))
+    go broken e = absurd (s (rw e))
+    go (found kind body rest) e =
+        let f = next-found xs kind body rest e in
+        let l : 4 + length body - 4 ≡ length body = omega arith in
+        rw (e, f .kind-is, l, f .body-is, f .rest-is)
+
+-- the buffer has it whole
+pub size-fits : (xs : List ℕ) (n : ℕ) → n ≡ sizeOf xs → (n ≡ 0 → ⊥) → (4 ≤ n) × (n ≤ length xs)
+unfolding sizeOf
+size-fits xs n q s = go (next xs) refl
+  where
+    go : (v : Next) → next xs ≡ v → (4 ≤ n) × (n ≤ length xs)
+    go finished e = absurd (s (rw e at q))
+    go broken e = absurd (s (rw e at q))
+    go (found kind body rest) e =
+        let l : n ≡ 4 + length body = rw e at q in
+        (omega arith, omega (arith, next-found xs kind body rest e .fits))
 
 -- no record at the front, and one
 pub records-none : (xs : List ℕ) → sizeOf xs ≡ 0 → records xs ≡ []
-unfolding records recordsIn
-records-none [] e = refl
-records-none (x ∷ xs) e = rw (eq-eqb _ _ e)
+unfolding recordsTo
+records-none xs z = elim (size-none xs z) [
+  | inl e ↦ records-turn xs ∙ rw e
+  | inr e ↦ records-turn xs ∙ rw e
+]
 
 pub records-more : (xs : List ℕ) → (sizeOf xs ≡ 0 → ⊥) → records xs ≡ front xs ∷ records (drop (sizeOf xs) xs)
-unfolding records recordsIn
-records-more [] s = let w = whole-size [] (sizeOf []) refl s in absurd (omega (arith, w .least, w .fits))
-records-more (x ∷ xs) s =
-    let ys = x ∷ xs in
-    let w = whole-size ys (sizeOf ys) refl s in
-    let l : length (drop (sizeOf ys) ys) ≡ length ys - sizeOf ys = length-drop (sizeOf ys) ys in
-    rw (ne-eqb _ _ s) (ap (λ (rs : List EventRecord). front ys ∷ rs) (enough (length xs) (length (drop (sizeOf ys) ys)) (drop (sizeOf ys) ys) (omega (arith, w .least)) (omega arith)))
+unfolding recordsTo
+records-more xs s = records-turn xs ∙ rw (size-some xs s)
 
 -- what stands at the place `at` of a buffer
 pub at-front : (xs : List ℕ) (at i : ℕ) → u16At (drop at xs) i ≡ u16At xs (at + i)
@@ -85,28 +105,35 @@ module _ (xs : List ℕ) (at : ℕ) where
   long = length-drop at xs
 
   pub size-cut : length xs - at < 2 → 0 ≡ sizeOf (drop at xs)
-  unfolding sizeOf whole
-  size-cut h = rw (lt-leb 2 (length (drop at xs)) (omega (arith, long)))
+  unfolding sizeOf
+  size-cut h = rw (next-cut (drop at xs) (omega (arith, long))) (none (eqb (length (drop at xs)) 0))
+    where
+      none : (b : Bool) → 0 ≡ sizeTo (cond b finished broken)
+      none true = refl
+      none false = refl
 
   module _ (n : ℕ) (e : n ≡ u16At xs at) (two : 2 ≤ length xs - at) where
-    is : u16At (drop at xs) 0 ≡ n
-    is = let z : at + 0 ≡ at = omega arith in at-front xs at 0 ∙ rw z (sym e)
+    is : n ≡ u16At (drop at xs) 0
+    is = let z : at + 0 ≡ at = omega arith in e ∙ sym (rw z at (at-front xs at 0))
 
-    some : leb 2 (length (drop at xs)) ≡ true
-    some = le-leb 2 (length (drop at xs)) (omega (arith, long))
+    some : 2 ≤ length (drop at xs)
+    some = omega (arith, long)
 
     pub size-low : n < 2 → 0 ≡ sizeOf (drop at xs)
-    unfolding sizeOf whole
-    size-low h = rw (is, some, lt-leb 2 n h)
+    unfolding sizeOf
+    size-low h = rw (next-low (drop at xs) n is some h)
 
     pub size-high : 4096 < n → 0 ≡ sizeOf (drop at xs)
-    unfolding sizeOf whole
-    size-high h = rw (is, some, le-leb 2 n (omega arith), lt-leb n 4096 h)
+    unfolding sizeOf
+    size-high h = rw (next-high (drop at xs) n is some h)
 
     pub size-short : 2 ≤ n → n ≤ 4096 → length xs - at < 2 + n → 0 ≡ sizeOf (drop at xs)
-    unfolding sizeOf whole
-    size-short l g h = rw (is, some, le-leb 2 n l, le-leb n 4096 g, lt-leb (2 + n) (length (drop at xs)) (omega (arith, long)))
+    unfolding sizeOf
+    size-short l g h = rw (next-short (drop at xs) n is some l g (omega (arith, long)))
 
     pub size-whole : 2 ≤ n → n ≤ 4096 → 2 + n ≤ length xs - at → 2 + n ≡ sizeOf (drop at xs)
-    unfolding sizeOf whole
-    size-whole l g h = rw (is, some, le-leb 2 n l, le-leb n 4096 g, le-leb (2 + n) (length (drop at xs)) (omega (arith, long)))
+    unfolding sizeOf
+    size-whole l g h =
+        let w = next-whole (drop at xs) n is some l g (omega (arith, long)) in
+        let b = length-take-le (n - 2) (drop 4 (drop at xs)) (rw length-drop (omega (arith, long))) in
+        rw (w, b) (omega arith)

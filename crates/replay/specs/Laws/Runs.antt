@@ -3,19 +3,19 @@ use mathlib.Core.Path.{_≡_, refl, subst}
 use mathlib.Core.Bool.{Bool, true, false, cond, _&&_, false≢true}
 use mathlib.Core.List.{List, [], _∷_, _++_}
 use mathlib.Core.Logic.{_⊎_, inl, inr}
-use Prim.Native.Nat.{ℕ, zero, suc, _+_, _-_, _<_}
+use Prim.Native.Nat.{ℕ, zero, suc, _+_, _<_}
 use native.Mathlib.Omega.{arith}
-use lib.Dec.{eqb}
 use lib.ListN.{length, getD, take, drop}
 use lib.Seq.{getD-drop}
 use Rattle.kernel.specs.Definition.Answers.{granted}
 use Rattle.kernel.specs.Definition.Calls.{Call, start, reset, «open», close, read, write, default, status, link, boundary, set-user-boundary, allocate, free, store, load, no-call, short-start, isStart}
 use Rattle.kernel.specs.Definition.Step.{Result, heard, decided, completed, step}
-use Rattle.events.specs.Definition.Records.{callIn}
-use Rattle.events.specs.Laws.Bodies.{Bytes, call-fields}
+use Rattle.events.specs.Definition.Records.{Next, finished, broken, found, next, callIn}
+use Rattle.events.specs.Laws.Next.{next-found}
+use Rattle.events.specs.Laws.Bodies.{Bytes, decode-fields}
 use Rattle.history.specs.Definition.Runs.{State, Event, History, after, event, stay, then, Run, lastWritten}
 use Rattle.history.specs.Bytes.BytesRead.{bytes-read}
-use Rattle.replay.specs.Definition.Replay.{EventRecord, sizeOf, front, recordsIn, records, asked, replayed}
+use Rattle.replay.specs.Definition.Replay.{EventRecord, recordsTo, recordsIn, records, asked, replayed}
 
 abbrev pub stateOf : Result → State
 stateOf m = record { tables = m .tables; ram = m .ram }
@@ -56,17 +56,18 @@ take-bytes (suc n) (x ∷ xs) b (suc i) = take-bytes n xs (λ j. b (suc j)) i
 drop-bytes : (n : ℕ) (xs : List ℕ) → Bytes xs → Bytes (drop n xs)
 drop-bytes n xs b i = rw (getD-drop n xs i 0) (b (n + i))
 
-unless-none : (none : Bool) (r : EventRecord) (rs : List EventRecord) → Bytes (r .body) → OfBytes rs → OfBytes (cond none [] (r ∷ rs))
-unless-none true r rs b bs = tt
-unless-none false r rs b bs = (b, bs)
+bytes-to : (more : List ℕ → List EventRecord) → ((ys : List ℕ) → Bytes ys → OfBytes (more ys)) → (xs : List ℕ) → Bytes xs → (v : Next) → next xs ≡ v → OfBytes (recordsTo more v)
+unfolding recordsTo
+bytes-to more m xs b finished e = tt
+bytes-to more m xs b broken e = tt
+bytes-to more m xs b (found kind body rest) e =
+    let f = next-found xs kind body rest e in
+    (subst Bytes (f .body-is) (take-bytes (length body) (drop 4 xs) (drop-bytes 4 xs b)), m rest (subst Bytes (f .rest-is) (drop-bytes (4 + length body) xs b)))
 
 in-bytes : (k : ℕ) (xs : List ℕ) → Bytes xs → OfBytes (recordsIn k xs)
 unfolding recordsIn
 in-bytes zero xs b = tt
-in-bytes (suc k) xs b =
-    unless-none (eqb (sizeOf xs) 0) (front xs) (recordsIn k (drop (sizeOf xs) xs))
-    (take-bytes (sizeOf xs - 4) (drop 4 xs) (drop-bytes 4 xs b))
-    (in-bytes k (drop (sizeOf xs) xs) (drop-bytes (sizeOf xs) xs b))
+in-bytes (suc k) xs b = bytes-to (recordsIn k) (in-bytes k) xs b (next xs) refl
 
 pub records-bytes : (xs : List ℕ) → Bytes xs → OfBytes (records xs)
 unfolding records
