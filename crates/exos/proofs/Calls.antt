@@ -3,15 +3,17 @@ use mathlib.Core.Path.{_≡_, ap, _∙_}
 use mathlib.Core.Bool.{true, false}
 use mathlib.Core.List.{List}
 use Prim.Native.Nat.{ℕ, _-_, _<_, _≤_}
-use borrow.Author.Tests.{eq-eqb, ne-eqb, lt-ltb, le-ltb}
+use borrow.Author.Tests.{eq-eqb, ne-eqb, lt-leb, le-leb}
 use lib.ListN.{length, take, drop}
+use Rattle.kernel.specs.Definition.Answers.{numberOf}
 use Rattle.kernel.specs.Definition.Step.{Result, result}
 use Rattle.kernel.specs.declared.Tables.{Tables}
+use Rattle.kernel.specs.declared.Answer.{Answer}
 use Rattle.kernel.specs.declared.Outcome.{Outcome}
 use Rattle.events.specs.Definition.Records.{u16At, stepOf}
 use Rattle.image.specs.Definition.Image.{SIZE, imageOf, tablesOf, answerBytes}
 use Rattle.image.specs.Laws.Bytes.{body-is}
-use Rattle.exos.specs.Definition.Call.{fits, stepOn, Done}
+use Rattle.exos.specs.Definition.Call.{fits, stepOn, imageAfter, Done}
 
 module _ (image event reply : List ℕ) where
   pub no-image : (length image ≡ SIZE → ⊥) → false ≡ fits image event reply
@@ -20,28 +22,39 @@ module _ (image event reply : List ℕ) where
 
   pub no-kind : length image ≡ SIZE → length event < 2 → false ≡ fits image event reply
   unfolding fits
-  no-kind h g = rw (eq-eqb (length image) SIZE h, lt-ltb (length event) 2 g)
+  no-kind h g = rw (eq-eqb (length image) SIZE h, lt-leb 2 (length event) g)
 
   pub too-long : length image ≡ SIZE → 2 ≤ length event → 4096 < length event → false ≡ fits image event reply
   unfolding fits
-  too-long h g k = rw (eq-eqb (length image) SIZE h, le-ltb (length event) 2 g, lt-ltb 4096 (length event) k)
+  too-long h g k = rw (eq-eqb (length image) SIZE h, le-leb 2 (length event) g, lt-leb (length event) 4096 k)
 
   pub no-reply : length image ≡ SIZE → 2 ≤ length event → length event ≤ 4096 → (length reply ≡ 6 → ⊥) → false ≡ fits image event reply
   unfolding fits
-  no-reply h g k l = rw (eq-eqb (length image) SIZE h, le-ltb (length event) 2 g, le-ltb 4096 (length event) k, ne-eqb (length reply) 6 l)
+  no-reply h g k l = rw (eq-eqb (length image) SIZE h, le-leb 2 (length event) g, le-leb (length event) 4096 k, ne-eqb (length reply) 6 l)
 
   pub all-fit : length image ≡ SIZE → 2 ≤ length event → length event ≤ 4096 → length reply ≡ 6 → true ≡ fits image event reply
   unfolding fits
-  all-fit h g k l = rw (eq-eqb (length image) SIZE h, le-ltb (length event) 2 g, le-ltb 4096 (length event) k, eq-eqb (length reply) 6 l)
+  all-fit h g k l = rw (eq-eqb (length image) SIZE h, le-leb 2 (length event) g, le-leb (length event) 4096 k, eq-eqb (length reply) 6 l)
 
 pub done : (image ram event out image′ ram′ out′ reply′ : List ℕ) (t : Tables) (kind : ℕ) (o : Outcome) → t ≡ tablesOf image → kind ≡ u16At event 0
-    → result o ram′ out′ ≡ stepOf t ram kind (take (length event - 2) (drop 2 event)) out → image′ ≡ imageOf (o .tables) → reply′ ≡ answerBytes (o .answer)
+    → result o ram′ out′ ≡ stepOf t ram kind (take (length event - 2) (drop 2 event)) out → image′ ≡ imageAfter (o .answer) (o .tables) image → reply′ ≡ answerBytes (o .answer)
     → Done image ram event out image′ ram′ out′ reply′
 done image ram event out image′ ram′ out′ reply′ t kind o p q s i r =
     let h : result o ram′ out′ ≡ stepOn image ram event out = s ∙ rw (body-is event, p, q) in
     record {
-      image-is = i ∙ ap (λ (x : Result). imageOf (x .tables)) h;
+      image-is = i ∙ ap (λ (x : Result). imageAfter (x .answer) (x .tables) image) h;
       ram-is = ap (λ (x : Result). x .ram) h;
       out-is = ap (λ (x : Result). x .output) h;
       reply-is = r ∙ ap (λ (x : Result). answerBytes (x .answer)) h;
     }
+
+-- the image, by the answer's number
+module _ (answer : Answer) (t : Tables) (image : List ℕ) (n : ℕ) (is : n ≡ numberOf answer) where
+  pub image-done : n ≡ 0 → imageOf t ≡ imageAfter answer t image
+  image-done e = rw (← is, e)
+
+  pub image-shared : n ≡ 17 → imageOf t ≡ imageAfter answer t image
+  image-shared e = rw (← is, e)
+
+  pub image-stays : (n ≡ 0 → ⊥) → (n ≡ 17 → ⊥) → image ≡ imageAfter answer t image
+  image-stays a b = rw (← is, ne-eqb n 0 a, ne-eqb n 17 b)

@@ -1,14 +1,31 @@
 // The static library: the kernel over bytes, for other languages. c/exos.h tells a C program what each argument is.
 ghost use mathlib.Core.Path.{_≡_};
-ghost use Rattle.exos.specs.Definition.Call.{Called};
+ghost use lib.ListN.{length};
+ghost use Rattle.exos.specs.Definition.Call.{imageAfter, Called};
 ghost use Rattle.exos.specs.Definition.Replays.{Replays};
 use events::call;
 use events::fields::u16_at;
 use image::put_answer;
 use image::tables::decode;
 use image::tables::encode;
+use kernel::Answer;
 use kernel::Tables;
 use replay::replay;
+
+// The image of the next tables where the call was done; a refused call leaves every byte.
+fn write_back(answer: Answer, next: Tables, image: &mut [u8])
+    requires { ⌜ length (now image) ≡ 776 ⌝ }
+    ensures { λ _. ⌜ now (image .exit) ≡ imageAfter answer next (now (image .entry)) ⌝ }
+{
+    let n = answer.number();
+    if n == 0 {
+        encode(next, image);
+        return;
+    }
+    if n == 17 {
+        encode(next, image);
+    }
+}
 
 // One call, on the image of the tables. False, and nothing changed, where a length is wrong.
 #[no_mangle]
@@ -37,7 +54,7 @@ pub extern "C" fn exos_call(
     let o = call(decode(image), ram, kind, &record[2..], out);
     let answer = o.answer;
     let next = o.tables;
-    encode(next, image);
+    write_back(answer, next, image);
     put_answer(answer, reply, 0);
     true
 }

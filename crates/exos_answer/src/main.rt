@@ -9,7 +9,7 @@ use libc::STDIN_FILENO;
 use libc::STDOUT_FILENO;
 use listing::pieces::keep;
 use stream::Found;
-use stream::Held;
+use stream::Machine;
 use stream::Request;
 use stream::replies::bring;
 use stream::replies::reply;
@@ -26,7 +26,7 @@ pub struct State {
 }
 
 // The tables and the RAM that a request goes on with.
-fn renewed(h: Held, ram: &mut [u8], bytes: &[u8]) -> Held
+fn renewed(h: Machine, ram: &mut [u8], bytes: &[u8]) -> Machine
     requires { ⌜ (h .size ≤ 524288) × (length (now ram) ≡ 524288) × (1 ≤ length (now bytes)) × Brings (now bytes) ⌝ }
     ensures { λ r. ⌜ r .size ≤ 524288 ⌝ }
 {
@@ -38,14 +38,14 @@ fn renewed(h: Held, ram: &mut [u8], bytes: &[u8]) -> Held
 
 // Answers a whole request: 30 bytes of reply.
 fn answer(
-    h: Held,
+    h: Machine,
     q: Request,
     ram: &mut [u8],
     bytes: &[u8],
     out: &mut [u8],
     text: &mut [u8],
     at: usize,
-) -> Held
+) -> Machine
     requires { ⌜ (h .size ≤ 524288) × (length (now ram) ≡ 524288) × (1 ≤ length (now bytes)) × Brings (now bytes) × Spans (now bytes) q × (length (now out) ≡ 65535) × (at + 30 ≤ length (now text)) ⌝ }
     ensures { λ r. ⌜ r .size ≤ 524288 ⌝ }
 {
@@ -62,7 +62,7 @@ fn answer(
         text,
         at,
     );
-    Held { tables, size }
+    Machine { tables, size }
 }
 
 // Reads once, after the first bytes of the buffer.
@@ -128,7 +128,7 @@ fn turn(s: State, ram: &mut [u8], out: &mut [u8], buf: &mut [u8], text: &mut [u8
     match request(&buf[from..filled]) {
         Found::Whole(q) => {
             let h = answer(
-                Held {
+                Machine {
                     tables,
                     size: s.size,
                 },

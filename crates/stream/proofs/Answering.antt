@@ -3,7 +3,7 @@ use mathlib.Core.Path.{_≡_, refl, sym, ap, _∙_}
 use mathlib.Core.List.{List, _++_}
 use Prim.Native.Nat.{ℕ, zero, suc, _+_, _-_, _≤_}
 use lib.ListN.{length, take, drop, replicate}
-use lib.Seq.{take-at, length-take-le}
+use lib.Seq.{take-at, drop-at, length-take-le}
 use Rattle.kernel.specs.Definition.Step.{Result, result}
 use Rattle.kernel.specs.declared.Tables.{Tables}
 use Rattle.kernel.specs.declared.Outcome.{Outcome}
@@ -11,7 +11,7 @@ use Rattle.text.specs.Definition.Put.{Put}
 use Rattle.events.specs.Definition.Records.{u16At, stepOf}
 use Rattle.image.specs.Laws.Bytes.{body-is}
 use Rattle.stream.specs.Definition.Seed.{next, seeded}
-use Rattle.stream.specs.Definition.Replies.{stepOn, replyBytes, Replied}
+use Rattle.stream.specs.Definition.Replies.{stepBlank, replyBytes, Replied}
 
 seeded-length : (n x : ℕ) → length (seeded n x) ≡ n
 seeded-length zero x = refl
@@ -24,11 +24,17 @@ filled ram part rest size seed n x h p e f =
     let q : part ≡ seeded size seed = p ∙ rw l in
     take-at part rest size (ap length q ∙ seeded-length size seed) ∙ q ∙ rw (e, f)
 
+-- and what lies behind them
+pub behind : (ram part rest : List ℕ) (size seed : ℕ) → size ≤ length ram → part ≡ seeded (length (take size ram)) seed → drop size (part ++ rest) ≡ rest
+behind ram part rest size seed h p =
+    let l : length (take size ram) ≡ size = length-take-le size ram h in
+    drop-at part rest size (ap length p ∙ seeded-length (length (take size ram)) seed ∙ l)
+
 pub replied : (t : Tables) (ram event out text : List ℕ) (at : ℕ) (blank : List ℕ) (kind : ℕ) (o : Outcome) (ram′ out′ text′ : List ℕ) (r : ℕ)
     → blank ≡ replicate (length out) 165 → kind ≡ u16At event 0 → result o ram′ out′ ≡ stepOf t ram kind (take (length event - 2) (drop 2 event)) blank
     → Put text text′ at r (replyBytes (result o ram′ out′)) → r ≡ at + 30 → Replied t ram event out text at (o .tables) ram′ out′ text′
 replied t ram event out text at blank kind o ram′ out′ text′ r b k s p e =
-    let h : result o ram′ out′ ≡ stepOn t ram event (length out) = s ∙ rw (body-is event, k, b) in
+    let h : result o ram′ out′ ≡ stepBlank t ram event (length out) = s ∙ rw (body-is event, k, b) in
     record {
       tables-is = ap (λ (x : Result). x .tables) h;
       ram-is = ap (λ (x : Result). x .ram) h;

@@ -8,7 +8,7 @@ pub mod requests; // where a request ends
 pub mod replies; // a request's call, and the reply to it
 
 // The tables, and the length of their RAM.
-pub struct Held {
+pub struct Machine {
     pub tables: Tables,
     pub size: usize,
 }

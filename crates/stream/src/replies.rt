@@ -9,7 +9,7 @@ ghost use Rattle.image.specs.Definition.Image.{imageOf};
 ghost use Rattle.stream.specs.Definition.Digest.{digestOf};
 ghost use Rattle.stream.specs.Definition.Numbers.{u32At};
 ghost use Rattle.stream.specs.Definition.Replies.{Replied, Brought, replyBytes};
-use super::Held;
+use super::Machine;
 use super::bytes::put_u64;
 use super::bytes::u32_at;
 use super::digest::digest;
@@ -64,13 +64,13 @@ pub fn reply(
 }
 
 // The tables of an image, and a RAM by its length and a seed.
-pub fn bring(ram: &mut [u8], bytes: &[u8]) -> Held
+pub fn bring(ram: &mut [u8], bytes: &[u8]) -> Machine
     requires { ⌜ (785 ≤ length (now bytes)) × (u32At (now bytes) 777 ≤ length (now ram)) ⌝ }
-    ensures { λ r. ⌜ Brought (now (bytes .entry)) (r .tables) (take (r .size) (now (ram .exit))) × (r .size ≡ u32At (now (bytes .entry)) 777) ⌝ }
+    ensures { λ r. ⌜ Brought (now (bytes .entry)) (r .tables) (take (r .size) (now (ram .exit))) × (drop (r .size) (now (ram .exit)) ≡ drop (r .size) (now (ram .entry))) × (r .size ≡ u32At (now (bytes .entry)) 777) ⌝ }
 {
     let size = u32_at(bytes, 777) as usize;
     fill(&mut ram[..size], u32_at(bytes, 781));
-    Held {
+    Machine {
         tables: decode(&bytes[1..777]),
         size,
     }

@@ -1,7 +1,7 @@
 // Where a request ends.
 ghost use mathlib.Core.Path.{_≡_};
 ghost use Prim.Native.Nat.{_+_, _<_};
-ghost use Rattle.stream.specs.Definition.Requests.{callAt, requestIn, Lent, Fits};
+ghost use Rattle.stream.specs.Definition.Requests.{callAt, requestIn, CallFits, Fits};
 use super::Found;
 use super::Request;
 use super::bytes::u32_at;
@@ -9,9 +9,9 @@ use super::bytes::wide;
 use events::fields::u16_at;
 
 // The output's length, the event record's length and the event record.
-fn lent_at(bytes: &[u8], at: usize) -> Found
+fn call_at(bytes: &[u8], at: usize) -> Found
     requires { ⌜ at < 1000 ⌝ }
-    ensures { λ r. ⌜ (r ≡ callAt (now (bytes .entry)) at) × Lent (now (bytes .entry)) r ⌝ }
+    ensures { λ r. ⌜ (r ≡ callAt (now (bytes .entry)) at) × CallFits (now (bytes .entry)) r ⌝ }
 {
     let start = at + 4;
     if bytes.len() < start {
@@ -36,7 +36,7 @@ pub fn request(bytes: &[u8]) -> Found
     }
     let first = bytes[0];
     if first == 0 {
-        return lent_at(bytes, 1);
+        return call_at(bytes, 1);
     }
     if first != 1 {
         return Found::Bad;
@@ -47,5 +47,5 @@ pub fn request(bytes: &[u8]) -> Found
     if 524288 < u32_at(bytes, 777) {
         return Found::Bad;
     }
-    lent_at(bytes, 785)
+    call_at(bytes, 785)
 }

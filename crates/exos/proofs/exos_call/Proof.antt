@@ -38,8 +38,8 @@ part-call-end c = search needs
 call-requires : tie.Need-call-requires
 call-requires c κs = search needs
 
-encode-requires : tie.Need-encode-requires
-encode-requires c κs = search needs
+write-back-requires : tie.Need-write-back-requires
+write-back-requires c κs = search needs
 
 put-answer-requires : tie.Need-put-answer-requires
 put-answer-requires c κs = search needs
@@ -63,7 +63,7 @@ returns-5 c =
     let kind = c .before .before .before .before .before .before .before .before .before .before .before .before .before .before .before .before .before .before .before .u16-at in
     let t = c .before .before .before .before .before .before .before .before .before .before .before .before .before .before .before .before .before .decode in
     let k = c .before .before .before .before .before .before .before .before .before .before .before .before .before .call in
-    let image = c .before .before .before .before .before .before .encode in
+    let image = c .before .before .before .before .before .before .write-back in
     let reply = c .before .before .put-answer in
     let long = reply .kept .1 .0 ∙ tested .if4 .left in (
       all-fit (now (a .image)) (now (a .«record»)) (now (a .reply)) (c .before .before .before .before .before .before .before .before .before .before .before .before .before .before .before .before .before .before .before .before .before .before .before .if1 .left) (c .before .before .before .before .before .before .before .before .before .before .before .before .before .before .before .before .before .before .before .before .before .before .if2 .left) (c .before .before .before .before .before .before .before .before .before .before .before .before .before .before .before .before .before .before .before .before .before .if3 .left) (tested .if4 .left),
@@ -85,7 +85,7 @@ exos-call-spec =
     part-call-start
     part-call-end
     call-requires
-    encode-requires
+    write-back-requires
     put-answer-requires
     same-length
     same-length-2

@@ -1,24 +1,31 @@
 -- A call over bytes: the tables as their image, the event record's kind and body, and six bytes of reply.
 use mathlib.Core.Path.{_≡_}
-use mathlib.Core.Bool.{Bool, true, false, not, _&&_}
+use mathlib.Core.Bool.{Bool, true, false, cond, _&&_}
 use mathlib.Core.List.{List}
 use Prim.Native.Nat.{ℕ}
-use lib.Dec.{eqb, ltb}
+use lib.Dec.{eqb, leb}
 use lib.ListN.{length, drop}
+use Rattle.kernel.specs.Definition.Answers.{granted}
 use Rattle.kernel.specs.Definition.Step.{Result}
+use Rattle.kernel.specs.declared.Tables.{Tables}
+use Rattle.kernel.specs.declared.Answer.{Answer}
 use Rattle.events.specs.Definition.Records.{u16At, stepOf}
 use Rattle.image.specs.Definition.Image.{SIZE, imageOf, tablesOf, answerBytes}
 
 -- the lengths that a call over bytes takes
 unfoldable pub fits : (image event reply : List ℕ) → Bool
-fits image event reply = eqb (length image) SIZE && (not (ltb (length event) 2) && (not (ltb 4096 (length event)) && eqb (length reply) 6))
+fits image event reply = eqb (length image) SIZE && leb 2 (length event) && leb (length event) 4096 && eqb (length reply) 6
 
 abbrev pub stepOn : (image ram event out : List ℕ) → Result
 stepOn image ram event out = stepOf (tablesOf image) ram (u16At event 0) (drop 2 event) out
 
+-- "A refused call .. changes no table": the image stays byte for byte, also where it is another one than its tables' (an `enabled` of 2)
+abbrev pub imageAfter : Answer → Tables → (image : List ℕ) → List ℕ
+imageAfter answer t image = cond (granted answer) (imageOf t) image
+
 -- what a call over bytes leaves, with the accents
 pub record Done (image ram event out : List ℕ) (image′ ram′ out′ reply′ : List ℕ) : Type 0 where
-  pub image-is : image′ ≡ imageOf (stepOn image ram event out .tables)
+  pub image-is : image′ ≡ imageAfter (stepOn image ram event out .answer) (stepOn image ram event out .tables) image
   pub ram-is : ram′ ≡ stepOn image ram event out .ram
   pub out-is : out′ ≡ stepOn image ram event out .output
   pub reply-is : reply′ ≡ answerBytes (stepOn image ram event out .answer)

@@ -18,8 +18,8 @@ pub record Brought (bytes : List ℕ) (t : Tables) (ram : List ℕ) : Type 0 whe
   pub ram-is : ram ≡ seeded (u32At bytes 777) (u32At bytes 781)
 
 -- the call of an event record on n bytes of output, all 165
-abbrev pub stepOn : Tables → (ram event : List ℕ) (n : ℕ) → Result
-stepOn t ram event n = stepOf t ram (u16At event 0) (drop 2 event) (replicate n 165)
+abbrev pub stepBlank : Tables → (ram event : List ℕ) (n : ℕ) → Result
+stepBlank t ram event n = stepOf t ram (u16At event 0) (drop 2 event) (replicate n 165)
 
 -- answer number, a and b, and the digests of the image, of the RAM and of the output after the call
 abbrev pub replyBytes : Result → List ℕ
@@ -27,7 +27,7 @@ replyBytes s = answerBytes (s .answer) ++ u64Bytes (digestOf (imageOf (s .tables
 
 -- what a request's call leaves, with the accents, and its reply in a text
 pub record Replied (t : Tables) (ram event out text : List ℕ) (at : ℕ) (t′ : Tables) (ram′ out′ text′ : List ℕ) : Type 0 where
-  pub tables-is : t′ ≡ stepOn t ram event (length out) .tables
-  pub ram-is : ram′ ≡ stepOn t ram event (length out) .ram
-  pub out-is : out′ ≡ stepOn t ram event (length out) .output
-  pub reply-is : Put text text′ at (at + 30) (replyBytes (stepOn t ram event (length out)))
+  pub tables-is : t′ ≡ stepBlank t ram event (length out) .tables
+  pub ram-is : ram′ ≡ stepBlank t ram event (length out) .ram
+  pub out-is : out′ ≡ stepBlank t ram event (length out) .output
+  pub reply-is : Put text text′ at (at + 30) (replyBytes (stepBlank t ram event (length out)))

@@ -42,17 +42,17 @@ pub record Spans (bytes : List ℕ) (q : Request) : Type 0 where
 abbrev pub Brings : List ℕ → Type 0
 Brings bytes = (u8At bytes 0 ≡ 0 → ⊥) → (785 ≤ length bytes) × (u32At bytes 777 ≤ 524288)
 
-abbrev pub Lent : List ℕ → Found → Type 0
-Lent bytes (Whole q) = Spans bytes q
-Lent bytes Part = Unit {0}
-Lent bytes Bad = Unit {0}
+abbrev pub CallFits : List ℕ → Found → Type 0
+CallFits bytes (Whole q) = Spans bytes q
+CallFits bytes Part = Unit {0}
+CallFits bytes Bad = Unit {0}
 
 abbrev pub Fits : List ℕ → Found → Type 0
 Fits bytes (Whole q) = Spans bytes q × (1 ≤ length bytes) × Brings bytes
 Fits bytes Part = Unit {0}
 Fits bytes Bad = Unit {0}
 
-pub lent-fits : (bytes : List ℕ) (r : Found) → Lent bytes r → 1 ≤ length bytes → Brings bytes → Fits bytes r
-lent-fits bytes (Whole q) s h b = (s, h, b)
-lent-fits bytes Part s h b = tt
-lent-fits bytes Bad s h b = tt
+pub call-fits : (bytes : List ℕ) (r : Found) → CallFits bytes r → 1 ≤ length bytes → Brings bytes → Fits bytes r
+call-fits bytes (Whole q) s h b = (s, h, b)
+call-fits bytes Part s h b = tt
+call-fits bytes Bad s h b = tt

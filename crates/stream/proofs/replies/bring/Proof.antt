@@ -4,7 +4,7 @@ use mathlib.Core.Path.{sym}
 use native.Mathlib.Omega.{arith}
 use lib.ListN.{drop}
 use lib.Seq.{length-take-le}
-use Rattle.stream.proofs.Answering.{filled}
+use Rattle.stream.proofs.Answering.{filled, behind}
 use borrow.Author.Needs.{needs}
 use Rattle.stream.proofs.replies.bring.Statement.{statement}
 use Rattle.stream.proofs.replies.bring.Tie as tie
@@ -49,6 +49,7 @@ returns c =
         tables-is = c .decode .ensures;
         ram-is = filled (now (a .ram)) (f .last .0) (drop (size .result) (now (a .ram))) (size .result) (seed .result) _ _ (omega (arith, c .before .before .before .before .before .before .before .before .before .before .pre .1, size .ensures .0)) (f .ensures) (size .ensures .0) (seed .ensures .0);
       },
+      behind (now (a .ram)) (f .last .0) (drop (size .result) (now (a .ram))) (size .result) (seed .result) (omega (arith, c .before .before .before .before .before .before .before .before .before .before .pre .1, size .ensures .0)) (f .ensures),
       size .ensures .0,
     )
 

@@ -1,11 +1,11 @@
--- `requests::lent_at` meets its definition, a branch a law.
+-- `requests::call_at` meets its definition, a branch a law.
 use denote.Ref.{now}
 use mathlib.Core.Path.{_∙_}
 use native.Mathlib.Omega.{arith}
 use Rattle.stream.proofs.Branches.{head-cut, kind-cut, record-cut, all-there}
 use borrow.Author.Needs.{needs}
-use Rattle.stream.proofs.requests.lent_at.Statement.{statement}
-use Rattle.stream.proofs.requests.lent_at.Tie as tie
+use Rattle.stream.proofs.requests.call_at.Statement.{statement}
+use Rattle.stream.proofs.requests.call_at.Tie as tie
 
 add-start : tie.Need-add-start
 add-start c = search needs
@@ -43,8 +43,8 @@ returns-3 c = let a = c .before .before .before .before .before .before .before 
 returns-4 : tie.Need-returns-4
 returns-4 c = let a = c .before .before .before .before .before .before .before .before .args in (all-there (now (a .bytes)) (a .at) (c .before .before .before .before .before .before .if1 .left) (c .before .before .wide2 .result) (c .before .before .wide2 .ensures .0 ∙ c .before .before .before .u16-at2 .ensures) (c .before .if2 .left) (c .if3 .left) (c .before .before .before .before .wide .result) (c .before .before .before .before .wide .ensures .0 ∙ c .before .before .before .before .before .u16-at .ensures), record { kind = c .before .if2 .left; within = c .if3 .left; lent = c .before .before .before .before .wide .ensures .1 })
 
-pub lent-at-spec : {M : Type 1} → statement M
-lent-at-spec =
+pub call-at-spec : {M : Type 1} → statement M
+call-at-spec =
     tie.close
     (tie.spec
     add-start
