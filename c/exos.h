@@ -68,7 +68,7 @@ enum exos_answer {
 
 /* One call, on the image of the tables.
  *
- *   image   the tables, before and after: EXOS_IMAGE bytes, read and written
+ *   image   the tables, before and after: EXOS_IMAGE bytes, read, and written where the call is done
  *   ram     the RAM, segment by segment in the order of the list: EXOS_SEGMENT bytes for each segment of the tables (of
  *           a start's list), read and written; another length is answered with EXOS_TABLES (EXOS_START)
  *   record  the event record without its length: kind in 2 bytes, then the body; 2 to EXOS_RECORD bytes, read

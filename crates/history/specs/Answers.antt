@@ -6,3 +6,4 @@ pub mod Found
 pub mod Rows
 pub mod Decided
 pub mod Proved
+pub mod Refused
