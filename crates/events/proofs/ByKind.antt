@@ -43,13 +43,10 @@ unknown-kind kind body a b c d e f g h i j k l m n o =
 module _ (t : Tables) (ram : List ℕ) (kind : ℕ) (body out : List ℕ) where
   -- what the body's call leaves is what the record leaves
   pub by-kind : (k : ℕ) (c : Call) (x : Result) → kind ≡ k → callIn k body ≡ c → x ≡ step t ram c out → x ≡ stepOf t ram kind body out
-  unfolding stepOf
   by-kind k c x e d q = rw (e, d) q
 
   pub no-kind : Good t → length ram ≡ ramSize t → (r : Outcome) → callIn kind body ≡ no-call → r ≡ gives BadCall t → result r ram out ≡ stepOf t ram kind body out
-  unfolding stepOf
   no-kind g s r e q = bad-call t ram out g s (callIn kind body) r e q
 
   pub bad-tables : (b : Bool) → b ≡ accepted t (length ram) → (kind ≡ 256 → ⊥) → not b ≡ true → (r : Outcome) → r ≡ gives BadTables t → result r ram out ≡ stepOf t ram kind body out
-  unfolding stepOf
   bad-tables b e n h r q = call-refused t ram (callIn kind body) out b e (no-start kind body n) h r q

@@ -16,7 +16,7 @@ use Rattle.kernel.specs.Laws.Ready.{Ready, decided-ready}
 use Rattle.kernel.specs.declared.Tables.{Tables}
 use Rattle.kernel.specs.declared.Outcome.{Outcome}
 use Rattle.events.specs.Definition.Records.{u16At, callIn, stepOf}
-use Rattle.events.specs.Laws.Bodies.{Bytes, decode-fields}
+use Rattle.events.specs.Laws.Bodies.{Bytes, call-fields}
 use Rattle.replay.specs.Definition.Replay.{records, bytesOf, asked, replayed}
 use Rattle.replay.specs.Laws.Records.{sizeOf, front, size-fits, records-none, records-more, at-front}
 

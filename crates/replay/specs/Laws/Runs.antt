@@ -12,7 +12,7 @@ use Rattle.kernel.specs.Definition.Calls.{Call, start, reset, «open», close, 
 use Rattle.kernel.specs.Definition.Step.{Result, heard, decided, completed, step}
 use Rattle.events.specs.Definition.Records.{Next, finished, broken, found, next, callIn}
 use Rattle.events.specs.Laws.Next.{next-found}
-use Rattle.events.specs.Laws.Bodies.{Bytes, decode-fields}
+use Rattle.events.specs.Laws.Bodies.{Bytes, call-fields}
 use Rattle.history.specs.Definition.Runs.{State, Event, History, after, event, stay, then, Run, lastWritten}
 use Rattle.history.specs.Bytes.BytesRead.{bytes-read}
 use Rattle.replay.specs.Definition.Replay.{EventRecord, recordsTo, recordsIn, records, asked, replayed}
