@@ -2,7 +2,7 @@
 use Prim.Native.Nat.{ℕ, zero, suc, _+_, _-_, _≤_, _<_, min}
 use mathlib.Core.Path.{_≡_, refl, sym, ap, _∙_}
 use mathlib.Core.List.{List, [], _∷_, _++_, map, map-append, append-assoc}
-use lib.ListN.{length, getD, take, set, replicate, length-append, length-take, length-map, length-replicate}
+use lib.ListN.{length, getD, take, set, replicate, length-take, length-map}
 use lib.Seq.{take-suc, take-all, take-take, set-at, length-take-le}
 use borrow.Author.Tests.{le-leb, lt-leb}
 use native.Mathlib.Omega.{arith}
@@ -23,10 +23,6 @@ upper-above b l h = rw (le-leb 97 b l, lt-leb b 122 h)
 pub upper-small : (b : ℕ) → 97 ≤ b → b ≤ 122 → upper b ≡ b - 32
 unfolding upper
 upper-small b l h = rw (le-leb 97 b l, le-leb b 122 h)
-
-pub word-length : (bs : List ℕ) → length (wordOf bs) ≡ 28
-unfolding wordOf upperAll
-word-length bs = simp (length-append, length-map, length-take, length-replicate) (omega arith)
 
 -- ---- a word, laid byte by byte
 

@@ -1,6 +1,6 @@
 -- The computed reading is the grammar's: it reads, it finds every reading, so a string has at most one, and none exactly where the rules are broken.
 use Prim.Native.Nat.{ℕ, suc, _+_, _≤_, _<_}
-use mathlib.Core.Path.{_≡_, refl, sym, ap, _∙_, subst}
+use mathlib.Core.Path.{_≡_, refl, sym, _∙_, subst}
 use mathlib.Core.Bool.{Bool, true, false, cond}
 use mathlib.Core.Logic.{_⊎_, inl, inr}
 use mathlib.Core.List.{List, [], _∷_, _++_, append-assoc, append-nil}
@@ -11,7 +11,7 @@ use lib.Dec.{leb, eqb}
 use borrow.Author.Tests.{le-leb, leb-true, eq-eqb, eqb-true, eqb-false, ne-eqb, not-false}
 use native.Mathlib.Omega.{arith}
 use native.Mathlib.Numerals.{add-one}
-use Rattle.names.specs.Definition.Grammar.{All, FileByte, UnitPart, no-unit, plain, dashed, Reading, file-only, full, unit-text, spell, value}
+use Rattle.names.specs.Definition.Grammar.{All, FileByte, UnitPart, no-unit, plain, dashed, Reading, file-only, full, unit-text, spell}
 use Rattle.names.specs.Definition.Grammar.{DeviceRule, DigitsRule, UnitRule, FileRule, Rule, Reads}
 use Rattle.names.specs.Definition.Tests.{runOf, fileTest}
 use Rattle.names.specs.Definition.Read.{digitsTest, withDigits, withUnit, withHead, withColon, withoutColon, reading}
