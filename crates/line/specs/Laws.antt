@@ -10,6 +10,5 @@ pub mod OneRam
 pub mod PointsClosed
 pub mod PointsOpened
 pub mod PointsLinked
-pub mod Kept
 pub mod Lending
 mod Examples

@@ -1,11 +1,11 @@
--- What the calls of an open, a close and a link make together, and the size of it.
+-- What the calls of an open, a close and a link make together.
 use mathlib.Core.Path.{_≡_, refl, sym, _∙_}
-use mathlib.Core.List.{List, _++_}
+use mathlib.Core.List.{List}
 use Prim.Native.Nat.{ℕ, _+_, _-_, _≤_}
 use native.Mathlib.Omega.{arith}
 use lib.ListN.{length, replicate}
 use Rattle.line.specs.Definition.Line.{placeOf, lineFrom, putLine, headingOf, afterOpen, afterClose, afterLink}
-use Rattle.line.specs.Laws.Walks.{length-put, length-bytes, put-append}
+use Rattle.line.specs.Laws.Walks.{length-bytes, put-append}
 use Rattle.line.specs.Laws.Held.{put-lower}
 
 -- what is moved, and then the zeros
@@ -44,19 +44,3 @@ unfolding afterOpen headingOf
 opened-of chain room ram₀ ram₁ ram₂ total number device unit n e₁ e₂ =
     let k : total + 16 + n - (total + 16) ≡ n = omega arith in
     e₂ ∙ rw (e₁, k) (sym (put-append (placeOf chain room) (headingOf (16 + n) number device unit) (replicate n 0) ram₀ total))
-
--- no RAM changes its size
-
-pub length-closed : (chain : List ℕ) (room : ℕ) (ram : List ℕ) (start gap total : ℕ) → length (afterClose chain room ram start gap total) ≡ length ram
-unfolding afterClose
-length-closed chain room ram start gap total = length-put (placeOf chain room) (lineFrom chain room ram (start + gap) (total - gap - start) ++ replicate gap 0) ram start
-
-pub length-opened : (chain : List ℕ) (room : ℕ) (ram : List ℕ) (total number device unit n : ℕ) → length (afterOpen chain room ram total number device unit n) ≡ length ram
-unfolding afterOpen
-length-opened chain room ram total number device unit n = length-put (placeOf chain room) (headingOf (16 + n) number device unit ++ replicate n 0) ram total
-
-pub length-linked : (chain : List ℕ) (room m : ℕ) (ram : List ℕ) (total : ℕ) → length (afterLink chain room m ram total) ≡ length ram
-unfolding afterLink
-length-linked chain room m ram total =
-    let moved = lineFrom chain room ram 0 total in
-    length-put (placeOf chain room) (replicate m 0) (putLine chain (room - m) ram 0 moved) 0 ∙ length-put (placeOf chain (room - m)) moved ram 0

@@ -105,11 +105,6 @@ module _ (chain : List ℕ) (room total size : ℕ) (good : Chain chain room tot
       let both = same-row (getD chain (chainIndexOf room p) 0) (getD chain (chainIndexOf room q) 0) (offsetOf room p) (offsetOf room q) (offset-lt room p (good .small)) (offset-lt room q (good .small)) e in
       same-position room p q (good .small) (good .apart (chainIndexOf room p) (chainIndexOf room q) (link-lt p hp) (link-lt q hq) (both .0)) (both .1)
 
-  -- a byte in a segment that the chain does not hold is at no position of the line
-  pub place-row : (i p : ℕ) → p < total → ((k : ℕ) → k < good .held → i / 16384 ≡ getD chain k 0 → ⊥) → i ≡ placeOf chain room p → ⊥
-  unfolding placeOf
-  place-row i p h off e = off (chainIndexOf room p) (link-lt p h) (omega (arith, offset-lt room p (good .small)))
-
 -- a shorter line, and a RAM of the same size
 pub chain-less : (chain : List ℕ) (room total size t n : ℕ) → t ≤ total → n ≡ size → Chain chain room total size → Chain chain room t n
 chain-less chain room total size t n h e good =
