@@ -1,8 +1,8 @@
 // Numbers and bytes as text, put at a place of a lent text. Each function hands back the place after what it put.
 ghost use mathlib.Core.Path.{_≡_};
-ghost use mathlib.Core.List.{List, [], _∷_, _++_};
-ghost use Prim.Native.Nat.{ℕ, _+_, _*_, _/_, _%_, _≤_, _<_};
-ghost use lib.ListN.{length, take};
+ghost use mathlib.Core.List.{[], _∷_, _++_};
+ghost use Prim.Native.Nat.{_+_, _*_, _≤_, _<_};
+ghost use lib.ListN.{length};
 ghost use Rattle.text.specs.Definition.Put.{Put};
 ghost use Rattle.text.specs.Definition.Text.{digitOf, glyph, decimalOf, hexOf, fieldsOf};
 
