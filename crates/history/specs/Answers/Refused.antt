@@ -7,7 +7,7 @@ use lib.ListN.{length}
 use Rattle.kernel.specs.Definition.Answers.{numberOf, aOf, bOf, granted, gives}
 use Rattle.kernel.specs.Definition.Calls.{Call}
 use Rattle.kernel.specs.Definition.Fields.{Fields}
-use Rattle.kernel.specs.Definition.Step.{decided, completed, result, step}
+use Rattle.kernel.specs.Definition.Step.{completed, result, step}
 use Rattle.kernel.specs.Laws.Refused.{refused-stays}
 use Rattle.kernel.specs.declared.Tables.{Tables}
 use Rattle.kernel.specs.declared.Answer.{Answer}

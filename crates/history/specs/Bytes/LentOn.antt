@@ -16,7 +16,6 @@ use Rattle.line.specs.Laws.Places.{chain-less}
 use Rattle.line.specs.Laws.Lending.{lies, lent-byte, lent-length, lent-index}
 use Rattle.kernel.specs.Definition.Tables.{channelAt}
 use Rattle.kernel.specs.Definition.Line.{totalOf, sizeAt, bufferAt}
-use Rattle.kernel.specs.Definition.Step.{accepted}
 use Rattle.kernel.specs.Definition.Lend.{lentOnGood, lentOn, partOn}
 use Rattle.kernel.specs.Laws.Chains.{good-chain}
 use Rattle.kernel.specs.Laws.Records.{record-within}

@@ -1,7 +1,7 @@
 -- "A layout gives every byte of every open record a place of its own."
 use mathlib.Core.Path.{_≡_}
 use mathlib.Core.List.{List}
-use Prim.Native.Nat.{ℕ, _-_, _<_}
+use Prim.Native.Nat.{ℕ, _<_}
 use lib.ListN.{length}
 use Rattle.rows.specs.Definition.Lists.{at}
 

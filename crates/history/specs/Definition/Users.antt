@@ -1,6 +1,6 @@
 -- Which places are the user's.
 use mathlib.Core.Path.{_≡_}
-use Prim.Native.Nat.{ℕ, _-_, _<_}
+use Prim.Native.Nat.{ℕ, _<_}
 use Rattle.rows.specs.Definition.Classes.{USER, SHARED}
 use Rattle.kernel.specs.Definition.Tables.{SEGMENT, classAt}
 use Rattle.kernel.specs.declared.Tables.{Tables}
