@@ -1,5 +1,5 @@
 -- `put_answer` puts six bytes.
-use mathlib.Core.Path.{_≡_, ap, _∙_}
+use mathlib.Core.Path.{ap, _∙_}
 use native.Mathlib.Omega.{arith}
 use Rattle.text.specs.Laws.Text.{put-then}
 use Rattle.image.specs.Definition.Image.{u16Bytes}

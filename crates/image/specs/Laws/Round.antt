@@ -2,7 +2,7 @@
 use mathlib.Core.Path.{_≡_, refl, sym, ap, _∙_}
 use mathlib.Core.Bool.{Bool, true, false}
 use mathlib.Core.List.{List, [], _∷_, _++_, append-assoc}
-use Prim.Native.Nat.{ℕ, zero, suc, _+_, _*_, _/_, _%_, _<_, suc-le-suc}
+use Prim.Native.Nat.{ℕ, suc, _+_, _*_, _/_, _%_, _<_, suc-le-suc}
 use native.Mathlib.Omega.{arith}
 use lib.ListN.{length, getD, take, drop, length-append}
 use lib.Seq.{getD-drop, drop-drop, drop-at, take-at}
@@ -13,7 +13,7 @@ use Rattle.rows.specs.declared.Device.{Device}
 use Rattle.kernel.specs.Definition.Good.{Sized}
 use Rattle.kernel.specs.declared.Tables.{Tables}
 use Rattle.events.specs.Definition.Records.{u8At, u16At}
-use Rattle.image.specs.Definition.Image.{SIZE, u8Bytes, u16Bytes, bitOf, flagOf, runAt, rowsBytes, rowsOf, channelBytes, channelFrom, deviceBytes, deviceFrom, segmentBytes, boundaryBytes, rowBytes, defaultBytes, imageOf, tablesOf}
+use Rattle.image.specs.Definition.Image.{SIZE, u16Bytes, bitOf, flagOf, runAt, rowsBytes, rowsOf, channelBytes, channelFrom, deviceBytes, deviceFrom, segmentBytes, boundaryBytes, rowBytes, defaultBytes, imageOf, tablesOf}
 
 -- the arrays have their types' lengths
 pub record FullSize (t : Tables) : Type 0 where

@@ -1,6 +1,5 @@
 -- `channels::channel_at` reads five bytes.
 use denote.Ref.{now}
-use mathlib.Core.Path.{_≡_}
 use Rattle.image.proofs.Rows.{channel-read}
 use borrow.Author.Needs.{needs}
 use Rattle.image.proofs.channels.channel_at.Statement.{statement}

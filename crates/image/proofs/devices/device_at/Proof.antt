@@ -1,6 +1,5 @@
 -- `devices::device_at` reads 30 bytes.
 use denote.Ref.{now}
-use mathlib.Core.Path.{_≡_}
 use Rattle.image.proofs.Rows.{device-read}
 use borrow.Author.Needs.{needs}
 use Rattle.image.proofs.devices.device_at.Statement.{statement}

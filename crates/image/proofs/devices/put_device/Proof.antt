@@ -1,6 +1,5 @@
 -- `devices::put_device` puts 30 bytes.
 use mathlib.Core.Path.{_≡_, ap}
-use Prim.Native.Nat.{ℕ}
 use native.Mathlib.Omega.{arith}
 use lib.ListN.{length}
 use Rattle.text.specs.Laws.Text.{put-then}
