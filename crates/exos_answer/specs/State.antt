@@ -1,5 +1,5 @@
 -- What holds of the state between two turns.
-use Prim.Native.Nat.{ℕ, _≤_}
+use Prim.Native.Nat.{_≤_}
 use Rattle.exos_answer.specs.declared.State as declared
 
 pub record Ready (s : declared.State) : Type 0 where

@@ -9,7 +9,7 @@ use borrow.Author.Tests.{eq-eqb, ne-eqb}
 use Rattle.kernel.specs.Definition.Answers.{numberOf, aOf, bOf, gives}
 use Rattle.kernel.specs.Definition.Good.{goodTest}
 use Rattle.kernel.specs.Definition.Reset.{noTables}
-use Rattle.kernel.specs.Definition.Step.{Result, accepted, result}
+use Rattle.kernel.specs.Definition.Step.{Result, result}
 use Rattle.kernel.specs.declared.Tables.{Tables}
 use Rattle.kernel.specs.declared.Outcome.{Outcome}
 use Rattle.kernel.specs.declared.Answer.the-variants.{BadTables}

@@ -1,15 +1,12 @@
 -- Laws of what bytes begin with, a law a branch.
-use mathlib.Core.Path.{_≡_, _∙_}
+use mathlib.Core.Path.{_≡_}
 use mathlib.Core.List.{List}
 use Prim.Native.Nat.{ℕ, _+_, _<_, _≤_}
-use native.Mathlib.Omega.{arith}
 use borrow.Author.Tests.{eq-eqb, ne-eqb, lt-ltb, le-ltb}
 use lib.ListN.{length}
 use Rattle.events.specs.Definition.Records.{u8At, u16At}
 use Rattle.stream.specs.Definition.Numbers.{u32At}
 use Rattle.stream.specs.Definition.Requests.{callAt, requestIn}
-use Rattle.stream.specs.declared.Request.{Request}
-use Rattle.stream.specs.declared.Found.{Found}
 use Rattle.stream.specs.declared.Found.the-variants.{Whole, Part, Bad}
 
 module _ (bytes : List ℕ) (at : ℕ) where

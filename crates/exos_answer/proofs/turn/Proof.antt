@@ -1,6 +1,5 @@
 -- `turn` is safe, and keeps the state ready.
 use denote.Ref.{now}
-use mathlib.Core.Path.{_≡_}
 use Prim.Native.Nat.{_-_}
 use native.Mathlib.Omega.{arith}
 use lib.ListN.{take, drop}

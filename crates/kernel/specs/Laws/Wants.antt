@@ -8,7 +8,7 @@ use lib.ListN.{length, take, length-take}
 use Rattle.names.specs.Definition.Grammar.{Reading, file-only, full, Reads}
 use Rattle.names.specs.Definition.Read.{reading}
 use Rattle.names.specs.Laws.Right.{reading-right}
-use Rattle.names.specs.Definition.Parts.{device, unit, partsOf}
+use Rattle.names.specs.Definition.Parts.{device, partsOf}
 use Rattle.names.specs.Laws.Places.{parts-read}
 use Rattle.names.specs.declared.UnitNumber.{UnitNumber}
 use Rattle.names.specs.declared.Parts.the-variants.{Read}

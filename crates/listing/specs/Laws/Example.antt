@@ -138,15 +138,15 @@ shown : (x y : ℕ) (out : List ℕ) → x ≡ 0xAA → y ≡ 0x55 → lineOf 6 
 unfolding lineOf showsOf fieldsOf decimalOf decimalIn filled
 shown x y out e f = rw (e, f)
 
-filled : (x y : ℕ) (out : List ℕ) → length out ≡ 4096 → length (filled 2 (x ∷ y ∷ []) out) ≡ 4096
+filled-length : (x y : ℕ) (out : List ℕ) → length out ≡ 4096 → length (filled 2 (x ∷ y ∷ []) out) ≡ 4096
 unfolding filled
-filled x y out g = rw length-drop (omega arith)
+filled-length x y out g = rw length-drop (omega arith)
 
 said-4 : Says Written 4
 unfolding left next lentTo filled bytesFrom placeOf chainIndexOf offsetOf
 said-4 =
     says Written Any 4 refl refl refl
-    (λ ram out h g p. record { line-is = shown (getD ram 60111 0) (getD ram 60110 0) out (p .0) (p .1); ram-length = h; output-length = filled (getD ram 60111 0) (getD ram 60110 0) out g; such = tt }) said-5
+    (λ ram out h g p. record { line-is = shown (getD ram 60111 0) (getD ram 60110 0) out (p .0) (p .1); ram-length = h; output-length = filled-length (getD ram 60111 0) (getD ram 60110 0) out g; such = tt }) said-5
 
 said-3 : Says Any 3
 unfolding left next lentTo lineOf showsOf fieldsOf decimalOf decimalIn putFrom placeOf chainIndexOf offsetOf

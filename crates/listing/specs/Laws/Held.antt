@@ -10,10 +10,9 @@ use borrow.Author.Tests.{ltb-true, ne-eqb}
 use lib.Dec.{ltb}
 use lib.ListN.{length, take, drop, length-take}
 use Rattle.kernel.specs.Definition.Answers.{granted}
-use Rattle.kernel.specs.Definition.Calls.{start}
 use Rattle.kernel.specs.Definition.Good.{Good}
 use Rattle.kernel.specs.Definition.Reset.{noTables}
-use Rattle.kernel.specs.Definition.Step.{decided, completed, step}
+use Rattle.kernel.specs.Definition.Step.{completed, step}
 use Rattle.kernel.specs.Definition.Tables.{ramSize}
 use Rattle.kernel.specs.Laws.Ready.{decided-ready, start-ready}
 use Rattle.kernel.specs.declared.Tables.{Tables}

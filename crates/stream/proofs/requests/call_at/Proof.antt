@@ -1,7 +1,6 @@
 -- `requests::call_at` meets its definition, a branch a law.
 use denote.Ref.{now}
 use mathlib.Core.Path.{_∙_}
-use native.Mathlib.Omega.{arith}
 use Rattle.stream.proofs.Branches.{head-cut, kind-cut, record-cut, all-there}
 use borrow.Author.Needs.{needs}
 use Rattle.stream.proofs.requests.call_at.Statement.{statement}
