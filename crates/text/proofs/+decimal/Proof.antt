@@ -4,7 +4,7 @@ use denote.Ref.{now}
 use mathlib.Core.Path.{_∙_}
 use native.Mathlib.Omega.{arith}
 use Rattle.text.specs.Laws.Text.{decimal-one, decimal-length, decimal-first, decimal-next}
-use Prim.Native.Nat.{ℕ, _≤_}
+use Prim.Native.Nat.{ℕ, _≤_, _<_}
 use borrow.Fn.Kinds.{In}
 use borrow.Fn.PlainCycle.{Measures, is, falls, and}
 use Rattle.text.proofs.decimal.Reads as decimal
