@@ -1,11 +1,12 @@
 -- Laws of a call over bytes: the lengths that it takes, and what it leaves.
 use mathlib.Core.Path.{_≡_, ap, _∙_}
-use mathlib.Core.Bool.{true, false}
+use mathlib.Core.Bool.{Bool, true, false, not, _||_}
 use mathlib.Core.List.{List}
 use Prim.Native.Nat.{ℕ, _-_, _<_, _≤_}
-use borrow.Author.Tests.{eq-eqb, ne-eqb, lt-leb, le-leb}
+use borrow.Author.Tests.{eq-eqb, ne-eqb, lt-leb, le-leb, not-true, not-false}
+use lib.Dec.{eqb}
 use lib.ListN.{length, take, drop}
-use Rattle.kernel.specs.Definition.Answers.{numberOf}
+use Rattle.kernel.specs.Definition.Answers.{numberOf, granted}
 use Rattle.kernel.specs.Definition.Step.{Result, result}
 use Rattle.kernel.specs.declared.Tables.{Tables}
 use Rattle.kernel.specs.declared.Answer.{Answer}
@@ -48,13 +49,13 @@ done image ram event out image′ ram′ out′ reply′ t kind o p q s i r =
       reply-is = r ∙ ap (λ (x : Result). answerBytes (x .answer)) h;
     }
 
--- the image, by the answer's number
-module _ (answer : Answer) (t : Tables) (image : List ℕ) (n : ℕ) (is : n ≡ numberOf answer) where
-  pub image-done : n ≡ 0 → imageOf t ≡ imageAfter answer t image
-  image-done e = rw (← is, e)
+pub granted-is : (answer : Answer) (n : ℕ) → n ≡ numberOf answer → eqb n 0 || eqb n 17 ≡ granted answer
+granted-is answer n e = ap (λ (x : ℕ). eqb x 0 || eqb x 17) e
 
-  pub image-shared : n ≡ 17 → imageOf t ≡ imageAfter answer t image
-  image-shared e = rw (← is, e)
+-- the image, by whether the call was done
+module _ (answer : Answer) (t : Tables) (image : List ℕ) (done : Bool) (is : done ≡ granted answer) where
+  pub image-stays : not done ≡ true → image ≡ imageAfter answer t image
+  image-stays e = rw (← is, not-true done e)
 
-  pub image-stays : (n ≡ 0 → ⊥) → (n ≡ 17 → ⊥) → image ≡ imageAfter answer t image
-  image-stays a b = rw (← is, ne-eqb n 0 a, ne-eqb n 17 b)
+  pub image-anew : not done ≡ false → imageOf t ≡ imageAfter answer t image
+  image-anew e = rw (← is, not-false done e)

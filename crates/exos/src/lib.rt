@@ -1,6 +1,7 @@
 // The static library: the kernel over bytes, for other languages. c/exos.h tells a C program what each argument is.
 ghost use mathlib.Core.Path.{_≡_};
 ghost use lib.ListN.{length};
+ghost use Rattle.kernel.specs.Definition.Answers as answers;
 ghost use Rattle.exos.specs.Definition.Call.{imageAfter, Called};
 ghost use Rattle.exos.specs.Definition.Replays.{Replays};
 use events::call;
@@ -12,19 +13,23 @@ use kernel::Answer;
 use kernel::Tables;
 use replay::replay;
 
+// "0 is done. 17 SHARED is a grant".
+fn granted(answer: Answer) -> bool
+    ensures { λ r. ⌜ r ≡ answers.granted answer ⌝ }
+{
+    let n = answer.number();
+    (n == 0) | (n == 17)
+}
+
 // The image of the next tables where the call was done; a refused call leaves every byte.
 fn write_back(answer: Answer, next: Tables, image: &mut [u8])
     requires { ⌜ length (now image) ≡ 776 ⌝ }
     ensures { λ _. ⌜ now (image .exit) ≡ imageAfter answer next (now (image .entry)) ⌝ }
 {
-    let n = answer.number();
-    if n == 0 {
-        encode(next, image);
+    if !granted(answer) {
         return;
     }
-    if n == 17 {
-        encode(next, image);
-    }
+    encode(next, image);
 }
 
 // One call, on the image of the tables. False, and nothing changed, where a length is wrong.

@@ -67,7 +67,7 @@ returns-5 c =
     let reply = c .before .before .put-answer in
     let long = reply .kept .1 .0 ∙ tested .if4 .left in (
       all-fit (now (a .image)) (now (a .«record»)) (now (a .reply)) (c .before .before .before .before .before .before .before .before .before .before .before .before .before .before .before .before .before .before .before .before .before .before .before .if1 .left) (c .before .before .before .before .before .before .before .before .before .before .before .before .before .before .before .before .before .before .before .before .before .before .if2 .left) (c .before .before .before .before .before .before .before .before .before .before .before .before .before .before .before .before .before .before .before .before .before .if3 .left) (tested .if4 .left),
-      done (now (a .image)) (now (a .ram)) (now (a .«record»)) (now (a .out)) (image .last .1 .0) (k .last .1 .0) (k .last .1 .1 .1 .1 .0) (reply .last .1 .0) (t .result) (kind .result) (k .result)
+      done (now (a .image)) (now (a .ram)) (now (a .«record»)) (now (a .out)) (image .last .1 .1 .0) (k .last .1 .0) (k .last .1 .1 .1 .1 .0) (reply .last .1 .0) (t .result) (kind .result) (k .result)
           (t .ensures) (kind .ensures) (k .ensures) (image .ensures) (whole (reply .ensures .0) (omega (arith, long, reply .ensures .1))),
     )
 
