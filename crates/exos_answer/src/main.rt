@@ -1,6 +1,6 @@
 // Answers a stream of calls: requests on standard input, replies on standard output.
 ghost use mathlib.Core.Path.{_≡_};
-ghost use Prim.Native.Nat.{_+_, _<_, _≤_};
+ghost use Prim.Native.Nat.{_+_, _≤_};
 ghost use lib.ListN.{length};
 ghost use Rattle.stream.specs.Definition.Requests.{Spans, Brings};
 ghost use Rattle.exos_answer.specs.State.{Ready};

@@ -1,5 +1,4 @@
 // The listing program: reads event records from standard input and prints a line a record.
-ghost use mathlib.Core.Path.{_≡_};
 ghost use Prim.Native.Nat.{_+_, _≤_, _<_};
 ghost use lib.ListN.{length};
 ghost use Rattle.listing.specs.Laws.Held.{Held};

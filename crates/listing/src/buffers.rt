@@ -1,7 +1,7 @@
 // The lines of a buffer.
 ghost use mathlib.Core.Path.{_≡_};
-ghost use Prim.Native.Nat.{ℕ, _+_, _≤_, _<_};
-ghost use lib.ListN.{length, take, drop};
+ghost use Prim.Native.Nat.{_≤_, _<_};
+ghost use lib.ListN.{length, drop};
 ghost use Rattle.listing.specs.Laws.Held.{Held};
 ghost use Rattle.listing.specs.Laws.Pieces.{Stands, Drains};
 use super::Drained;

@@ -1,6 +1,6 @@
 // One record: its call, and its line.
 ghost use mathlib.Core.Path.{_≡_};
-ghost use Prim.Native.Nat.{ℕ, _+_, _≤_, _<_, min};
+ghost use Prim.Native.Nat.{_+_, _≤_, _<_, min};
 ghost use lib.ListN.{length};
 ghost use Rattle.kernel.specs.Definition.Step.{result};
 ghost use Rattle.events.specs.Definition.Records.{stepOf};

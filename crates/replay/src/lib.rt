@@ -1,7 +1,7 @@
 // A buffer of event records, replayed: every whole record at its front, one after the other.
 ghost use mathlib.Core.Path.{_≡_};
 ghost use mathlib.Core.Bool.{true};
-ghost use Prim.Native.Nat.{_<_, _≤_};
+ghost use Prim.Native.Nat.{_≤_};
 ghost use lib.ListN.{length, drop};
 ghost use Rattle.kernel.specs.Definition.Step.{result};
 ghost use Rattle.kernel.specs.Laws.Ready.{Ready};

@@ -1,6 +1,6 @@
 // Bytes by a seed, and bytes that are all the same.
 ghost use mathlib.Core.Path.{_≡_};
-ghost use Prim.Native.Nat.{ℕ, _<_};
+ghost use Prim.Native.Nat.{_<_};
 ghost use lib.ListN.{length, replicate};
 ghost use Rattle.stream.specs.Definition.Seed.{seeded};
 

@@ -1,7 +1,6 @@
 // A request's call, and the reply to it.
 ghost use mathlib.Core.Path.{_≡_};
-ghost use mathlib.Core.List.{List};
-ghost use Prim.Native.Nat.{ℕ, _+_, _-_, _≤_};
+ghost use Prim.Native.Nat.{_+_, _≤_};
 ghost use lib.ListN.{length, take, drop};
 ghost use Rattle.kernel.specs.Definition.Step.{result};
 ghost use Rattle.text.specs.Definition.Put.{Put};

@@ -1,6 +1,6 @@
 // Where a request ends.
 ghost use mathlib.Core.Path.{_≡_};
-ghost use Prim.Native.Nat.{_+_, _<_};
+ghost use Prim.Native.Nat.{_<_};
 ghost use Rattle.stream.specs.Definition.Requests.{callAt, requestIn, CallFits, Fits};
 use super::Found;
 use super::Request;
