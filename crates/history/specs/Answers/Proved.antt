@@ -1,4 +1,4 @@
--- The statements of One.antt, proved.
+-- The statements of Definition/ExactlyOne.antt, proved.
 use mathlib.Core.Path.{_≡_, refl, sym, ap, _∙_}
 use mathlib.Core.List.{List}
 use mathlib.Core.Logic.{_⊎_, inl, inr}

@@ -34,7 +34,7 @@ refused-values BadFlags e = (refl, λ _. refl)
 refused-values BadStart e = (refl, λ _. refl)
 refused-values (Shared a b) e = absurd (false≢true (sym e))
 
--- of any tables, any RAM, any call and any lent output
+-- of any tables, any RAM, any lent output, and any call whose numbers are u8 and u16
 pub refused-changes-nothing : (t : Tables) (ram : List ℕ) (c : Call) (output : List ℕ) → Fields c → granted (step t ram c output .answer) ≡ false
     → step t ram c output ≡ result (gives (step t ram c output .answer) t) ram output
 unfolding step completed

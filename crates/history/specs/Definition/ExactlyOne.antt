@@ -1,4 +1,4 @@
--- "Condition 2's definition gives one result for each input": the forms in which that is said. Proved in Proved.antt.
+-- "Condition 2's definition gives one result for each input": the forms in which that is said. Proved in Answers/Proved.antt.
 use mathlib.Core.Path.{_≡_}
 use mathlib.Core.Bool.{cond}
 use mathlib.Core.List.{List}
