@@ -1,6 +1,6 @@
 //! (d): the cost of a small read by open channels, of a boundary by segments, and of a read by bytes moved.
 
-use crate::measure::difference;
+use crate::measure::cost;
 use crate::plot::Curve;
 use exos_bench::Log;
 
@@ -42,16 +42,16 @@ fn by_channels(rounds: usize, count: u8) -> (usize, [f64; 3]) {
     };
     let mut after = opened();
     (0..CALLS).for_each(|_| after.read(count - 1, 0, 2));
-    let costs = difference(rounds, 8, &opened(), &after, CALLS);
-    (count.into(), costs)
+    let costs = cost(rounds, 8, [&opened(), &after], || ());
+    (count.into(), costs.sides)
 }
 
 fn by_segments(rounds: usize, count: u8) -> (usize, [f64; 3]) {
     let before = Log::started(16_128, count);
     let mut after = Log::started(16_128, count);
     (0..CALLS).for_each(|_| after.record(22, &[]));
-    let costs = difference(rounds, count.into(), &before, &after, CALLS);
-    (count.into(), costs)
+    let costs = cost(rounds, count.into(), [&before, &after], || ());
+    (count.into(), costs.sides)
 }
 
 fn by_bytes(rounds: usize, count: u16) -> (usize, [f64; 3]) {
@@ -62,6 +62,6 @@ fn by_bytes(rounds: usize, count: u16) -> (usize, [f64; 3]) {
     };
     let mut after = opened();
     (0..CALLS).for_each(|_| after.read(1, 0, count));
-    let costs = difference(rounds, 8, &opened(), &after, CALLS);
-    (count.into(), costs)
+    let costs = cost(rounds, 8, [&opened(), &after], || ());
+    (count.into(), costs.sides)
 }

@@ -38,7 +38,7 @@ pub fn print(proved: &str, rust: &str, records: usize, rounds: usize) {
     let times = medians(
         rounds,
         clock::others,
-        &mut [
+        [
             &mut || list(proved, &log, Stdio::null()),
             &mut || list(rust, &log, Stdio::null()),
             &mut || list(proved, &none, Stdio::null()),

@@ -1,20 +1,15 @@
-//! The medians of sides that take turns, and what a log costs on each side.
+//! The medians of work that takes turns, and what a log costs on each side.
 
 use crate::{clock, proved};
 use exos_bench::{run, Log};
+use exos_kernel::Reply;
 use std::hint::black_box;
 
-/// The medians of many runs of each side in turn, in nanoseconds of a clock.
-pub fn medians(rounds: usize, clock: fn() -> f64, sides: &mut [&mut dyn FnMut()]) -> Vec<f64> {
-    let mut times = vec![Vec::new(); sides.len()];
-    for _ in 0..rounds {
-        for (side, times) in sides.iter_mut().zip(&mut times) {
-            let began = clock();
-            side();
-            times.push(clock() - began);
-        }
-    }
-    times.into_iter().map(median).collect()
+/// How long some work takes, in nanoseconds of a clock.
+fn timed(clock: fn() -> f64, work: impl FnOnce()) -> f64 {
+    let began = clock();
+    work();
+    clock() - began
 }
 
 fn median(mut times: Vec<f64>) -> f64 {
@@ -22,58 +17,108 @@ fn median(mut times: Vec<f64>) -> f64 {
     times[times.len() / 2]
 }
 
-/// RAM and output of both kernels, so that neither finds the other's bytes in its cache.
-pub struct Lent {
-    /// 16,384 bytes a segment.
-    pub ram: Vec<u8>,
-    /// What a call may fill.
-    pub out: Vec<u8>,
+/// The medians of many runs of each work in turn.
+pub fn medians<const N: usize>(
+    rounds: usize,
+    clock: fn() -> f64,
+    mut works: [&mut dyn FnMut(); N],
+) -> [f64; N] {
+    let mut times = [(); N].map(|()| Vec::new());
+    for _ in 0..rounds {
+        for (work, times) in works.iter_mut().zip(&mut times) {
+            times.push(timed(clock, work));
+        }
+    }
+    times.map(median)
 }
 
-impl Lent {
-    /// All zero.
-    pub fn new(segments: usize) -> Lent {
-        Lent {
+/// Replays a log over RAM and output, and gives the last answer.
+type Kernel = fn(&mut [u8], &mut [u8], &[u8]) -> Reply;
+
+/// A kernel with RAM and output of its own, so that none finds another's bytes in its cache.
+pub struct Side {
+    kernel: Kernel,
+    ram: Vec<u8>,
+    out: Vec<u8>,
+}
+
+impl Side {
+    /// The proved step that holds its tables, the public calls that test them, the Rust kernel.
+    pub fn all(segments: usize) -> [Side; 3] {
+        let rust: Kernel = |ram, out, log| run(ram, out, log).last;
+        [proved::held, proved::tested, rust].map(|kernel| Side {
+            kernel,
             ram: vec![0; segments * 16_384],
             out: vec![0; 4_096],
-        }
+        })
+    }
+
+    /// All sides, once they have left the same last answer and the same RAM of a log.
+    fn agreeing(segments: usize, log: &Log) -> [Side; 3] {
+        let mut sides = Side::all(segments);
+        let last = sides.each_mut().map(|side| side.replay(log));
+        assert!(last.iter().all(|reply| *reply == last[0]), "the same reply");
+        let [first, others @ ..] = &sides;
+        assert!(
+            others.iter().all(|side| side.ram == first.ram),
+            "the same RAM"
+        );
+        sides
+    }
+
+    /// Replays a log, and gives the last answer.
+    pub fn replay(&mut self, log: &Log) -> Reply {
+        (self.kernel)(&mut self.ram, &mut self.out, &log.bytes)
+    }
+
+    fn time(&mut self, log: &Log) -> f64 {
+        timed(clock::own, || {
+            black_box(self.replay(log));
+        })
     }
 }
 
-/// A log's medians: the proved step that holds its tables, the public calls that test them, the Rust kernel.
+/// A log's medians on each side.
 pub fn log_medians(rounds: usize, segments: usize, log: &Log) -> [f64; 3] {
-    let [mut a, mut b, mut c] = [0; 3].map(|_| Lent::new(segments));
-    let last = run(&mut c.ram, &mut c.out, &log.bytes).last;
-    assert_eq!(proved::held(&mut a.ram, &mut a.out, &log.bytes), last);
-    assert_eq!(proved::tested(&mut b.ram, &mut b.out, &log.bytes), last);
-    assert!(a.ram == c.ram && b.ram == c.ram, "the same RAM");
-    let times = medians(
-        rounds,
-        clock::own,
-        &mut [
-            &mut || {
-                black_box(proved::held(&mut a.ram, &mut a.out, &log.bytes));
-            },
-            &mut || {
-                black_box(proved::tested(&mut b.ram, &mut b.out, &log.bytes));
-            },
-            &mut || {
-                black_box(run(&mut c.ram, &mut c.out, &log.bytes));
-            },
-        ],
-    );
-    [times[0], times[1], times[2]]
+    let mut sides = Side::agreeing(segments, log);
+    let mut times = [(); 3].map(|()| Vec::new());
+    for _ in 0..rounds {
+        for (side, times) in sides.iter_mut().zip(&mut times) {
+            times.push(side.time(log));
+        }
+    }
+    times.map(median)
 }
 
-/// What `more` costs beyond `less`, for each of `calls`.
-pub fn difference(
+/// What one of so many calls costs.
+pub struct Cost {
+    /// On each side: a log with the calls less the same log without them.
+    pub sides: [f64; 3],
+    /// The same number of plain moves.
+    pub plain: f64,
+}
+
+/// The cost of the calls that the second log has and the first has not. The sides and the plain moves take turns.
+pub fn cost(
     rounds: usize,
     segments: usize,
-    less: &Log,
-    more: &Log,
-    calls: usize,
-) -> [f64; 3] {
-    let low = log_medians(rounds, segments, less);
-    let high = log_medians(rounds, segments, more);
-    [0, 1, 2].map(|side| (high[side] - low[side]) / calls as f64)
+    [without, with]: [&Log; 2],
+    mut plain: impl FnMut(),
+) -> Cost {
+    let calls = with.records - without.records;
+    let mut sides = Side::agreeing(segments, with);
+    let mut times = [(); 3].map(|()| Vec::new());
+    let mut plains = Vec::new();
+    for _ in 0..rounds {
+        for (side, times) in sides.iter_mut().zip(&mut times) {
+            let less = side.time(without);
+            times.push(side.time(with) - less);
+        }
+        plains.push(timed(clock::own, || (0..calls).for_each(|_| plain())));
+    }
+    let each = |times| median(times) / calls as f64;
+    Cost {
+        sides: times.map(each),
+        plain: each(plains),
+    }
 }

@@ -3,8 +3,8 @@
 use crate::measure::log_medians;
 use exos_bench::mixed;
 
-/// A table of the sides. The ratios to the Rust kernel, tables held and tested.
-pub fn print(records: usize, rounds: usize) -> [f64; 2] {
+/// A table of the sides.
+pub fn print(records: usize, rounds: usize) {
     let log = mixed(records, 8);
     let [held, tested, rust] = log_medians(rounds, 8, &log).map(|time| time / records as f64);
     println!("## (b), (c) A mixed log\n");
@@ -19,5 +19,4 @@ pub fn print(records: usize, rounds: usize) -> [f64; 2] {
         tested / rust
     );
     println!("| Rust kernel, tables tested | {rust:.0} | 1.00 |\n");
-    [held / rust, tested / rust]
 }

@@ -1,21 +1,15 @@
 //! (e): the stack that a log's calls use.
 
-use crate::measure::Lent;
-use crate::proved;
-use exos_bench::{mixed, run};
+use crate::measure::Side;
+use exos_bench::mixed;
 
-/// A table of the sides. The stack with tables held.
-pub fn print() -> usize {
+/// A table of the sides.
+pub fn print() {
     let log = mixed(2_000, 8);
-    let [mut a, mut b, mut c] = [0; 3].map(|_| Lent::new(8));
-    let held = stack_of(|| {
-        proved::held(&mut a.ram, &mut a.out, &log.bytes);
-    });
-    let tested = stack_of(|| {
-        proved::tested(&mut b.ram, &mut b.out, &log.bytes);
-    });
-    let rust = stack_of(|| {
-        run(&mut c.ram, &mut c.out, &log.bytes);
+    let [held, tested, rust] = Side::all(8).map(|mut side| {
+        stack_of(|| {
+            side.replay(&log);
+        })
     });
     println!("## (e) Stack\n");
     println!("| stack used by a log's calls | bytes |");
@@ -23,7 +17,6 @@ pub fn print() -> usize {
     println!("| proved step, tables held | {held} |");
     println!("| proved public calls, tables tested | {tested} |");
     println!("| Rust kernel | {rust} |\n");
-    held
 }
 
 /// How far below a caller's frame the painted part of the stack reaches.
