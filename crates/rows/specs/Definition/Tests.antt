@@ -5,7 +5,7 @@ use Prim.Native.Nat.{ℕ, _+_, _-_}
 use lib.ListN.{length, getD, take}
 use lib.Dec.{leb, ltb, eqb}
 use Rattle.rows.specs.Definition.Lists.{at, padded, upTo, tally}
-use Rattle.rows.specs.Definition.Classes.{FREE, SHARED, inChain}
+use Rattle.rows.specs.Definition.Classes.{FREE, SHARED, timesHeld}
 use Rattle.rows.specs.Definition.Channels.{zeroChannel}
 use Rattle.rows.specs.Definition.Devices.{beyondDevices, sameName, VIDEO, NET, KEYBOARD}
 use Rattle.rows.specs.declared.Channel.{Channel}
@@ -32,10 +32,9 @@ classTest cs n = upTo 32 (classRow cs n) && upTo 32 (restRow cs n)
 abbrev pub chainRow : List ℕ → ℕ → ℕ → ℕ → Bool
 chainRow chain held n i = leb held i || ltb (at chain i) n
 
--- row i, of this class, stands k times in the chain: once if system or shared, else not at all; a shared one is the chain's last
+-- row i, of this class, stands k times in the chain, as often as its class says; a shared one is the chain's last
 abbrev pub standsRow : ℕ → ℕ → ℕ → ℕ → ℕ → Bool
-standsRow class k last n i =
-    leb n i || (((inChain class && eqb k 1) || (not (inChain class) && eqb k 0)) && (not (eqb class SHARED) || eqb last i))
+standsRow class k last n i = leb n i || (eqb k (timesHeld class) && (not (eqb class SHARED) || eqb last i))
 
 abbrev pub exactRow : List ℕ → List ℕ → ℕ → ℕ → ℕ → ℕ → Bool
 exactRow cs chain held last n i = standsRow (at cs i) (tally i (take held chain)) last n i

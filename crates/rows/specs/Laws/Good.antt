@@ -1,6 +1,6 @@
 -- The tests and the records say the same, part by part.
 use mathlib.Core.Path.{_≡_, refl, ap, sym, _∙_}
-use mathlib.Core.Bool.{Bool, true, false, cond, not, _&&_, _||_, false≢true}
+use mathlib.Core.Bool.{Bool, true, false, not, _&&_, _||_, false≢true}
 use mathlib.Core.List.{List}
 use mathlib.Core.Logic.{_⊎_, inl, inr, ⊎-elim}
 use Prim.Native.Nat.{ℕ, _+_, _-_, _≤_, _<_}
@@ -11,7 +11,7 @@ use lib.Dec.{leb, ltb, eqb}
 use borrow.Author.Tests.{leb-true, ltb-true, eqb-true, le-leb, lt-ltb, eq-eqb, not-true}
 use Rattle.rows.specs.Definition.Lists.{at, padded, tally, upTo}
 use Rattle.rows.specs.Laws.Lists.{below→all, all→below, and-left, and-right}
-use Rattle.rows.specs.Definition.Classes.{FREE, SHARED, inChain, timesHeld}
+use Rattle.rows.specs.Definition.Classes.{FREE, SHARED, timesHeld}
 use Rattle.rows.specs.Definition.Channels.{zeroChannel}
 use Rattle.rows.specs.Definition.Devices.{beyondDevices, sameBytes, sameName, VIDEO, NET, KEYBOARD}
 use Rattle.rows.specs.Definition.Good.{ListGood, ClassesGood, ChainGood, RoomGood, ChannelsGood, UserGood, NameGood, Same, ZeroDevice, Alias, Named, DevicesGood, DefaultGood}
@@ -43,10 +43,6 @@ says-and {a} {b} f g = record { yes = λ e. (f .yes (and-left a b e), g .yes (an
 or-late : (a b : Bool) → a || b ≡ true → (a ≡ true → ⊥) → b ≡ true
 or-late true b e n = absurd (n refl)
 or-late false b e n = e
-
-or-left : (a : Bool) → a || false ≡ true → a ≡ true
-or-left true e = refl
-or-left false e = e
 
 or-first : (a b : Bool) → a ≡ true → a || b ≡ true
 or-first a b e = rw e
@@ -164,19 +160,12 @@ class-says cs n one most =
 abbrev times : List ℕ → ℕ → ℕ → ℕ
 times chain held i = tally i (take held chain)
 
-exact-says : (c k : ℕ) → Says ((inChain c && eqb k 1) || (not (inChain c) && eqb k 0)) (k ≡ timesHeld c)
-exact-says c k = go (inChain c)
-  where
-    go : (b : Bool) → Says ((b && eqb k 1) || (not b && eqb k 0)) (k ≡ cond b 1 0)
-    go true = record { yes = λ e. eqb-true k 1 (or-left (eqb k 1) e); make = λ q. rw q }
-    go false = record { yes = λ e. eqb-true k 0 e; make = λ q. rw q }
-
 pub chain-says : (cs chain : List ℕ) (held n : ℕ) → n ≤ 32 → Says (chainTest cs chain held n) (ChainGood n cs chain held)
 chain-says cs chain held n most =
     says-as (says-and (says-and (says-and (says-and (says-and (says-le 1 held) (says-le held 32)) (says-eq (at chain 0) (n - 1)))
     (says-all 32 (chainRow chain held n) _ (λ i h. says-below held i (says-lt (at chain i) n))))
     (says-all 32 (exactRow cs chain held (at chain (held - 1)) n) _ (λ i h. says-below n i
-    (says-and (exact-says (at cs i) (times chain held i)) (says-else (says-not (says-eq (at cs i) SHARED)) (says-eq (at chain (held - 1)) i))))))
+    (says-and (says-eq (times chain held i) (timesHeld (at cs i))) (says-else (says-not (says-eq (at cs i) SHARED)) (says-eq (at chain (held - 1)) i))))))
     (says-rest chain held))
     (λ h. record {
       holds = h .0 .0 .0 .0 .0;

@@ -1,14 +1,30 @@
 -- `segments::exact` meets its contract. The loop's invariant: `ok` is the test over the rows passed, with the counts for the tallies.
 use borrow.Author.Needs.{needs}
 use mathlib.Core.Path.{_∙_, _≡_, refl}
-use Prim.Native.Nat.{_-_, _≤_}
+use mathlib.Core.Bool.{Bool, true, false, cond, not, _&&_, _||_}
+use Prim.Native.Nat.{ℕ, _-_, _≤_}
 use native.Mathlib.Omega.{arith}
+use lib.Dec.{leb, eqb}
 use borrow.Author.Tests.{le-leb, lt-leb}
 use Rattle.rows.specs.Definition.Lists.{at, below, upTo}
-use Rattle.rows.specs.Laws.Lists.{row-more, not-excused, below-rest, below-same}
+use Rattle.rows.specs.Laws.Lists.{row-more, below-rest, below-same}
+use Rattle.rows.specs.Definition.Classes.{SHARED, inChain}
 use Rattle.rows.specs.Definition.Tests.{exactRow, standsRow}
 use Rattle.rows.proofs.segments.exact.Statement.{statement}
 use Rattle.rows.proofs.segments.exact.Tie as tie
+
+-- the code asks for each count in turn
+once : (b : Bool) (k : ℕ) → (b && eqb k 1) || (not b && eqb k 0) ≡ eqb k (cond b 1 0)
+once true k = or-none (eqb k 1)
+  where
+    or-none : (b : Bool) → b || false ≡ b
+    or-none true = refl
+    or-none false = refl
+once false k = refl
+
+stands : (c k last n i : ℕ) → leb n i ≡ false
+    → ((inChain c && eqb k 1) || (not (inChain c) && eqb k 0)) && (not (eqb c SHARED) || eqb last i) ≡ standsRow c k last n i
+stands c k last n i e = rw (e, once (inChain c) k)
 
 abbrev Inv-loop : tie.InvT-loop
 Inv-loop held last n classes times ok₀ i₀ ok i = (i ≤ n) × (ok ≡ below i (λ j. standsRow (at classes j) (at times j) last n j))
@@ -38,7 +54,8 @@ loop-again : tie.Need-loop-again Inv-loop μ-loop
 loop-again c =
     let s = c .before .before .before .args in
     let times = c .before .before .tallies .result in
-    (search needs, row-more (λ j. standsRow (at (s .t1) j) (at times j) (s .last) (s .n) j) _ _ _ (c .before .loop .inv .1) (not-excused _ _ (lt-leb (s .n) (c .before .loop .i) (omega arith))))
+    let i = c .before .loop .i in
+    (search needs, row-more (λ j. standsRow (at (s .t1) j) (at times j) (s .last) (s .n) j) i _ _ (c .before .loop .inv .1) (stands (at (s .t1) i) (at times i) (s .last) (s .n) i (lt-leb (s .n) i (omega arith))))
 
 returns : tie.Need-returns Inv-loop μ-loop
 unfolding upTo
