@@ -1,6 +1,6 @@
--- More of tests as facts: where a test fails, and a choice of two tests.
+-- More of tests as facts: where a test fails.
 use mathlib.Core.Path.{_≡_, refl}
-use mathlib.Core.Bool.{Bool, true, false, cond, false≢true}
+use mathlib.Core.Bool.{Bool, true, false, false≢true}
 use mathlib.Core.Logic.{_⊎_, inl, inr}
 use Prim.Native.Nat.{ℕ}
 use native.Mathlib.Decide.{decLt}
@@ -31,11 +31,3 @@ says-beyond i n f = record {
   yes = λ e p. omega (arith, leb-true n i e, ltb-true i n (f .make p));
   make = λ m. elim (decLt i n) [ yes h ↦ absurd (m (f .yes (lt-ltb i n h))) | no h ↦ le-leb n i (omega arith) ];
 }
-
--- one test where S holds, and another where it does not
-pub says-cond : {b x y : Bool} {S P Q : Type 0} → Says b S → Says x P → Says y Q → Says (cond b x y) ((S → P) × ((S → ⊥) → Q))
-says-cond {b} {x} {y} {S} {P} {Q} s f g = go b s
-  where
-    go : (b : Bool) → Says b S → Says (cond b x y) ((S → P) × ((S → ⊥) → Q))
-    go true s = record { yes = λ e. (λ _. f .yes e, λ n. absurd (n (s .yes refl))); make = λ h. f .make (h .0 (s .yes refl)) }
-    go false s = record { yes = λ e. (λ p. absurd (false≢true (s .make p)), λ _. g .yes e); make = λ h. g .make (h .1 (λ p. false≢true (s .make p))) }

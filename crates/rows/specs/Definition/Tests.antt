@@ -1,5 +1,5 @@
 -- The parts of good tables as tests that the code computes: every row of every array is asked.
-use mathlib.Core.Bool.{Bool, not, _&&_, _||_}
+use mathlib.Core.Bool.{Bool, cond, not, _&&_, _||_}
 use mathlib.Core.List.{List}
 use Prim.Native.Nat.{ℕ, _+_, _-_}
 use lib.ListN.{length, getD, take}
@@ -23,7 +23,7 @@ listTest xs n = leb 2 n && leb n 32 && upTo 31 (riseRow xs n) && ltb 7 (at xs 0)
 
 -- row 0 has no class, each other row below n has one
 abbrev pub classRow : List ℕ → ℕ → ℕ → Bool
-classRow cs n i = leb n i || ((ltb 0 i || eqb (at cs i) 0) && (leb i 0 || leb FREE (at cs i)) && leb (at cs i) SHARED)
+classRow cs n i = leb n i || cond (eqb i 0) (eqb (at cs i) 0) (leb FREE (at cs i) && leb (at cs i) SHARED)
 
 abbrev pub classTest : List ℕ → ℕ → Bool
 classTest cs n = upTo 32 (classRow cs n) && upTo 32 (restRow cs n)

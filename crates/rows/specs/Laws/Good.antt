@@ -1,6 +1,6 @@
 -- The tests and the records say the same, part by part.
 use mathlib.Core.Path.{_≡_, refl, ap, sym, _∙_}
-use mathlib.Core.Bool.{Bool, true, false, not, _&&_, _||_, false≢true}
+use mathlib.Core.Bool.{Bool, true, false, cond, not, _&&_, _||_, false≢true}
 use mathlib.Core.List.{List}
 use mathlib.Core.Logic.{_⊎_, inl, inr, ⊎-elim}
 use Prim.Native.Nat.{ℕ, _+_, _-_, _≤_, _<_}
@@ -98,6 +98,14 @@ says-else {a} {b} f g = record {
     go true b k = refl
     go false b k = k (λ e. false≢true e)
 
+-- one test where S holds, and another where it does not
+pub says-cond : {b x y : Bool} {S P Q : Type 0} → Says b S → Says x P → Says y Q → Says (cond b x y) ((S → P) × ((S → ⊥) → Q))
+says-cond {b} {x} {y} {S} {P} {Q} s f g = go b s
+  where
+    go : (b : Bool) → Says b S → Says (cond b x y) ((S → P) × ((S → ⊥) → Q))
+    go true s = record { yes = λ e. (λ _. f .yes e, λ n. absurd (n (s .yes refl))); make = λ h. f .make (h .0 (s .yes refl)) }
+    go false s = record { yes = λ e. (λ p. absurd (false≢true (s .make p)), λ _. g .yes e); make = λ h. g .make (h .1 (λ p. false≢true (s .make p))) }
+
 -- one or the other
 pub says-or : {a b : Bool} {P Q : Type 0} → Says a P → Says b Q → Says (a || b) (P ⊎ Q)
 says-or {a} {b} f g = record {
@@ -146,15 +154,15 @@ room-says room cold =
 pub class-says : (cs : List ℕ) (n : ℕ) → 1 ≤ n → n ≤ 32 → Says (classTest cs n) (ClassesGood n cs)
 class-says cs n one most =
     says-as (says-and (says-all 32 (classRow cs n) _ (λ i h. says-below n i
-    (says-and (says-and (says-else (says-lt 0 i) (says-eq (at cs i) 0)) (says-else (says-le i 0) (says-le FREE (at cs i)))) (says-le (at cs i) SHARED))))
+    (says-cond (says-eq i 0) (says-eq (at cs i) 0) (says-and (says-le FREE (at cs i)) (says-le (at cs i) SHARED)))))
     (says-rest cs n))
     (λ h. record {
-      page = h .0 0 (omega arith) (omega arith) .0 .0 (λ q. omega arith);
-      some = λ i a b. h .0 i (omega arith) b .0 .1 (λ q. omega arith);
-      most = λ i b. h .0 i (omega arith) b .1;
+      page = h .0 0 (omega arith) (omega arith) .0 refl;
+      some = λ i a b. h .0 i (omega arith) b .1 (λ q. omega arith) .0;
+      most = λ i b. elim (ℕ-discrete i 0) [ yes q ↦ omega (arith, h .0 i (omega arith) b .0 q) | no q ↦ h .0 i (omega arith) b .1 q .1 ];
       rest = λ i a b. h .1 i b a;
     })
-    (λ g. (λ i h b. ((λ q. let z : i ≡ 0 = omega arith in rw z (g .page), λ q. g .some i (omega arith) b), g .most i b), λ i h a. g .rest i a h))
+    (λ g. (λ i h b. (λ q. rw q (g .page), λ q. (g .some i (omega arith) b, g .most i b)), λ i h a. g .rest i a h))
 
 -- the chain
 abbrev times : List ℕ → ℕ → ℕ → ℕ

@@ -2,13 +2,12 @@
 use Prim.Native.Nat.{ℕ, _+_, _-_, _*_}
 use Rattle.rows.specs.Definition.Classes.{FREE, SHARED}
 use Rattle.rows.specs.Definition.Sizes.{chainLength, boundaryAt}
-use Rattle.rows.specs.Laws.Good.{Says, says-le, says-eq, says-and, says-as}
+use Rattle.rows.specs.Laws.Good.{Says, says-le, says-eq, says-and, says-as, says-cond}
 use Rattle.kernel.specs.Definition.Tables.{SEGMENT, countOf}
 use Rattle.kernel.specs.Definition.Good.{Good}
 use Rattle.kernel.specs.Definition.Line.{roomFor}
 use Rattle.kernel.specs.Definition.Refusals.{Room}
 use Rattle.kernel.specs.declared.Tables.{Tables}
-use Rattle.history.specs.Answers.Tests.{says-cond}
 use Rattle.history.specs.Answers.Found.{some-says}
 
 module _ (t : Tables) (g : Good t) where
