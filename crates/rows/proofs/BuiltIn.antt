@@ -8,8 +8,8 @@ use native.Mathlib.Decide.{decLt}
 use borrow.Author.Tests.{lt-ltb, le-ltb}
 use lib.Dec.{leb, ltb}
 use lib.ListN.{length, getD}
-use Rattle.rows.specs.Definition.Lists.{padded, below, upTo}
-use Rattle.rows.specs.Laws.Lists.{below-same, and-left, and-right}
+use Rattle.rows.specs.Definition.Lists.{padded, upTo}
+use Rattle.rows.specs.Laws.Lists.{upTo-same, and-left, and-right}
 use Rattle.rows.specs.Definition.Devices.{beyondDevices, sameName, VIDEO, NET, KEYBOARD}
 use Rattle.rows.specs.Definition.Tests.{letterRow, nameTest, aliasRow, agree, deviceRow, namedRow, builtTest}
 use Rattle.rows.specs.Laws.Good.{same-says}
@@ -23,14 +23,10 @@ abbrev pub linkedRow : List Device → ℕ → ℕ → Bool
 linkedRow ds known i =
     (ltb i 3 || someName (getD ds i beyondDevices .name) (getD ds i beyondDevices .length)) && agree (getD ds i beyondDevices .enabled) (upTo known (aliasRow ds i))
 
-same-tests : (n : ℕ) (p q : ℕ → Bool) → ((i : ℕ) → i < n → p i ≡ q i) → upTo n p ≡ upTo n q
-unfolding upTo
-same-tests n p q f = below-same n p q f
-
 name-same : (a : List ℕ) (la : ℕ) (b : List ℕ) (lb : ℕ) → sameName a la b lb ≡ true → someName a la ≡ someName b lb
 name-same a la b lb e =
     let s = same-says a la b lb .yes e in
-    rw (s .long, same-tests 28 (letterRow a lb) (letterRow b lb) (λ k h. rw (s .bytes k h)))
+    rw (s .long, upTo-same 28 (letterRow a lb) (letterRow b lb) (λ k h. rw (s .bytes k h)))
 
 row-named : (ds : List Device) (i : ℕ) (s : List ℕ) → namedRow ds i s ≡ true → someName (padded 28 s) (length s) ≡ true
     → someName (getD ds i beyondDevices .name) (getD ds i beyondDevices .length) ≡ true
@@ -68,10 +64,9 @@ module _ (ds : List Device) (known : ℕ) where
         | no g ↦ asked (ltb i 3) _ _ (le-ltb i 3 (omega arith))
       ]
 
-  by-built : (b : Bool) → builtTest ds ≡ b → b && below known (linkedRow ds known) ≡ b && below known (deviceRow ds known)
-  by-built true e = below-same known _ _ (λ i h. same-row e i)
+  by-built : (b : Bool) → builtTest ds ≡ b → b && upTo known (linkedRow ds known) ≡ b && upTo known (deviceRow ds known)
+  by-built true e = upTo-same known _ _ (λ i h. same-row e i)
   by-built false e = refl
 
-  pub built-rows : (ok : Bool) → ok ≡ below known (linkedRow ds known) → builtTest ds && ok ≡ builtTest ds && upTo known (deviceRow ds known)
-  unfolding upTo
+  pub built-rows : (ok : Bool) → ok ≡ upTo known (linkedRow ds known) → builtTest ds && ok ≡ builtTest ds && upTo known (deviceRow ds known)
   built-rows ok e = rw e (by-built (builtTest ds) refl)

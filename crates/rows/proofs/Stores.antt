@@ -10,7 +10,7 @@ use borrow.Author.Tests.{eq-eqb, ne-eqb}
 use lib.Dec.{eqb}
 use lib.ListN.{length, getD, take, set, replicate, getD-replicate, length-set, length-map, length-append, length-replicate, length-take, List·getD-append, List·getD-eq-default}
 use lib.Seq.{getD-set-same, getD-set-other, getD-take, ext-getD, getD-append-add}
-use Rattle.rows.specs.Definition.Lists.{at, padded, tally, below, upTo}
+use Rattle.rows.specs.Definition.Lists.{at, padded, tally, upTo}
 use Rattle.rows.specs.Laws.Lists.{all-more, and-yes}
 use Rattle.rows.specs.Definition.Classes.{FREE, SYSTEM, startClasses}
 use Rattle.rows.specs.Definition.Channels.{zeroChannel}
@@ -215,7 +215,7 @@ module _ {A : Type 0} (z : A) (n : ℕ) where
 -- the numbers that the first i channels have
 pub record Seen (cs : List Channel) (i : ℕ) (seen : List Bool) : Type 0 where
   pub long : length seen ≡ 256
-  pub each : (x : ℕ) → x < 256 → getD seen x false ≡ not (below i (λ j. not (eqb (getD cs j zeroChannel .number) x)))
+  pub each : (x : ℕ) → x < 256 → getD seen x false ≡ not (upTo i (λ j. not (eqb (getD cs j zeroChannel .number) x)))
 
 not-not : (b : Bool) → not (not b) ≡ b
 not-not true = refl
@@ -223,14 +223,14 @@ not-not false = refl
 
 module _ (cs : List Channel) where
   pub seen-none : Seen cs 0 (replicate 256 false)
+  unfolding upTo
   seen-none = record { long = refl; each = λ x h. getD-replicate 256 x false false h }
 
   module _ (i k : ℕ) (seen : List Bool) (e : k ≡ getD cs i zeroChannel .number) (h : k < 256) (m : Seen cs i seen) where
     -- the number of row i is new
     pub unseen : not (getD seen k false) ≡ upTo i (differRow cs i)
-    unfolding upTo
     unseen =
-        let others : ℕ → Bool = λ x. below i (λ j. not (eqb (getD cs j zeroChannel .number) x)) in
+        let others : ℕ → Bool = λ x. upTo i (λ j. not (eqb (getD cs j zeroChannel .number) x)) in
         ap not (m .each k h) ∙ not-not (others k) ∙ ap others e
 
     pub seen-more : Seen cs (i + 1) (set seen k true)
@@ -238,14 +238,14 @@ module _ (cs : List Channel) where
       long = length-set seen k true ∙ m .long;
       each = λ x l.
           let p : ℕ → Bool = λ j. not (eqb (getD cs j zeroChannel .number) x) in
-          let next : below i p && p i ≡ below (i + 1) p = all-more p i (below i p) refl in
+          let next : upTo i p && p i ≡ upTo (i + 1) p = all-more p i (upTo i p) refl in
           elim (ℕ-discrete x k) [
             | yes q ↦
                 let hit : p i ≡ false = rw (eq-eqb (getD cs i zeroChannel .number) x (sym e ∙ sym q)) in
-                let all : below (i + 1) p ≡ false = sym next ∙ ap (λ (b : Bool). below i p && b) hit ∙ and-false (below i p) in
+                let all : upTo (i + 1) p ≡ false = sym next ∙ ap (λ (b : Bool). upTo i p && b) hit ∙ and-false (upTo i p) in
                 ap (λ (y : ℕ). getD (set seen k true) y false) q ∙ getD-set-same seen k true false (omega (arith, m .long)) ∙ ap not (sym all)
             | no q ↦
                 let miss : p i ≡ true = rw (ne-eqb (getD cs i zeroChannel .number) x (λ f. q (sym f ∙ sym e))) in
-                getD-set-other seen k x true false q ∙ m .each x l ∙ ap not (and-yes (below i p) (p i) miss ∙ next)
+                getD-set-other seen k x true false q ∙ m .each x l ∙ ap not (and-yes (upTo i p) (p i) miss ∙ next)
           ];
     }

@@ -47,10 +47,6 @@ sumTo zero f = 0
 sumTo (suc n) f = sumTo n f + f n
 
 -- the test passes at each number below n
-abbrev pub below : ℕ → (ℕ → Bool) → Bool
-below zero p = true
-below (suc n) p = below n p && p n
-
--- the same, shut: at a literal bound `below` computes to as many tests
 unfoldable pub upTo : ℕ → (ℕ → Bool) → Bool
-upTo n p = below n p
+upTo zero p = true
+upTo (suc n) p = upTo n p && p n

@@ -10,7 +10,7 @@ use lib.ListN.{length, getD, take}
 use lib.Dec.{leb, ltb, eqb}
 use borrow.Author.Tests.{leb-true, ltb-true, eqb-true, le-leb, lt-ltb, eq-eqb, not-true}
 use Rattle.rows.specs.Definition.Lists.{at, padded, tally, upTo}
-use Rattle.rows.specs.Laws.Lists.{below→all, all→below, and-left, and-right}
+use Rattle.rows.specs.Laws.Lists.{upTo→all, all→upTo, and-left, and-right}
 use Rattle.rows.specs.Definition.Classes.{FREE, SHARED, timesHeld}
 use Rattle.rows.specs.Definition.Channels.{zeroChannel}
 use Rattle.rows.specs.Definition.Devices.{beyondDevices, sameBytes, sameName, VIDEO, NET, KEYBOARD}
@@ -67,10 +67,9 @@ says-from {b} n i f = record {
 
 -- asked of each number below n
 pub says-all : (n : ℕ) (p : ℕ → Bool) (P : ℕ → Type 0) → ((i : ℕ) → i < n → Says (p i) (P i)) → Says (upTo n p) ((i : ℕ) → i < n → P i)
-unfolding upTo
 says-all n p P f = record {
-  yes = λ e i h. f i h .yes (below→all n p e i h);
-  make = λ g. all→below n p (λ i h. f i h .make (g i h));
+  yes = λ e i h. f i h .yes (upTo→all n p e i h);
+  make = λ g. all→upTo n p (λ i h. f i h .make (g i h));
 }
 
 false-of : (b : Bool) → (b ≡ true → ⊥) → b ≡ false

@@ -9,7 +9,7 @@ use native.Mathlib.Omega.{arith}
 use native.Mathlib.Decide.{decLt}
 use borrow.Author.Tests.{eq-eqb, ne-eqb, lt-ltb}
 use lib.ListN.{length, getD, take}
-use Rattle.rows.specs.Definition.Lists.{every, firstWhere, lastOf, below}
+use Rattle.rows.specs.Definition.Lists.{every, firstWhere, lastOf, upTo}
 
 -- a test that passed, as what it tested
 pub and-left : (a b : Bool) → a && b ≡ true → a ≡ true
@@ -26,29 +26,33 @@ every-at p (x ∷ xs) d t zero h = and-left (p x) (every p xs) t
 every-at p (x ∷ xs) d t (suc k) h = every-at p xs d (and-right (p x) (every p xs) t) k (le-of-suc-le-suc h)
 
 -- the bounded test as the statement, and back
-pub below→all : (n : ℕ) (p : ℕ → Bool) → below n p ≡ true → (i : ℕ) → i < n → p i ≡ true
-below→all zero p t i h = absurd (not-suc-le-zero h)
-below→all (suc n) p t i h =
+pub upTo→all : (n : ℕ) (p : ℕ → Bool) → upTo n p ≡ true → (i : ℕ) → i < n → p i ≡ true
+unfolding upTo
+upTo→all zero p t i h = absurd (not-suc-le-zero h)
+upTo→all (suc n) p t i h =
     elim (decLt i n) [
-      | yes g ↦ below→all n p (and-left (below n p) (p n) t) i g
-      | no g ↦ let e : n ≡ i = omega arith in subst (λ (k : ℕ). p k ≡ true) e (and-right (below n p) (p n) t)
+      | yes g ↦ upTo→all n p (and-left (upTo n p) (p n) t) i g
+      | no g ↦ let e : n ≡ i = omega arith in subst (λ (k : ℕ). p k ≡ true) e (and-right (upTo n p) (p n) t)
     ]
 
-pub all→below : (n : ℕ) (p : ℕ → Bool) → ((i : ℕ) → i < n → p i ≡ true) → below n p ≡ true
-all→below zero p f = refl
-all→below (suc n) p f = rw (all→below n p (λ i h. f i (omega arith)), f n (omega arith))
+pub all→upTo : (n : ℕ) (p : ℕ → Bool) → ((i : ℕ) → i < n → p i ≡ true) → upTo n p ≡ true
+unfolding upTo
+all→upTo zero p f = refl
+all→upTo (suc n) p f = rw (all→upTo n p (λ i h. f i (omega arith)), f n (omega arith))
 
 -- the same test, row by row
-pub below-same : (n : ℕ) (p q : ℕ → Bool) → ((i : ℕ) → i < n → p i ≡ q i) → below n p ≡ below n q
-below-same zero p q f = refl
-below-same (suc n) p q f = rw (below-same n p q (λ i h. f i (omega arith)), f n (omega arith))
+pub upTo-same : (n : ℕ) (p q : ℕ → Bool) → ((i : ℕ) → i < n → p i ≡ q i) → upTo n p ≡ upTo n q
+unfolding upTo
+upTo-same zero p q f = refl
+upTo-same (suc n) p q f = rw (upTo-same n p q (λ i h. f i (omega arith)), f n (omega arith))
 
 -- one more row asked
-pub all-more : (p : ℕ → Bool) (i : ℕ) (ok : Bool) → ok ≡ below i p → ok && p i ≡ below (i + 1) p
+pub all-more : (p : ℕ → Bool) (i : ℕ) (ok : Bool) → ok ≡ upTo i p → ok && p i ≡ upTo (i + 1) p
+unfolding upTo
 all-more p i ok e = rw (add-one, e)
 
 -- the same, where the code asks less of a row: it does not ask again what it knows of its place
-pub row-more : (p : ℕ → Bool) (i : ℕ) (ok x : Bool) → ok ≡ below i p → x ≡ p i → ok && x ≡ below (i + 1) p
+pub row-more : (p : ℕ → Bool) (i : ℕ) (ok x : Bool) → ok ≡ upTo i p → x ≡ p i → ok && x ≡ upTo (i + 1) p
 row-more p i ok x e f = rw f (all-more p i ok e)
 
 pub not-excused : (b x : Bool) → b ≡ false → x ≡ b || x
@@ -59,14 +63,15 @@ and-yes true b e = sym e
 and-yes false b e = refl
 
 -- rows that pass wherever they are asked
-pub below-rest : (m k : ℕ) (p : ℕ → Bool) → m ≤ k → ((i : ℕ) → m ≤ i → i < k → p i ≡ true) → below m p ≡ below k p
-below-rest m zero p h f = let e : m ≡ 0 = omega arith in rw e
-below-rest m (suc k) p h f =
+pub upTo-rest : (m k : ℕ) (p : ℕ → Bool) → m ≤ k → ((i : ℕ) → m ≤ i → i < k → p i ≡ true) → upTo m p ≡ upTo k p
+unfolding upTo
+upTo-rest m zero p h f = let e : m ≡ 0 = omega arith in rw e
+upTo-rest m (suc k) p h f =
     elim (decLt k m) [
       | yes g ↦ let e : m ≡ suc k = omega arith in rw e
       | no g ↦
-          below-rest m k p (omega arith) (λ i a b. f i a (omega arith))
-          ∙ and-yes (below k p) (p k) (f k (omega arith) (omega arith))
+          upTo-rest m k p (omega arith) (λ i a b. f i a (omega arith))
+          ∙ and-yes (upTo k p) (p k) (f k (omega arith) (omega arith))
     ]
 
 -- firstWhere: where the first stands, and where there is none

@@ -3,7 +3,7 @@ use borrow.Author.Needs.{needs}
 use mathlib.Core.Path.{_≡_, refl}
 use Prim.Native.Nat.{_-_, _≤_}
 use native.Mathlib.Omega.{arith}
-use Rattle.rows.specs.Definition.Lists.{at, below, upTo}
+use Rattle.rows.specs.Definition.Lists.{at, upTo}
 use Rattle.rows.specs.Laws.Lists.{all-more}
 use Rattle.rows.specs.Definition.Tests.{channelRow}
 use Rattle.rows.proofs.Stores.{Seen, seen-none, seen-more, unseen}
@@ -11,12 +11,13 @@ use Rattle.rows.proofs.channels.channels_fine.Statement.{statement}
 use Rattle.rows.proofs.channels.channels_fine.Tie as tie
 
 abbrev Inv-loop : tie.InvT-loop
-Inv-loop opened known channels seen₀ ok₀ i₀ seen ok i = (i ≤ opened) × Seen channels i seen × (ok ≡ below i (channelRow channels known))
+Inv-loop opened known channels seen₀ ok₀ i₀ seen ok i = (i ≤ opened) × Seen channels i seen × (ok ≡ upTo i (channelRow channels known))
 
 abbrev μ-loop : tie.MeasureT-loop
 μ-loop opened known channels seen₀ ok₀ i₀ seen ok i = opened - i
 
 loop-holds : tie.Need-loop-holds Inv-loop μ-loop
+unfolding upTo
 loop-holds c = (search needs, seen-none (c .args .t1), refl)
 
 mul-c : tie.Need-mul-c Inv-loop μ-loop
@@ -55,7 +56,6 @@ loop-again c =
     )
 
 returns : tie.Need-returns Inv-loop μ-loop
-unfolding upTo
 returns c = let e : c .before .loop .i ≡ c .before .before .args .opened = omega arith in rw e at (c .before .loop .inv .2)
 
 pub channels-fine-spec : {M : Type 1} → statement M

@@ -4,20 +4,20 @@ use mathlib.Core.Path.{_≡_, sym}
 use Prim.Native.Nat.{_-_, _≤_}
 use native.Mathlib.Omega.{arith}
 use borrow.Author.Tests.{lt-ltb, le-ltb}
-use Rattle.rows.specs.Definition.Lists.{at, below, upTo}
-use Rattle.rows.specs.Laws.Lists.{all→below, row-more, not-excused}
+use Rattle.rows.specs.Definition.Lists.{at, upTo}
+use Rattle.rows.specs.Laws.Lists.{all→upTo, row-more, not-excused}
 use Rattle.rows.specs.Definition.Tests.{restChannel}
 use Rattle.rows.proofs.channels.empty_from.Statement.{statement}
 use Rattle.rows.proofs.channels.empty_from.Tie as tie
 
 abbrev Inv-loop : tie.InvT-loop
-Inv-loop opened channels ok₀ i₀ ok i = (opened ≤ i) × (i ≤ 32) × (ok ≡ below i (restChannel channels opened))
+Inv-loop opened channels ok₀ i₀ ok i = (opened ≤ i) × (i ≤ 32) × (ok ≡ upTo i (restChannel channels opened))
 
 abbrev μ-loop : tie.MeasureT-loop
 μ-loop opened channels ok₀ i₀ ok i = 32 - i
 
 loop-holds : tie.Need-loop-holds Inv-loop μ-loop
-loop-holds c = let n = c .args .opened in (search needs, search needs, sym (all→below n _ (λ i h. rw (lt-ltb i n h))))
+loop-holds c = let n = c .args .opened in (search needs, search needs, sym (all→upTo n _ (λ i h. rw (lt-ltb i n h))))
 
 mul-c : tie.Need-mul-c Inv-loop μ-loop
 mul-c c = search needs
@@ -35,7 +35,6 @@ loop-again : tie.Need-loop-again Inv-loop μ-loop
 loop-again c = let s = c .before .before .before .before .before .before .before .args in let l = c .before .before .before .before .before .before .loop in (search needs, search needs, row-more (restChannel (s .t1) (s .opened)) _ _ _ (l .inv .2) (not-excused _ _ (le-ltb (l .i) (s .opened) (l .inv .0))))
 
 returns : tie.Need-returns Inv-loop μ-loop
-unfolding upTo
 returns c = let e : c .before .loop .i ≡ 32 = omega arith in rw e at (c .before .loop .inv .2)
 
 pub empty-from-spec : {M : Type 1} → statement M

@@ -4,21 +4,21 @@ use mathlib.Core.Path.{_≡_, refl, sym}
 use Prim.Native.Nat.{_+_, _-_, _≤_, _<_}
 use native.Mathlib.Omega.{arith}
 use borrow.Author.Tests.{le-leb, lt-leb}
-use Rattle.rows.specs.Definition.Lists.{at, below, upTo}
-use Rattle.rows.specs.Laws.Lists.{all→below, all-more, row-more, not-excused}
+use Rattle.rows.specs.Definition.Lists.{at, upTo}
+use Rattle.rows.specs.Laws.Lists.{all→upTo, all-more, row-more, not-excused}
 use Rattle.rows.specs.Definition.Tests.{aliasRow, builtTest}
 use Rattle.rows.proofs.BuiltIn.{linkedRow, built-rows}
 use Rattle.rows.proofs.devices.devices_fine.Statement.{statement}
 use Rattle.rows.proofs.devices.devices_fine.Tie as tie
 
 abbrev Inv-loop2 : tie.InvT-loop2
-Inv-loop2 known devices built ok i name length on fine last₀ j₀ last j = (i < j) × (j ≤ known) × (last ≡ below j (aliasRow devices i))
+Inv-loop2 known devices built ok i name length on fine last₀ j₀ last j = (i < j) × (j ≤ known) × (last ≡ upTo j (aliasRow devices i))
 
 abbrev μ-loop2 : tie.MeasureT-loop2
 μ-loop2 known devices built ok i name length on fine last₀ j₀ last j = known - j
 
 abbrev Inv-loop : tie.InvT-loop
-Inv-loop known devices built ok₀ i₀ ok i = (i ≤ known) × (built ≡ builtTest devices) × (ok ≡ below i (linkedRow devices known))
+Inv-loop known devices built ok₀ i₀ ok i = (i ≤ known) × (built ≡ builtTest devices) × (ok ≡ upTo i (linkedRow devices known))
 
 abbrev μ-loop : tie.MeasureT-loop
 μ-loop known devices built ok₀ i₀ ok i = known - i
@@ -42,6 +42,7 @@ same-name-requires-3 : tie.Need-same-name-requires-3 Inv-loop2 μ-loop2 Inv-loop
 same-name-requires-3 c κs = search needs
 
 loop-holds : tie.Need-loop-holds Inv-loop2 μ-loop2 Inv-loop μ-loop
+unfolding upTo
 loop-holds c = (search needs, rw (c .before .before .same-name .ensures, c .before .same-name2 .ensures, c .same-name3 .ensures), refl)
 
 mul-d : tie.Need-mul-d Inv-loop2 μ-loop2 Inv-loop μ-loop
@@ -59,7 +60,7 @@ add-j c = search needs
 loop2-holds : tie.Need-loop2-holds Inv-loop2 μ-loop2 Inv-loop μ-loop
 loop2-holds c =
     let i = c .before .before .before .before .loop .i in
-    (search needs, search needs, sym (all→below (i + 1) _ (λ j h. rw (le-leb j i (omega arith)))))
+    (search needs, search needs, sym (all→upTo (i + 1) _ (λ j h. rw (le-leb j i (omega arith)))))
 
 mul-e : tie.Need-mul-e Inv-loop2 μ-loop2 Inv-loop μ-loop
 mul-e c = search needs
@@ -93,7 +94,6 @@ loop-less : tie.Need-loop-less Inv-loop2 μ-loop2 Inv-loop μ-loop
 loop-less c = search needs
 
 loop-again : tie.Need-loop-again Inv-loop2 μ-loop2 Inv-loop μ-loop
-unfolding upTo
 loop-again c =
     let s = c .before .before .before .before .before .before .before .before .before .before .before .before .before .before .before .before .args in
     let l = c .before .before .before .before .before .before .loop in

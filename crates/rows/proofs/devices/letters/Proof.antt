@@ -3,19 +3,20 @@ use borrow.Author.Needs.{needs}
 use mathlib.Core.Path.{_≡_, refl}
 use Prim.Native.Nat.{_-_, _≤_}
 use native.Mathlib.Omega.{arith}
-use Rattle.rows.specs.Definition.Lists.{at, below, upTo}
+use Rattle.rows.specs.Definition.Lists.{at, upTo}
 use Rattle.rows.specs.Laws.Lists.{all-more}
 use Rattle.rows.specs.Definition.Tests.{letterRow}
 use Rattle.rows.proofs.devices.letters.Statement.{statement}
 use Rattle.rows.proofs.devices.letters.Tie as tie
 
 abbrev Inv-loop : tie.InvT-loop
-Inv-loop n name ok₀ i₀ ok i = (i ≤ 28) × (ok ≡ below i (letterRow name n))
+Inv-loop n name ok₀ i₀ ok i = (i ≤ 28) × (ok ≡ upTo i (letterRow name n))
 
 abbrev μ-loop : tie.MeasureT-loop
 μ-loop n name ok₀ i₀ ok i = 28 - i
 
 loop-holds : tie.Need-loop-holds Inv-loop μ-loop
+unfolding upTo
 loop-holds c = (search needs, refl)
 
 wide-requires : tie.Need-wide-requires Inv-loop μ-loop
@@ -36,7 +37,6 @@ loop-again c =
     (search needs, rw (c .wide .ensures .0) (all-more (letterRow (s .t1) (s .n)) _ _ (c .before .before .loop .inv .1)))
 
 returns : tie.Need-returns Inv-loop μ-loop
-unfolding upTo
 returns c = let e : c .before .loop .i ≡ 28 = omega arith in rw e at (c .before .loop .inv .1)
 
 pub letters-spec : {M : Type 1} → statement M

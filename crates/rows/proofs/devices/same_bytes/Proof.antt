@@ -4,18 +4,19 @@ use mathlib.Core.Path.{_≡_, refl}
 use Prim.Native.Nat.{_-_, _≤_}
 use native.Mathlib.Omega.{arith}
 use Rattle.rows.specs.Definition.Devices.{sameBytes}
-use Rattle.rows.specs.Definition.Lists.{at, below, upTo}
+use Rattle.rows.specs.Definition.Lists.{at, upTo}
 use Rattle.rows.specs.Laws.Lists.{all-more}
 use Rattle.rows.proofs.devices.same_bytes.Statement.{statement}
 use Rattle.rows.proofs.devices.same_bytes.Tie as tie
 
 abbrev Inv-loop : tie.InvT-loop
-Inv-loop a b ok₀ k₀ ok k = (k ≤ 28) × (ok ≡ below k (sameBytes a b))
+Inv-loop a b ok₀ k₀ ok k = (k ≤ 28) × (ok ≡ upTo k (sameBytes a b))
 
 abbrev μ-loop : tie.MeasureT-loop
 μ-loop a b ok₀ k₀ ok k = 28 - k
 
 loop-holds : tie.Need-loop-holds Inv-loop μ-loop
+unfolding upTo
 loop-holds c = (search needs, refl)
 
 array-read-ok : tie.Need-array-read-ok Inv-loop μ-loop
@@ -34,7 +35,6 @@ loop-again : tie.Need-loop-again Inv-loop μ-loop
 loop-again c = let s = c .before .before .args in (search needs, all-more (sameBytes (s .t1) (s .t2)) _ _ (c .before .loop .inv .1))
 
 returns : tie.Need-returns Inv-loop μ-loop
-unfolding upTo
 returns c = let e : c .before .loop .k ≡ 28 = omega arith in rw e at (c .before .loop .inv .1)
 
 pub same-bytes-spec : {M : Type 1} → statement M

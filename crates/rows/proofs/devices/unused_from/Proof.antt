@@ -4,20 +4,20 @@ use mathlib.Core.Path.{_≡_, sym}
 use Prim.Native.Nat.{_-_, _≤_}
 use native.Mathlib.Omega.{arith}
 use borrow.Author.Tests.{lt-ltb, le-ltb}
-use Rattle.rows.specs.Definition.Lists.{at, below, upTo}
-use Rattle.rows.specs.Laws.Lists.{all→below, row-more, not-excused}
+use Rattle.rows.specs.Definition.Lists.{at, upTo}
+use Rattle.rows.specs.Laws.Lists.{all→upTo, row-more, not-excused}
 use Rattle.rows.specs.Definition.Tests.{restDevice}
 use Rattle.rows.proofs.devices.unused_from.Statement.{statement}
 use Rattle.rows.proofs.devices.unused_from.Tie as tie
 
 abbrev Inv-loop : tie.InvT-loop
-Inv-loop known devices ok₀ i₀ ok i = (known ≤ i) × (i ≤ 16) × (ok ≡ below i (restDevice devices known))
+Inv-loop known devices ok₀ i₀ ok i = (known ≤ i) × (i ≤ 16) × (ok ≡ upTo i (restDevice devices known))
 
 abbrev μ-loop : tie.MeasureT-loop
 μ-loop known devices ok₀ i₀ ok i = 16 - i
 
 loop-holds : tie.Need-loop-holds Inv-loop μ-loop
-loop-holds c = let n = c .args .known in (search needs, search needs, sym (all→below n _ (λ i h. rw (lt-ltb i n h))))
+loop-holds c = let n = c .args .known in (search needs, search needs, sym (all→upTo n _ (λ i h. rw (lt-ltb i n h))))
 
 mul-d : tie.Need-mul-d Inv-loop μ-loop
 mul-d c = search needs
@@ -38,7 +38,6 @@ loop-again : tie.Need-loop-again Inv-loop μ-loop
 loop-again c = let s = c .before .before .before .before .before .before .before .args in let l = c .before .before .before .before .before .before .loop in (search needs, search needs, rw (c .nameless .ensures) (row-more (restDevice (s .t1) (s .known)) _ _ _ (l .inv .2) (not-excused _ _ (le-ltb (l .i) (s .known) (l .inv .0)))))
 
 returns : tie.Need-returns Inv-loop μ-loop
-unfolding upTo
 returns c = let e : c .before .loop .i ≡ 16 = omega arith in rw e at (c .before .loop .inv .2)
 
 pub unused-from-spec : {M : Type 1} → statement M

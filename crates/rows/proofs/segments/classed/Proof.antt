@@ -7,8 +7,8 @@ use Prim.Native.Nat.{ℕ, zero, suc, _-_, _≤_}
 use native.Mathlib.Omega.{arith}
 use lib.Dec.{leb, ltb, eqb}
 use borrow.Author.Tests.{le-leb, lt-leb, lt-ltb, ne-eqb}
-use Rattle.rows.specs.Definition.Lists.{at, below, upTo}
-use Rattle.rows.specs.Laws.Lists.{row-more, below-rest}
+use Rattle.rows.specs.Definition.Lists.{at, upTo}
+use Rattle.rows.specs.Laws.Lists.{row-more, upTo-rest}
 use Rattle.rows.specs.Definition.Classes.{FREE, SHARED}
 use Rattle.rows.specs.Definition.Tests.{classRow}
 use Rattle.rows.proofs.segments.classed.Statement.{statement}
@@ -24,12 +24,13 @@ class-row cs n i e = rw e (go i (at cs i))
     go (suc i) c = rw (lt-ltb 0 (suc i) (omega arith), lt-leb (suc i) 0 (omega arith), ne-eqb (suc i) 0 (λ e. omega arith))
 
 abbrev Inv-loop : tie.InvT-loop
-Inv-loop n classes ok₀ i₀ ok i = (i ≤ n) × (ok ≡ below i (classRow classes n))
+Inv-loop n classes ok₀ i₀ ok i = (i ≤ n) × (ok ≡ upTo i (classRow classes n))
 
 abbrev μ-loop : tie.MeasureT-loop
 μ-loop n classes ok₀ i₀ ok i = n - i
 
 loop-holds : tie.Need-loop-holds Inv-loop μ-loop
+unfolding upTo
 loop-holds c = (search needs, refl)
 
 array-read-c : tie.Need-array-read-c Inv-loop μ-loop
@@ -45,8 +46,7 @@ loop-again : tie.Need-loop-again Inv-loop μ-loop
 loop-again c = let s = c .before .before .args in (search needs, row-more (classRow (s .t1) (s .n)) _ _ _ (c .before .loop .inv .1) (class-row (s .t1) (s .n) (c .before .loop .i) (lt-leb (s .n) (c .before .loop .i) (omega arith))))
 
 returns : tie.Need-returns Inv-loop μ-loop
-unfolding upTo
-returns c = let n = c .before .before .args .n in let e : c .before .loop .i ≡ n = omega arith in (rw e at (c .before .loop .inv .1)) ∙ below-rest n 32 _ (omega arith) (λ i a b. rw (le-leb n i a))
+returns c = let n = c .before .before .args .n in let e : c .before .loop .i ≡ n = omega arith in (rw e at (c .before .loop .inv .1)) ∙ upTo-rest n 32 _ (omega arith) (λ i a b. rw (le-leb n i a))
 
 pub classed-spec : {M : Type 1} → statement M
 classed-spec =

@@ -6,8 +6,8 @@ use Prim.Native.Nat.{ℕ, _-_, _≤_}
 use native.Mathlib.Omega.{arith}
 use lib.Dec.{leb, eqb}
 use borrow.Author.Tests.{le-leb, lt-leb}
-use Rattle.rows.specs.Definition.Lists.{at, below, upTo}
-use Rattle.rows.specs.Laws.Lists.{row-more, below-rest, below-same}
+use Rattle.rows.specs.Definition.Lists.{at, upTo}
+use Rattle.rows.specs.Laws.Lists.{row-more, upTo-rest, upTo-same}
 use Rattle.rows.specs.Definition.Classes.{SHARED, inChain}
 use Rattle.rows.specs.Definition.Tests.{exactRow, standsRow}
 use Rattle.rows.proofs.segments.exact.Statement.{statement}
@@ -27,7 +27,7 @@ stands : (c k last n i : ℕ) → leb n i ≡ false
 stands c k last n i e = rw (e, once (inChain c) k)
 
 abbrev Inv-loop : tie.InvT-loop
-Inv-loop held last n classes times ok₀ i₀ ok i = (i ≤ n) × (ok ≡ below i (λ j. standsRow (at classes j) (at times j) last n j))
+Inv-loop held last n classes times ok₀ i₀ ok i = (i ≤ n) × (ok ≡ upTo i (λ j. standsRow (at classes j) (at times j) last n j))
 
 abbrev μ-loop : tie.MeasureT-loop
 μ-loop held last n classes times ok₀ i₀ ok i = n - i
@@ -36,6 +36,7 @@ tallies-requires : tie.Need-tallies-requires Inv-loop μ-loop
 tallies-requires c κs = search needs
 
 loop-holds : tie.Need-loop-holds Inv-loop μ-loop
+unfolding upTo
 loop-holds c = (search needs, refl)
 
 array-read-c : tie.Need-array-read-c Inv-loop μ-loop
@@ -58,15 +59,14 @@ loop-again c =
     (search needs, row-more (λ j. standsRow (at (s .t1) j) (at times j) (s .last) (s .n) j) i _ _ (c .before .loop .inv .1) (stands (at (s .t1) i) (at times i) (s .last) (s .n) i (lt-leb (s .n) i (omega arith))))
 
 returns : tie.Need-returns Inv-loop μ-loop
-unfolding upTo
 returns c =
     let s = c .before .before .before .args in
     let times = c .before .before .tallies in
     let n = s .n in
     let e : c .before .loop .i ≡ n = omega arith in
     (rw e at (c .before .loop .inv .1))
-    ∙ below-rest n 32 _ (omega arith) (λ i a b. rw (le-leb n i a))
-    ∙ below-same 32 (λ j. standsRow (at (s .t1) j) (at (times .result) j) (s .last) (s .n) j) (exactRow (s .t1) (s .chain) (s .held) (s .last) (s .n))
+    ∙ upTo-rest n 32 _ (omega arith) (λ i a b. rw (le-leb n i a))
+    ∙ upTo-same 32 (λ j. standsRow (at (s .t1) j) (at (times .result) j) (s .last) (s .n) j) (exactRow (s .t1) (s .chain) (s .held) (s .last) (s .n))
     (λ j h. rw (times .ensures j h))
 
 pub exact-spec : {M : Type 1} → statement M
