@@ -105,24 +105,27 @@ onOpen t channel driver n name =
 unfoldable pub onClose : Tables → (channel : ℕ) → Outcome
 unfolding closing
 onClose t channel =
-    unless (NoChannel when leb (t .opened) (channelAt t channel) ∷ []) t
-    (gives (Done 0 0) (closing t (channelAt t channel)))
+    let i = channelAt t channel in
+    unless (NoChannel when leb (t .opened) i ∷ []) t
+    (gives (Done 0 0) (closing t i))
 
 -- "0, length"
 unfoldable pub onRead : Tables → (output channel offset size : ℕ) → Outcome
 onRead t output channel offset size =
+    let i = channelAt t channel in
     unless
-    (NoChannel when leb (t .opened) (channelAt t channel)
-    ∷ BadRange when (ltb (sizeAt t (channelAt t channel)) (offset + size) || ltb output size)
+    (NoChannel when leb (t .opened) i
+    ∷ BadRange when (ltb (sizeAt t i) (offset + size) || ltb output size)
     ∷ []) t
     (gives (Done 0 size) t)
 
 -- "0, length"
 unfoldable pub onWrite : Tables → (channel offset size : ℕ) → Outcome
 onWrite t channel offset size =
+    let i = channelAt t channel in
     unless
-    (NoChannel when leb (t .opened) (channelAt t channel)
-    ∷ BadRange when ltb (sizeAt t (channelAt t channel)) (offset + size)
+    (NoChannel when leb (t .opened) i
+    ∷ BadRange when ltb (sizeAt t i) (offset + size)
     ∷ []) t
     (gives (Done 0 size) t)
 
@@ -175,27 +178,30 @@ onAllocate t caller =
 unfoldable pub onFree : Tables → (caller segment : ℕ) → Outcome
 unfolding freeing
 onFree t caller segment =
+    let row = rowOf t segment in
     unless
     (BadCall when ltb 1 caller
-    ∷ NotOwner when not (mayFree t caller (rowOf t segment))
+    ∷ NotOwner when not (mayFree t caller row)
     ∷ []) t
-    (gives (Done 0 0) (freeing t (rowOf t segment)))
+    (gives (Done 0 0) (freeing t row))
 
 -- "0, length"
 unfoldable pub onStore : Tables → (segment offset size : ℕ) → Outcome
 onStore t segment offset size =
+    let row = rowOf t segment in
     unless
-    (NotOwner when not (mayReach t (rowOf t segment))
-    ∷ BadRange when ltb (reachOf t (rowOf t segment)) (offset + size)
-    ∷ Guarded when guarded (rowOf t segment) offset size
+    (NotOwner when not (mayReach t row)
+    ∷ BadRange when ltb (reachOf t row) (offset + size)
+    ∷ Guarded when guarded row offset size
     ∷ []) t
     (gives (Done 0 size) t)
 
 -- "0, length"
 unfoldable pub onLoad : Tables → (output segment offset size : ℕ) → Outcome
 onLoad t output segment offset size =
+    let row = rowOf t segment in
     unless
-    (NotOwner when not (mayReach t (rowOf t segment))
-    ∷ BadRange when (ltb (reachOf t (rowOf t segment)) (offset + size) || ltb output size)
+    (NotOwner when not (mayReach t row)
+    ∷ BadRange when (ltb (reachOf t row) (offset + size) || ltb output size)
     ∷ []) t
     (gives (Done 0 size) t)
