@@ -16,7 +16,7 @@ use Rattle.line.specs.Laws.Places.{chain-less}
 use Rattle.line.specs.Laws.Lending.{lies, lent-byte, lent-length, lent-index}
 use Rattle.kernel.specs.Definition.Tables.{channelAt}
 use Rattle.kernel.specs.Definition.Line.{totalOf, sizeAt, bufferAt}
-use Rattle.kernel.specs.Definition.Lend.{lentOnGood, lentOn, partOn}
+use Rattle.kernel.specs.Definition.Lend.{lentOnGood, partOnGood, lentOn, partOn}
 use Rattle.kernel.specs.Laws.Chains.{good-chain}
 use Rattle.kernel.specs.Laws.Records.{record-within}
 use Rattle.kernel.specs.Laws.Ready.{Ready, ready-accepted}
@@ -53,6 +53,10 @@ module _ (t : Tables) (ram : List ℕ) (r : Ready t (length ram)) (channel : ℕ
   unfolding lentOn lentOnGood
   lent-closed h = rw (ready-accepted r, le-ltb (channelAt t channel) (t .opened) h)
 
+  part-lent : partOn t ram channel ≡ partOf ram (sizeOf t channel) (lentOn t (length ram) channel)
+  unfolding lentOn partOn partOnGood
+  part-lent = rw (ready-accepted r)
+
   one-lent : OneSegment t channel → Part (placeOf (t .chain) (t .room) (bufferOf t channel + sizeOf t channel - 1)) ≡ lentOn t (length ram) channel
   unfolding lentAt
   one-lent o =
@@ -79,25 +83,23 @@ module _ (t : Tables) (ram : List ℕ) (r : Ready t (length ram)) (channel : ℕ
     }
 
     lent-size : length (partOn t ram channel) ≡ sizeOf t channel
-    unfolding partOn
-    lent-size = rw (← e) (lent-length (t .chain) (t .room) (bufferOf t channel) (sizeOf t channel) at ram (chained known) lent)
+    lent-size = rw (part-lent, ← e) (lent-length (t .chain) (t .room) (bufferOf t channel) (sizeOf t channel) at ram (chained known) lent)
 
     lent-holds : (f : ℕ → ℕ → ℕ) → Holds f t ram → (k : ℕ) → k < sizeOf t channel → getD (partOn t ram channel) (sizeOf t channel - 1 - k) 0 ≡ f channel k
-    unfolding partOn
     lent-holds f holds k h =
         let n = sizeOf t channel in
         let back : n - 1 - (n - 1 - k) ≡ k = omega arith in
         let byte : getD (partOf ram n (Part at)) (n - 1 - k) 0 ≡ getD (lineFrom (t .chain) (t .room) ram (bufferOf t channel) n) k 0 =
         rw back at (lent-byte (t .chain) (t .room) (bufferOf t channel) n at ram (chained known) lent (n - 1 - k) (omega arith)) in
-        let part : getD (partOn t ram channel) (n - 1 - k) 0 ≡ getD (partOf ram n (Part at)) (n - 1 - k) 0 = rw (← e) in
+        let part : getD (partOn t ram channel) (n - 1 - k) 0 ≡ getD (partOf ram n (Part at)) (n - 1 - k) 0 = rw (part-lent, ← e) in
         part ∙ byte
         ∙ bytes-at (placeOf (t .chain) (t .room)) ram (bufferOf t channel) n k h
         ∙ holds (channelAt t channel) known k h
         ∙ ap (λ (x : ℕ). f x k) (found t ram r f holds channel known)
 
   none-lent : ¬ OneSegment t channel → partOn t ram channel ≡ []
-  unfolding partOn partOf
-  none-lent apart = go (lentOn t (length ram) channel) refl
+  unfolding partOf
+  none-lent apart = rw part-lent (go (lentOn t (length ram) channel) refl)
     where
       go : (l : Lent) → l ≡ lentOn t (length ram) channel → partOf ram (sizeOf t channel) l ≡ []
       go (Part at) e = absurd (apart (lent-one at e))

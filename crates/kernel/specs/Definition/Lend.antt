@@ -1,6 +1,6 @@
 -- "A buffer's bytes are lent on, for reading only, as that part of the RAM and nothing else where they lie in one segment."
 use mathlib.Core.Bool.{cond}
-use mathlib.Core.List.{List}
+use mathlib.Core.List.{List, []}
 use Prim.Native.Nat.{ℕ}
 use lib.Dec.{ltb}
 use lib.ListN.{length}
@@ -30,5 +30,5 @@ unfolding lentOnGood partOf
 partOnGood t ram channel = partOf ram (sizeAt t (channelAt t channel)) (lentOnGood t channel)
 
 unfoldable pub partOn : Tables → (ram : List ℕ) (channel : ℕ) → List ℕ
-unfolding lentOn partOf
-partOn t ram channel = partOf ram (sizeAt t (channelAt t channel)) (lentOn t (length ram) channel)
+unfolding partOnGood
+partOn t ram channel = cond (accepted t (length ram)) (partOnGood t ram channel) []
