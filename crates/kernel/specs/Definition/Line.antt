@@ -30,7 +30,8 @@ bufferAt t i = recordAt t i + 16
 abbrev pub boundaryOf : Tables → ℕ
 boundaryOf t = boundaryAt (t .room) (totalOf t)
 
--- "A new system segment is the highest numbered free one"
+-- "A new system segment is the highest numbered free one". By the room rule it is asked only where a segment is free; unused rows have class 0, so that
+-- the whole array may be searched.
 unfoldable pub oneMore : Tables → Tables
 oneMore t =
     let row = lastOf FREE (t .classes) - 1 in

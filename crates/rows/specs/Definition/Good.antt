@@ -34,6 +34,7 @@ pub record ClassesGood (n : ℕ) (classes : List ℕ) : Type 0 where
 -- the chain's entries are rows of the list
 pub record ChainGood (n : ℕ) (classes chain : List ℕ) (held : ℕ) : Type 0 where
   pub holds : 1 ≤ held
+  -- this follows from the next ones: the entries are rows of the list, none twice and none the page zero row, which has no class
   pub most : held ≤ 32
   -- "starts at 255", the last row; with `exact`, "255 is system or shared"
   pub starts : at chain 0 ≡ n - 1
