@@ -1,9 +1,10 @@
 // Good tables: the test that a public call runs first.
 ghost use mathlib.Core.Path.{_≡_};
-ghost use mathlib.Core.Bool.{true};
+ghost use mathlib.Core.Bool.{true, _&&_};
 ghost use Prim.Native.Nat.{_≤_};
+ghost use lib.Dec.{leb};
 ghost use Rattle.rows.specs.Definition.Lists.{at};
-ghost use Rattle.kernel.specs.Definition.Good.{Good, sizesTest, goodTest};
+ghost use Rattle.kernel.specs.Definition.Good.{Good, goodTest};
 ghost use Rattle.kernel.specs.Definition.Line.{boundaryOf};
 ghost use Rattle.kernel.specs.Definition.Answers.{gives};
 ghost use Rattle.kernel.specs.Definition.Step.{accepted};
@@ -23,9 +24,9 @@ use rows::segments::user_test;
 use rows::sizes::boundary_at;
 use rows::sizes::chain_length;
 
-// The counts are within the arrays.
+// The counts are within the arrays: asked first, so that the other tests can run.
 fn sizes_test(segments: usize, held: usize, opened: usize) -> bool
-    ensures { λ r. ⌜ r ≡ sizesTest segments held opened ⌝ }
+    ensures { λ r. ⌜ r ≡ leb 1 segments && leb segments 32 && leb 1 held && leb held 32 && leb opened 32 ⌝ }
 {
     (1 <= segments) & (segments <= 32) & (1 <= held) & (held <= 32) & (opened <= 32)
 }

@@ -4,7 +4,7 @@ use mathlib.Core.Bool.{true, false, _||_, false≢true}
 use mathlib.Core.Logic.{_⊎_, inl, inr, ⊎-elim}
 use Prim.Native.Nat.{ℕ}
 use native.Mathlib.Omega.{arith}
-use Rattle.rows.specs.Laws.Good.{Says, says-eq, says-and, says-or, says-not, says-as}
+use Rattle.rows.specs.Laws.Good.{Says, says-eq, says-no, says-and, says-or, says-not, says-as}
 use Rattle.kernel.specs.Definition.Tables.{ramSize}
 use Rattle.kernel.specs.Definition.Good.{Sized, Good}
 use Rattle.kernel.specs.Definition.Answers.{gives}
@@ -17,7 +17,7 @@ use Rattle.kernel.specs.declared.Tables.{Tables}
 use Rattle.kernel.specs.declared.Answer.the-variants.{BadTables, BadCall}
 use Rattle.history.specs.Definition.ExactlyOne.{refused}
 use Rattle.history.specs.Answers.Lowest.{Below, Lowest, end, rule}
-use Rattle.history.specs.Answers.Tests.{says-either, says-no}
+use Rattle.history.specs.Answers.Tests.{says-either}
 use Rattle.history.specs.Answers.Numbers.{numbers-some, by-rows, by-none}
 use Rattle.history.specs.Answers.Rows.Start.{start-lowest, reset-lowest, status-lowest}
 use Rattle.history.specs.Answers.Rows.Channels.{close-lowest, read-lowest, write-lowest}

@@ -1,5 +1,5 @@
--- More of tests as facts: where a test fails.
-use mathlib.Core.Path.{_≡_, refl}
+-- More of tests as facts: that one holds or does not, and the other comparison.
+use mathlib.Core.Path.{refl}
 use mathlib.Core.Bool.{Bool, true, false, false≢true}
 use mathlib.Core.Logic.{_⊎_, inl, inr}
 use Prim.Native.Nat.{ℕ}
@@ -16,14 +16,6 @@ says-either {b} {P} f = go b f
     go : (b : Bool) → Says b P → P ⊎ (P → ⊥)
     go true f = inl (f .yes refl)
     go false f = inr (λ p. false≢true (f .make p))
-
--- where what it says does not hold, the test fails
-pub says-no : {b : Bool} {P : Type 0} → Says b P → (P → ⊥) → b ≡ false
-says-no {b} {P} f n = go b f
-  where
-    go : (b : Bool) → Says b P → b ≡ false
-    go true f = absurd (n (f .yes refl))
-    go false f = refl
 
 -- not below n, as the other comparison asks it
 pub says-beyond : {P : Type 0} (i n : ℕ) → Says (ltb i n) P → Says (leb n i) (P → ⊥)

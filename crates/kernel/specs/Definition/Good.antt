@@ -1,8 +1,7 @@
 -- "Tables are good when": as a record of facts, and as the test that the code runs.
 use mathlib.Core.Path.{_≡_}
 use mathlib.Core.Bool.{Bool, _&&_}
-use Prim.Native.Nat.{ℕ}
-use lib.Dec.{leb, eqb}
+use lib.Dec.{eqb}
 use lib.ListN.{length}
 use Rattle.rows.specs.Definition.Sizes.{chainLength}
 use Rattle.rows.specs.Definition.Good.{ListGood, ClassesGood, ChainGood, RoomGood, ChannelsGood, UserGood, DevicesGood, DefaultGood}
@@ -32,13 +31,9 @@ pub record Good (t : Tables) : Type 0 where
   pub devices : DevicesGood (t .devices) (t .known)
   pub default : DefaultGood (t .name) (t .length) (t .unit)
 
--- the counts of segments, chain and channels are within the arrays: asked first, so that the rest can run
-abbrev pub sizesTest : (segments held opened : ℕ) → Bool
-sizesTest segments held opened = leb 1 segments && leb segments 32 && leb 1 held && leb held 32 && leb opened 32
-
 unfoldable pub goodTest : Tables → Bool
 goodTest t =
-    sizesTest (t .segments) (t .held) (t .opened) && listTest (t .list) (t .segments) && classTest (t .classes) (t .segments) && roomTest (t .room) (t .cold)
+    listTest (t .list) (t .segments) && classTest (t .classes) (t .segments) && roomTest (t .room) (t .cold)
     && chainTest (t .classes) (t .chain) (t .held) (t .segments) && channelTest (t .channels) (t .opened) (t .known)
     && eqb (t .held) (chainLength (t .room) (totalOf t)) && userTest (classAt t (lastRow t)) (t .user) (boundaryOf t)
     && deviceTest (t .devices) (t .known) && defaultTest (t .name) (t .length) (t .unit)

@@ -1,18 +1,18 @@
 -- The test of good tables and the record of their facts agree.
 use mathlib.Core.Path.{_≡_, sym, _∙_}
-use mathlib.Core.Bool.{Bool, true, false, _&&_}
+use mathlib.Core.Bool.{Bool, true, false, _&&_, false≢true}
 use Prim.Native.Nat.{ℕ, _-_, _≤_}
 use native.Mathlib.Omega.{arith}
-use lib.Dec.{eqb}
+use lib.Dec.{leb, eqb}
 use lib.ListN.{take}
 use Rattle.rows.specs.Definition.Lists.{at}
 use Rattle.rows.specs.Definition.Channels.{sumOf}
 use Rattle.rows.specs.Definition.Sizes.{chainLength, boundaryAt}
 use Rattle.rows.specs.Definition.Tests.{listTest, classTest, chainTest, roomTest, channelTest, userTest, deviceTest, defaultTest}
-use Rattle.rows.specs.Laws.Good.{Says, says-le, says-eq, says-and, says-then, says-as, list-says, class-says, room-says, chain-says, channel-says, user-says, device-says, default-says}
+use Rattle.rows.specs.Laws.Good.{Says, says-le, says-eq, says-no, says-and, says-then, says-as, list-says, class-says, room-says, chain-says, channel-says, user-says, device-says, default-says}
 use Rattle.kernel.specs.Definition.Tables.{lastRow}
 use Rattle.kernel.specs.Definition.Line.{totalOf, boundaryOf}
-use Rattle.kernel.specs.Definition.Good.{Sized, Good, sizesTest, goodTest}
+use Rattle.kernel.specs.Definition.Good.{Sized, Good, goodTest}
 use Rattle.kernel.specs.declared.Tables.{Tables}
 
 -- the counts are within the arrays
@@ -23,7 +23,10 @@ pub record Sizes (segments held opened : ℕ) : Type 0 where
   pub links : held ≤ 32
   pub rows : opened ≤ 32
 
-pub sizes-says : (segments held opened : ℕ) → Says (sizesTest segments held opened) (Sizes segments held opened)
+abbrev sizesTest : (segments held opened : ℕ) → Bool
+sizesTest segments held opened = leb 1 segments && leb segments 32 && leb 1 held && leb held 32 && leb opened 32
+
+sizes-says : (segments held opened : ℕ) → Says (sizesTest segments held opened) (Sizes segments held opened)
 sizes-says segments held opened =
     says-as
     (says-and (says-and (says-and (says-and (says-le 1 segments) (says-le segments 32)) (says-le 1 held)) (says-le held 32)) (says-le opened 32))
@@ -38,10 +41,9 @@ good-says t s =
     (says-and (says-and (says-and (says-and (says-and
     (says-then
     (says-and
-    (says-then (says-and (sizes-says (t .segments) (t .held) (t .opened)) (list-says (t .list) (t .segments)))
-    (λ p. class-says (t .classes) (t .segments) (p .0 .one) (p .0 .most)))
+    (says-then (list-says (t .list) (t .segments)) (λ p. class-says (t .classes) (t .segments) (omega (arith, p .least)) (p .most)))
     (room-says (t .room) (t .cold)))
-    (λ p. chain-says (t .classes) (t .chain) (t .held) (t .segments) (p .0 .0 .0 .most)))
+    (λ p. chain-says (t .classes) (t .chain) (t .held) (t .segments) (p .0 .0 .most)))
     (channel-says (t .channels) (t .opened) (t .known)))
     (says-eq (t .held) (chainLength (t .room) (totalOf t))))
     (user-says (t .classes) (lastRow t) (t .user) (boundaryOf t)))
@@ -49,7 +51,7 @@ good-says t s =
     (default-says (t .name) (t .length) (t .unit)))
     (λ h. record {
       sized = s;
-      list = h .0 .0 .0 .0 .0 .0 .0 .0 .1;
+      list = h .0 .0 .0 .0 .0 .0 .0 .0;
       classes = h .0 .0 .0 .0 .0 .0 .0 .1;
       room = h .0 .0 .0 .0 .0 .0 .1;
       chain = h .0 .0 .0 .0 .0 .1;
@@ -59,26 +61,25 @@ good-says t s =
       devices = h .0 .1;
       default = h .1;
     })
-    (λ g.
-    let z : Sizes (t .segments) (t .held) (t .opened) =
-    record { one = omega (arith, g .list .least); most = g .list .most; holds = g .chain .holds; links = g .chain .most; rows = g .channels .most } in
-    (((((((((z, g .list), g .classes), g .room), g .chain), g .channels), g .line), g .user), g .devices), g .default))
+    (λ g. ((((((((g .list, g .classes), g .room), g .chain), g .channels), g .line), g .user), g .devices), g .default))
 
--- what the code of the test computes, from the counts as it widens them
-module _ (t : Tables) (segments held opened known : ℕ) (es : segments ≡ t .segments) (eh : held ≡ t .held) (eo : opened ≡ t .opened) (ek : known ≡ t .known)
-    (sizes : Bool) (pz : sizes ≡ sizesTest segments held opened) where
-  sized-by : (b : Bool) → sizes ≡ b → sizesTest (t .segments) (t .held) (t .opened) ≡ b
-  sized-by b q = rw (es, eh, eo) at (sym pz ∙ q)
+-- good tables have their counts within the arrays
+good-sizes : (t : Tables) → Good t → Sizes (t .segments) (t .held) (t .opened)
+good-sizes t g =
+    record { one = omega (arith, g .list .least); most = g .list .most; holds = g .chain .holds; links = g .chain .most; rows = g .channels .most }
 
+-- what the code of the test computes: first the counts
+pub sizes-made : (segments held opened : ℕ) (sizes : Bool) → sizes ≡ sizesTest segments held opened → sizes ≡ true → Sizes segments held opened
+sizes-made segments held opened sizes p q = sizes-says segments held opened .yes (sym p ∙ q)
+
+-- then the parts, from the counts as it widens them
+module _ (t : Tables) (segments held opened known : ℕ) (es : segments ≡ t .segments) (eh : held ≡ t .held) (eo : opened ≡ t .opened) (ek : known ≡ t .known) where
   -- the counts are not within the arrays
-  pub good-no : sizes ≡ false → false ≡ goodTest t
-  unfolding goodTest
-  good-no q = rw (sized-by false q)
+  pub good-no : Sized t → (sizes : Bool) → sizes ≡ sizesTest segments held opened → sizes ≡ false → false ≡ goodTest t
+  good-no s sizes p q =
+      sym (says-no (good-says t s) (λ g. false≢true (sym (rw (es, eh, eo) at (sym p ∙ q)) ∙ sizes-says (t .segments) (t .held) (t .opened) .make (good-sizes t g))))
 
-  pub good-sizes : sizes ≡ true → Sizes segments held opened
-  good-sizes q = sizes-says segments held opened .yes (sym pz ∙ q)
-
-  pub good-made : sizes ≡ true → (total last class edge long : ℕ) (list classes room chain channels user devices default : Bool)
+  pub good-made : (total last class edge long : ℕ) (list classes room chain channels user devices default : Bool)
       → total ≡ sumOf (take opened (t .channels)) → last ≡ at (t .chain) (held - 1) → class ≡ at (t .classes) last → edge ≡ boundaryAt (t .room) total
       → list ≡ listTest (t .list) segments → classes ≡ classTest (t .classes) segments → room ≡ roomTest (t .room) (t .cold)
       → chain ≡ chainTest (t .classes) (t .chain) held segments → channels ≡ channelTest (t .channels) opened known
@@ -86,5 +87,5 @@ module _ (t : Tables) (segments held opened known : ℕ) (es : segments ≡ t .s
       → default ≡ defaultTest (t .name) (t .length) (t .unit)
       → list && classes && room && chain && channels && eqb held long && user && devices && default ≡ goodTest t
   unfolding goodTest
-  good-made q total last class edge long a b c d e g h i pt pl pc pe pa pb pr pd pch pn pg ph pi =
-      rw (sized-by true q, pa, pb, pr, pd, pch, pn, pg, pc, pe, pl, pt, ph, pi, es, eh, eo, ek)
+  good-made total last class edge long a b c d e g h i pt pl pc pe pa pb pr pd pch pn pg ph pi =
+      rw (pa, pb, pr, pd, pch, pn, pg, pc, pe, pl, pt, ph, pi, es, eh, eo, ek)

@@ -76,10 +76,14 @@ false-of : (b : Bool) → (b ≡ true → ⊥) → b ≡ false
 false-of true n = absurd (n refl)
 false-of false n = refl
 
+-- where what it says does not hold, the test fails
+pub says-no : {b : Bool} {P : Type 0} → Says b P → (P → ⊥) → b ≡ false
+says-no {b} f n = false-of b (λ e. n (f .yes e))
+
 pub says-not : {b : Bool} {P : Type 0} → Says b P → Says (not b) (P → ⊥)
 says-not {b} f = record {
   yes = λ e h. false≢true (sym (not-true b e) ∙ f .make h);
-  make = λ n. rw (false-of b (λ e. n (f .yes e)));
+  make = λ n. rw (says-no f n);
 }
 
 -- the same fact said otherwise
@@ -245,7 +249,7 @@ pub same-yes : (a : List ℕ) (la : ℕ) (b : List ℕ) (lb : ℕ) → Same a la
 same-yes a la b lb = same-says a la b lb .make
 
 pub same-no : (a : List ℕ) (la : ℕ) (b : List ℕ) (lb : ℕ) → (Same a la b lb → ⊥) → sameName a la b lb ≡ false
-same-no a la b lb n = false-of (sameName a la b lb) (λ e. n (same-says a la b lb .yes e))
+same-no a la b lb = says-no (same-says a la b lb)
 
 named-says : (ds : List Device) (i : ℕ) (s : List ℕ) → Says (namedRow ds i s) (Named ds i s)
 named-says ds i s = same-says (getD ds i beyondDevices .name) (getD ds i beyondDevices .length) (padded 28 s) (length s)
@@ -279,7 +283,7 @@ latest-says ds known i =
 enabled-says : (a b : Bool) (P : Type 0) → Says b P → Says (agree a b) ((P → a ≡ true) × ((P → ⊥) → a ≡ false))
 enabled-says a b P f =
     says-as (agree-says a b)
-    (λ e. (λ p. e ∙ f .make p, λ n. e ∙ false-of b (λ q. n (f .yes q))))
+    (λ e. (λ p. e ∙ f .make p, λ n. e ∙ says-no f n))
     (λ h. back b (λ q. h .0 (f .yes q)) (λ n. h .1 (λ p. n (f .make p))))
   where
     back : (b : Bool) → (b ≡ true → a ≡ true) → ((b ≡ true → ⊥) → a ≡ false) → a ≡ b

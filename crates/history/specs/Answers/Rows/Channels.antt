@@ -7,7 +7,7 @@ use native.Mathlib.Omega.{arith}
 use borrow.Author.Tests.{leb-false}
 use lib.Dec.{ltb}
 use lib.ListN.{length}
-use Rattle.rows.specs.Laws.Good.{Says, says-lt, says-or, says-as}
+use Rattle.rows.specs.Laws.Good.{Says, says-lt, says-no, says-or, says-as}
 use Rattle.kernel.specs.Definition.Tables.{channelAt}
 use Rattle.kernel.specs.Definition.Good.{Good}
 use Rattle.kernel.specs.Definition.Line.{sizeAt}
@@ -16,7 +16,6 @@ use Rattle.kernel.specs.Definition.Refusals.{Row, OpenAt, NotOpen, close-channe
 use Rattle.kernel.specs.declared.Tables.{Tables}
 use Rattle.kernel.specs.declared.Answer.the-variants.{NoChannel, BadRange}
 use Rattle.history.specs.Answers.Lowest.{Below, Lowest, end, rule}
-use Rattle.history.specs.Answers.Tests.{says-no}
 use Rattle.history.specs.Answers.Numbers.{by-rows, by-none}
 use Rattle.history.specs.Answers.Found.{open-at, open-one, not-open-says}
 
