@@ -6,4 +6,4 @@ pub record Ready (s : declared.State) : Type 0 where
   pub size : s .size ≤ 524288
   pub order : s .from ≤ s .filled
   pub filled : s .filled ≤ 131072
-  pub used : s .used ≤ 65506
+  pub used : s .used ≤ 65536

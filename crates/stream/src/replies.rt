@@ -3,11 +3,12 @@ ghost use mathlib.Core.Path.{_≡_};
 ghost use Prim.Native.Nat.{_+_, _≤_};
 ghost use lib.ListN.{length, take, drop};
 ghost use Rattle.kernel.specs.Definition.Step.{result};
+ghost use Rattle.kernel.specs.Definition.Lend.{partOn};
 ghost use Rattle.text.specs.Definition.Put.{Put};
 ghost use Rattle.image.specs.Definition.Image.{imageOf};
 ghost use Rattle.stream.specs.Definition.Digest.{digestOf};
 ghost use Rattle.stream.specs.Definition.Numbers.{u32At};
-ghost use Rattle.stream.specs.Definition.Replies.{Replied, Brought, replyBytes};
+ghost use Rattle.stream.specs.Definition.Replies.{Replied, Brought, channelIn, startOf, lentBytes, replyBytes};
 use super::Machine;
 use super::bytes::put_u64;
 use super::bytes::u32_at;
@@ -21,6 +22,7 @@ use image::tables::decode;
 use image::tables::encode;
 use kernel::Outcome;
 use kernel::Tables;
+use line::Lent;
 
 fn image_digest(t: Tables) -> u64
     ensures { λ r. ⌜ r ≡ digestOf (imageOf t) ⌝ }
@@ -30,20 +32,58 @@ fn image_digest(t: Tables) -> u64
     digest(&image)
 }
 
-// The answer, and the digests of the image, of the RAM and of the output.
-fn put_reply(o: Outcome, ram: &[u8], out: &[u8], text: &mut [u8], at: usize) -> usize
-    requires { ⌜ at + 30 ≤ length (now text) ⌝ }
-    ensures { λ r. ⌜ Put (now (text .entry)) (now (text .exit)) at r (replyBytes (result o (now (ram .entry)) (now (out .entry)))) × (r ≡ at + 30) ⌝ }
+// The byte that a record's body begins with.
+fn channel_in(record: &[u8]) -> u8
+    ensures { λ r. ⌜ r ≡ channelIn (now («record» .entry)) ⌝ }
+{
+    if record.len() < 3 {
+        return 0;
+    }
+    record[2]
+}
+
+// Where the part that is lent starts.
+fn start_of(lent: Lent) -> u64
+    ensures { λ r. ⌜ r ≡ startOf lent ⌝ }
+{
+    match lent {
+        Lent::Part { at } => at as u64,
+        Lent::Nothing => 0,
+    }
+}
+
+// The digest of the buffer lent on.
+fn lent_digest(t: Tables, ram: &[u8], channel: u8) -> u64
+    ensures { λ r. ⌜ r ≡ digestOf (partOn t (now (ram .entry)) channel) ⌝ }
+{
+    let part = t.lend(ram, channel);
+    digest(part)
+}
+
+// Where a channel's buffer is lent on, and its digest.
+fn put_lent(t: Tables, ram: &[u8], channel: u8, text: &mut [u8], at: usize) -> usize
+    requires { ⌜ at + 16 ≤ length (now text) ⌝ }
+    ensures { λ r. ⌜ Put (now (text .entry)) (now (text .exit)) at r (lentBytes t (now (ram .entry)) channel) × (r ≡ at + 16) ⌝ }
+{
+    let m = put_u64(start_of(t.lent(ram, channel)), text, at);
+    put_u64(lent_digest(t, ram, channel), text, m)
+}
+
+// The answer, the digests of the image, of the RAM and of the output, and a channel's buffer lent on.
+fn put_reply(o: Outcome, ram: &[u8], out: &[u8], channel: u8, text: &mut [u8], at: usize) -> usize
+    requires { ⌜ at + 46 ≤ length (now text) ⌝ }
+    ensures { λ r. ⌜ Put (now (text .entry)) (now (text .exit)) at r (replyBytes (result o (now (ram .entry)) (now (out .entry))) channel) × (r ≡ at + 46) ⌝ }
 {
     let answer = o.answer;
     let next = o.tables;
     let m = put_answer(answer, text, at);
     let m = put_u64(image_digest(next), text, m);
     let m = put_u64(digest(ram), text, m);
-    put_u64(digest(out), text, m)
+    let m = put_u64(digest(out), text, m);
+    put_lent(next, ram, channel, text, m)
 }
 
-// The call of an event record on an output that is all 165: the next tables, and 30 bytes of reply.
+// The call of an event record on an output that is all 165: the next tables, and 46 bytes of reply.
 pub fn reply(
     t: Tables,
     ram: &mut [u8],
@@ -52,13 +92,13 @@ pub fn reply(
     text: &mut [u8],
     at: usize,
 ) -> Tables
-    requires { ⌜ (2 ≤ length (now «record»)) × (at + 30 ≤ length (now text)) ⌝ }
+    requires { ⌜ (2 ≤ length (now «record»)) × (at + 46 ≤ length (now text)) ⌝ }
     ensures { λ r. ⌜ Replied t (now (ram .entry)) (now («record» .entry)) (now (out .entry)) (now (text .entry)) at r (now (ram .exit)) (now (out .exit)) (now (text .exit)) ⌝ }
 {
     blank(out, 165);
     let kind = u16_at(record, 0);
     let o = call(t, ram, kind, &record[2..], out);
-    put_reply(o, ram, out, text, at);
+    put_reply(o, ram, out, channel_in(record), text, at);
     o.tables
 }
 

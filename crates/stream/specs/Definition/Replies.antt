@@ -5,8 +5,11 @@ use Prim.Native.Nat.{ℕ, _+_}
 use lib.ListN.{length, drop, replicate}
 use Rattle.kernel.specs.Definition.Step.{Result}
 use Rattle.kernel.specs.declared.Tables.{Tables}
+use Rattle.kernel.specs.Definition.Lend.{lentOn, partOn}
+use Rattle.line.specs.declared.Lent.{Lent}
+use Rattle.line.specs.declared.Lent.the-variants.{Part, Nothing}
 use Rattle.text.specs.Definition.Put.{Put}
-use Rattle.events.specs.Definition.Records.{u16At, stepOf}
+use Rattle.events.specs.Definition.Records.{u8At, u16At, stepOf}
 use Rattle.image.specs.Definition.Image.{runAt, imageOf, tablesOf, answerBytes}
 use Rattle.stream.specs.Definition.Digest.{digestOf}
 use Rattle.stream.specs.Definition.Seed.{seeded}
@@ -21,13 +24,27 @@ pub record Brought (bytes : List ℕ) (t : Tables) (ram : List ℕ) : Type 0 whe
 abbrev pub stepBlank : Tables → (ram event : List ℕ) (n : ℕ) → Result
 stepBlank t ram event n = stepOf t ram (u16At event 0) (drop 2 event) (replicate n 165)
 
--- answer number, a and b, and the digests of the image, of the RAM and of the output after the call
-abbrev pub replyBytes : Result → List ℕ
-replyBytes s = answerBytes (s .answer) ++ u64Bytes (digestOf (imageOf (s .tables))) ++ u64Bytes (digestOf (s .ram)) ++ u64Bytes (digestOf (s .output))
+-- the byte that a record's body begins with, 0 of an empty one: the channel, where the call has one
+abbrev pub channelIn : (event : List ℕ) → ℕ
+channelIn event = u8At event 2
+
+-- where the part that is lent starts, 0 where nothing is lent: no part starts there, in the page zero segment
+abbrev pub startOf : Lent → ℕ
+startOf (Part at) = at
+startOf Nothing = 0
+
+-- of a channel's buffer lent on: where its part of the RAM starts, and its digest
+abbrev pub lentBytes : Tables → (ram : List ℕ) (channel : ℕ) → List ℕ
+lentBytes t ram channel = u64Bytes (startOf (lentOn t (length ram) channel)) ++ u64Bytes (digestOf (partOn t ram channel))
+
+-- answer number, a and b; the digests of the image, of the RAM and of the output after the call; and of a channel's buffer lent on after it
+abbrev pub replyBytes : Result → (channel : ℕ) → List ℕ
+replyBytes s channel =
+    answerBytes (s .answer) ++ u64Bytes (digestOf (imageOf (s .tables))) ++ u64Bytes (digestOf (s .ram)) ++ u64Bytes (digestOf (s .output)) ++ lentBytes (s .tables) (s .ram) channel
 
 -- what a request's call leaves, with the accents, and its reply in a text
 pub record Replied (t : Tables) (ram event out text : List ℕ) (at : ℕ) (t′ : Tables) (ram′ out′ text′ : List ℕ) : Type 0 where
   pub tables-is : t′ ≡ stepBlank t ram event (length out) .tables
   pub ram-is : ram′ ≡ stepBlank t ram event (length out) .ram
   pub out-is : out′ ≡ stepBlank t ram event (length out) .output
-  pub reply-is : Put text text′ at (at + 30) (replyBytes (stepBlank t ram event (length out)))
+  pub reply-is : Put text text′ at (at + 46) (replyBytes (stepBlank t ram event (length out)) (channelIn event))

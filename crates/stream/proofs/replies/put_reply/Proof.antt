@@ -1,4 +1,4 @@
--- `replies::put_reply` puts 30 bytes.
+-- `replies::put_reply` puts 46 bytes.
 use mathlib.Core.Path.{ap}
 use native.Mathlib.Omega.{arith}
 use Rattle.text.specs.Laws.Text.{put-then}
@@ -29,20 +29,23 @@ digest-requires-2 c κs = search needs
 put-u64-requires-3 : tie.Need-put-u64-requires-3
 put-u64-requires-3 c κs = search needs
 
+put-lent-requires : tie.Need-put-lent-requires
+put-lent-requires c κs = search needs
+
 same-length : tie.Need-same-length
 same-length c = search needs
 
 returns : tie.Need-returns
 returns c =
-    let p = c .before .before .before .before .before .before .before .before .before .before .before .before .before .before .before .before .before .put-answer .ensures in
-    let q = c .before .before .before .before .before .before .before .before .before .before .before .before .put-u64 .ensures in
-    let r = c .before .before .before .before .before .before .before .put-u642 .ensures in
-    let s = c .before .before .put-u643 .ensures in (
-      put-then
-          (put-then (put-then (p .0) (put-same (ap u64Bytes (c .before .before .before .before .before .before .before .before .before .before .before .before .before .before .image-digest .ensures)) (q .0))) (put-same (ap u64Bytes (c .before .before .before .before .before .before .before .before .before .digest .ensures)) (r .0)))
-          (put-same (ap u64Bytes (c .before .before .before .before .digest2 .ensures)) (s .0)),
-      omega (arith, p .1, q .1, r .1, s .1),
-    )
+    let p = c .before .before .before .before .before .before .before .before .before .before .before .before .before .before .before .before .before .before .before .before .before .put-answer .ensures in
+    let q = c .before .before .before .before .before .before .before .before .before .before .before .before .before .before .before .before .put-u64 .ensures in
+    let r = c .before .before .before .before .before .before .before .before .before .before .before .put-u642 .ensures in
+    let s = c .before .before .before .before .before .before .put-u643 .ensures in
+    let u = c .before .before .put-lent .ensures in
+    let image = put-then (p .0) (put-same (ap u64Bytes (c .before .before .before .before .before .before .before .before .before .before .before .before .before .before .before .before .before .before .image-digest .ensures)) (q .0)) in
+    let ram = put-then image (put-same (ap u64Bytes (c .before .before .before .before .before .before .before .before .before .before .before .before .before .digest .ensures)) (r .0)) in
+    let output = put-then ram (put-same (ap u64Bytes (c .before .before .before .before .before .before .before .before .digest2 .ensures)) (s .0)) in
+    (put-then output (u .0), omega (arith, p .1, q .1, r .1, s .1, u .1))
 
 pub put-reply-spec : {M : Type 1} → statement M
 put-reply-spec =
@@ -55,5 +58,6 @@ put-reply-spec =
     put-u64-requires-2
     digest-requires-2
     put-u64-requires-3
+    put-lent-requires
     same-length
     returns)

@@ -23,6 +23,9 @@ part-call-end c = search needs
 call-requires : tie.Need-call-requires
 call-requires c κs = search needs
 
+channel-in-requires : tie.Need-channel-in-requires
+channel-in-requires c κs = search needs
+
 put-reply-requires : tie.Need-put-reply-requires
 put-reply-requires c κs = search needs
 
@@ -37,11 +40,14 @@ same-length-3 c = search needs
 
 returns : tie.Need-returns
 returns c =
-    let a = c .before .before .before .before .before .before .before .before .before .before .before .before .before .before .before .before .before .before .before .before .before .before .before .before .args in
-    let k = c .before .before .before .before .before .before .before .before .before .before .before .call in
+    let a = c .before .before .before .before .before .before .before .before .before .before .before .before .before .before .before .before .before .before .before .before .before .before .before .before .before .args in
+    let blank = c .before .before .before .before .before .before .before .before .before .before .before .before .before .before .before .before .before .before .before .blank in
+    let kind = c .before .before .before .before .before .before .before .before .before .before .before .before .before .before .before .before .u16-at in
+    let k = c .before .before .before .before .before .before .before .before .before .before .before .before .call in
+    let channel = c .before .before .before .before .before .channel-in in
     let p = c .before .before .before .put-reply in
-    replied (a .t) (now (a .ram)) (now (a .«record»)) (now (a .out)) (now (a .text)) (a .at) (c .before .before .before .before .before .before .before .before .before .before .before .before .before .before .before .before .before .before .blank .last .0) (c .before .before .before .before .before .before .before .before .before .before .before .before .before .before .before .u16-at .result) (k .result) (k .last .1 .0) (k .last .1 .1 .1 .1 .0) (p .last .1 .1 .1 .0) (p .result)
-    (c .before .before .before .before .before .before .before .before .before .before .before .before .before .before .before .before .before .before .blank .ensures) (c .before .before .before .before .before .before .before .before .before .before .before .before .before .before .before .u16-at .ensures) (k .ensures) (p .ensures .0) (p .ensures .1)
+    replied (a .t) (now (a .ram)) (now (a .«record»)) (now (a .out)) (now (a .text)) (a .at) (blank .last .0) (kind .result) (k .result) (k .last .1 .0) (k .last .1 .1 .1 .1 .0) (channel .result) (p .last .1 .1 .1 .1 .0) (p .result)
+    (blank .ensures) (kind .ensures) (k .ensures) (channel .ensures) (p .ensures .0) (p .ensures .1)
 
 pub reply-spec : {M : Type 1} → statement M
 reply-spec =
@@ -53,6 +59,7 @@ reply-spec =
     part-call-start
     part-call-end
     call-requires
+    channel-in-requires
     put-reply-requires
     same-length
     same-length-2
