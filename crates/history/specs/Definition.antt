@@ -1,7 +1,10 @@
 -- The words of condition 3, and what is said of the definition.
 pub mod Runs
 pub mod Users
+pub mod Lent
+pub mod Reachable
 pub mod Layout
 pub mod Places
 pub mod Room
+pub mod Checks
 pub mod ExactlyOne

@@ -30,15 +30,15 @@ use Rattle.kernel.specs.declared.Tables.{Tables}
 use Rattle.kernel.specs.declared.Outcome.{Outcome}
 use Rattle.kernel.specs.declared.Answer.the-variants.{NoRoom}
 use Rattle.history.specs.Definition.Runs.{State, Event, History, after, event, Started, Runs, stay, then, Any, Run, patched, written, lastWritten, stored, lastStored}
-use Rattle.history.specs.Definition.Users.{shared}
+use Rattle.history.specs.Definition.Users.{shared, UsersIn, userByte}
+use Rattle.history.specs.Definition.Lent.{sizeOf}
 use Rattle.history.specs.Bytes.Steps.{step-sound, start-sound}
 use Rattle.history.specs.Bytes.BytesRead.{bytes-read}
-use Rattle.history.specs.Bytes.LentOn.{sizeOf, lent-written}
-use Rattle.history.specs.Bytes.UserBytes.{UsersIn, userByte, user-bytes}
+use Rattle.history.specs.Bytes.LentOn.{lent-written}
+use Rattle.history.specs.Bytes.UserBytes.{user-bytes}
 use Rattle.history.specs.Definition.Layout.{Layout}
 use Rattle.history.specs.Definition.Places.{countIn, inSystem, offered, Outside}
-use Rattle.history.specs.Definition.Room.{Passes}
-use Rattle.history.specs.Definition.Room.{recordsAnd}
+use Rattle.history.specs.Definition.Room.{Passes, recordsAnd}
 use Rattle.history.specs.Answers.Proved.{refuses-lowest}
 use Rattle.history.specs.Reachable.{reachable, reachable-fewest, reachable-open}
 

@@ -1,50 +1,33 @@
 -- Every state that a sequence of calls since an accepted start reaches: its tables are good and its RAM has their size, so that no call of the sequence is
 -- answered TABLES. What is proved of good tables is proved of it.
-use mathlib.Core.Path.{_≡_}
-use mathlib.Core.List.{List, [], _∷_}
+use mathlib.Core.List.{List}
 use Prim.Native.Nat.{ℕ}
 use lib.ListN.{length}
-use Rattle.kernel.specs.Definition.Tables.{ramSize}
-use Rattle.kernel.specs.Definition.Good.{Good}
-use Rattle.kernel.specs.Definition.Calls.{Call, «open», link}
+use Rattle.kernel.specs.Definition.Calls.{«open», link}
 use Rattle.kernel.specs.Definition.Step.{completed, step}
-use Rattle.kernel.specs.Definition.Fields.{Fields}
 use Rattle.kernel.specs.Laws.Ready.{never-tables}
-use Rattle.kernel.specs.declared.Answer.the-variants.{BadTables}
 use Rattle.history.specs.Definition.Runs.{State, History, event, Started, Runs, stay, then, Run}
+use Rattle.history.specs.Definition.Reachable.{GoodState, NeverTables}
 use Rattle.history.specs.Bytes.BytesRead.{run-holds}
 use Rattle.history.specs.Definition.Layout.{Layout}
 use Rattle.history.specs.Definition.Places.{offered, Outside}
-use Rattle.history.specs.Definition.Room.{Fewest}
+use Rattle.history.specs.Definition.Room.{Fewest, Passes, OnlyRoom, recordsAnd, LinkFits}
 use Rattle.history.specs.Room.Fewest.{fewest}
-use Rattle.history.specs.Definition.Room.{Passes, OnlyRoom}
-use Rattle.history.specs.Definition.Room.{recordsAnd, LinkFits}
 use Rattle.history.specs.Room.RoomExactly.{open-exactly, link-exactly}
 
--- what a state has
-pub record Reached (s : State) : Type 0 where
-  pub good : Good (s .tables)
-  pub size : length (s .ram) ≡ ramSize (s .tables)
-  pub heard : (c : Call) (output : List ℕ) → Fields c → ¬ (event s c output .answer ≡ BadTables)
-
--- no call of a history was answered TABLES
-abbrev pub NoTables : History → Type 0
-NoTables [] = Unit {0}
-NoTables (e ∷ h) = ¬ (e .answer ≡ BadTables) × NoTables h
-
-reached : {P : State → Type 0} {s t : State} {h : History} → Started s → Runs P s h t → Reached t
+good-state : {P : State → Type 0} {s t : State} {h : History} → Started s → Runs P s h t → GoodState t
 unfolding step completed
-reached {t = t} z r =
+good-state {t = t} z r =
     let b = run-holds z r .0 in
     record { good = b .good; size = b .size; heard = λ c output f. never-tables (t .tables) (length (t .ram)) (length output) c b f }
 
-all-heard : {P : State → Type 0} {s t : State} {h : History} → Started s → Runs P s h t → NoTables h
+all-heard : {P : State → Type 0} {s t : State} {h : History} → Started s → Runs P s h t → NeverTables h
 all-heard z (stay _) = tt
-all-heard z (then r c output f n _) = (reached z r .heard c output f, all-heard z r)
+all-heard z (then r c output f n _) = (good-state z r .heard c output f, all-heard z r)
 
 -- Every reachable state is good, and TABLES is never the answer: of the next call, and of every call of the sequence.
-pub reachable : {h : History} {s : State} → Run h s → Reached s × NoTables h
-reachable r = (reached (r .started) (r .runs), all-heard (r .started) (r .runs))
+pub reachable : {h : History} {s : State} → Run h s → GoodState s × NeverTables h
+reachable r = (good-state (r .started) (r .runs), all-heard (r .started) (r .runs))
 
 -- The system holds the fewest segments.
 pub reachable-fewest : {h : History} {s : State} → Run h s → Fewest (s .tables)

@@ -1,7 +1,7 @@
 -- "A byte read from an open channel is the one last written there through that channel since its opening, or zero if none was, however often the buffer moved."
 use mathlib.Core.Path.{_≡_, refl, sym, ap, subst, _∙_}
 use mathlib.Core.Bool.{true, cond}
-use mathlib.Core.List.{List, [], _∷_}
+use mathlib.Core.List.{List, _∷_}
 use Prim.Native.Nat.{ℕ, _+_, _≤_, _<_}
 use native.Mathlib.Nat.{not-suc-le-zero}
 use native.Mathlib.Decide.{ℕ-discrete}
@@ -27,7 +27,7 @@ use Rattle.kernel.specs.Laws.Keeps.{start-passed, start-is}
 use Rattle.kernel.specs.Laws.Ready.{Ready, ready-heard}
 use Rattle.kernel.specs.declared.Tables.{Tables}
 use Rattle.kernel.specs.declared.Outcome.{Outcome}
-use Rattle.history.specs.Definition.Runs.{State, History, after, event, Started, NotAccepted, Runs, stay, then, Run, written, lastWritten}
+use Rattle.history.specs.Definition.Runs.{State, History, after, event, Started, NotAccepted, Runs, stay, then, Run, written, lastWritten, ReadsRight}
 use Rattle.history.specs.Bytes.Done.{Done, resets, opens, closes, reads, writes, names, counts, links, tells, bounds, grants, shares, frees, stores, loads, heard-done}
 use Rattle.history.specs.Bytes.Changes.{opening-opens, closing-closes, linking-links}
 use Rattle.history.specs.Bytes.Buffers.{Holds, found, write-law, open-law, close-law, link-law, store-law, reset-law}
@@ -122,14 +122,7 @@ pub bytes-read : {h : History} {t : State} → Run h t → (channel offset size 
     → (i : ℕ) → i < size → getD (event t (read channel offset size) output .output) i 0 ≡ lastWritten h channel (offset + i)
 bytes-read {h} {t} r = let b = run-holds (r .started) (r .runs) in read-gives t (lastWritten h) (b .0) (b .1)
 
--- every done read of a history gave the bytes last written before it
-abbrev pub Right : History → Type 0
-Right [] = Unit {0}
-Right (e ∷ h) =
-    ((channel offset size : ℕ) → e .call ≡ read channel offset size → granted (e .answer) ≡ true
-    → (i : ℕ) → i < size → getD (e .output) i 0 ≡ lastWritten h channel (offset + i)) × Right h
-
-right : {P : State → Type 0} {s t : State} {h : History} → Started s → Runs P s h t → Right h
+right : {P : State → Type 0} {s t : State} {h : History} → Started s → Runs P s h t → ReadsRight h
 right z (stay _) = tt
 right z (then {h = h} {t = t} r c output f n _) =
     let b = run-holds z r in (
@@ -140,5 +133,5 @@ right z (then {h = h} {t = t} r c output f n _) =
     )
 
 -- The same of every read of the sequence itself, over nothing but its calls and replies.
-pub reads-right : {h : History} {t : State} → Run h t → Right h
+pub reads-right : {h : History} {t : State} → Run h t → ReadsRight h
 reads-right r = right (r .started) (r .runs)

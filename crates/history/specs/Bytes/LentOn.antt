@@ -15,28 +15,16 @@ use Rattle.line.specs.Laws.Walks.{bytes-at}
 use Rattle.line.specs.Laws.Places.{chain-less}
 use Rattle.line.specs.Laws.Lending.{lies, lent-byte, lent-length, lent-index}
 use Rattle.kernel.specs.Definition.Tables.{channelAt}
-use Rattle.kernel.specs.Definition.Line.{totalOf, sizeAt, bufferAt}
+use Rattle.kernel.specs.Definition.Line.{totalOf}
 use Rattle.kernel.specs.Definition.Lend.{lentOnGood, partOnGood, lentOn, partOn}
 use Rattle.kernel.specs.Laws.Chains.{good-chain}
 use Rattle.kernel.specs.Laws.Records.{record-within}
 use Rattle.kernel.specs.Laws.Ready.{Ready, ready-accepted}
 use Rattle.kernel.specs.declared.Tables.{Tables}
 use Rattle.history.specs.Definition.Runs.{State, History, Run, lastWritten}
+use Rattle.history.specs.Definition.Lent.{bufferOf, sizeOf, OneSegment}
 use Rattle.history.specs.Bytes.Buffers.{Holds, found}
 use Rattle.history.specs.Bytes.BytesRead.{run-holds}
-
--- a channel's buffer: the position where it starts, and its size n
-abbrev pub bufferOf : Tables → (channel : ℕ) → ℕ
-bufferOf t channel = bufferAt t (channelAt t channel)
-
-abbrev pub sizeOf : Tables → (channel : ℕ) → ℕ
-sizeOf t channel = sizeAt t (channelAt t channel)
-
--- the channel is open, its buffer has a byte, and all of its bytes lie in one segment
-pub record OneSegment (t : Tables) (channel : ℕ) : Type 0 where
-  pub known : channelAt t channel < t .opened
-  pub some : 0 < sizeOf t channel
-  pub same : (k : ℕ) → k < sizeOf t channel → chainIndexOf (t .room) (bufferOf t channel + k) ≡ chainIndexOf (t .room) (bufferOf t channel)
 
 module _ (t : Tables) (ram : List ℕ) (r : Ready t (length ram)) (channel : ℕ) where
   chained : channelAt t channel < t .opened → Chain (t .chain) (t .room) (bufferOf t channel + sizeOf t channel) (length ram)

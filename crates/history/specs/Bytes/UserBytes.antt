@@ -17,19 +17,12 @@ use Rattle.kernel.specs.Laws.Ready.{Ready, ready-heard}
 use Rattle.kernel.specs.declared.Tables.{Tables}
 use Rattle.history.specs.Definition.Runs.{State, History, after, event, NotAccepted, Runs, stay, then, Run, stored, lastStored}
 use Rattle.history.specs.Bytes.Done.{Done, loads, heard-done}
-use Rattle.history.specs.Definition.Users.{Users}
+use Rattle.history.specs.Definition.Users.{Users, UsersIn, userByte}
 use Rattle.history.specs.Bytes.Places.{reach-users}
 use Rattle.history.specs.Bytes.Changes.{done-listed}
 use Rattle.history.specs.Bytes.Steps.{Sound, store-fits, done-length, Stepped, refused, done, stepped, step-sound}
 use Rattle.history.specs.Bytes.BytesRead.{run-holds}
 use Rattle.history.specs.Bytes.Stores.{done-user}
-
--- an offset of a segment is the user's, and the byte there
-abbrev pub UsersIn : (segment offset : ℕ) → State → Type 0
-UsersIn segment offset s = Users (s .tables) (rowOf (s .tables) segment) offset
-
-abbrev pub userByte : State → (segment offset : ℕ) → ℕ
-userByte s segment offset = getD (s .ram) (segmentAt (rowOf (s .tables) segment) + offset) 0
 
 module _ (segment offset : ℕ) where
   step-user : (s : State) (c : Call) (output : List ℕ) (h : History) (first : ℕ) → Sound s → Fields c → NotAccepted (event s c output)

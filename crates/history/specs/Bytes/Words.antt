@@ -9,7 +9,7 @@ use borrow.Author.Tests.{eq-eqb, ne-eqb}
 use lib.ListN.{length, getD}
 use Rattle.kernel.specs.Definition.Answers.{granted}
 use Rattle.kernel.specs.Definition.Calls.{Call, start, reset, «open», close, read, write, default, status, link, boundary, set-user-boundary, allocate, free, store, load, no-call, short-start}
-use Rattle.history.specs.Definition.Runs.{Event, History, patched, written, lastWritten, stored, lastStored}
+use Rattle.history.specs.Definition.Runs.{Event, History, patched, written, lastWritten, Unwritten, stored, lastStored, Unstored}
 use Rattle.history.specs.Bytes.Buffers.{patched-in, patched-low, patched-high}
 
 patched-not : (offset : ℕ) (bytes : List ℕ) (k old : ℕ) → (offset ≤ k → k < offset + length bytes → ⊥) → patched offset bytes k old ≡ old
@@ -24,14 +24,6 @@ cond-same true x y f = f refl
 cond-same false x y f = refl
 
 -- ---- a channel's byte
-
--- no event of these is a done open of the channel, or a done write through it of byte k
-abbrev pub Unwritten : (channel k : ℕ) → History → Type 0
-Unwritten channel k [] = Unit {0}
-Unwritten channel k (e ∷ h) =
-    ((driver n : ℕ) (name : List ℕ) → granted (e .answer) ≡ true → e .call ≡ «open» channel driver n name → ⊥)
-    × ((offset : ℕ) (bytes : List ℕ) → granted (e .answer) ≡ true → e .call ≡ write channel offset bytes → offset ≤ k → k < offset + length bytes → ⊥)
-    × Unwritten channel k h
 
 call-unwritten : (channel k old : ℕ) (c : Call) → ((driver n : ℕ) (name : List ℕ) → c ≡ «open» channel driver n name → ⊥)
     → ((offset : ℕ) (bytes : List ℕ) → c ≡ write channel offset bytes → offset ≤ k → k < offset + length bytes → ⊥) → written c channel k old ≡ old
@@ -82,13 +74,6 @@ unfolding lastWritten written
 none-written channel k driver n name later earlier e u d c = unwritten channel k later (e ∷ earlier) u ∙ rw (d, c, eq-eqb channel channel refl)
 
 -- ---- a user's byte
-
--- no event of these is a done store of this byte
-abbrev pub Unstored : (segment k : ℕ) → History → Type 0
-Unstored segment k [] = Unit {0}
-Unstored segment k (e ∷ h) =
-    ((offset : ℕ) (bytes : List ℕ) → granted (e .answer) ≡ true → e .call ≡ store segment offset bytes → offset ≤ k → k < offset + length bytes → ⊥)
-    × Unstored segment k h
 
 call-unstored : (segment k old : ℕ) (c : Call) → ((offset : ℕ) (bytes : List ℕ) → c ≡ store segment offset bytes → offset ≤ k → k < offset + length bytes → ⊥)
     → stored c segment k old ≡ old

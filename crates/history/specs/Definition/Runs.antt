@@ -2,7 +2,7 @@
 use mathlib.Core.Path.{_≡_}
 use mathlib.Core.Bool.{true, false, cond, _&&_}
 use mathlib.Core.List.{List, [], _∷_}
-use Prim.Native.Nat.{ℕ, _+_, _-_}
+use Prim.Native.Nat.{ℕ, _+_, _-_, _≤_, _<_}
 use lib.Dec.{leb, ltb, eqb}
 use lib.ListN.{length, getD}
 use Rattle.kernel.specs.Definition.Answers.{granted}
@@ -97,6 +97,21 @@ unfolding written
 lastWritten [] channel k = 0
 lastWritten (e ∷ h) channel k = cond (granted (e .answer)) (written (e .call) channel k (lastWritten h channel k)) (lastWritten h channel k)
 
+-- "last .. since its opening": no event of these is a done open of the channel, or a done write through it of byte k
+abbrev pub Unwritten : (channel k : ℕ) → History → Type 0
+Unwritten channel k [] = Unit {0}
+Unwritten channel k (e ∷ h) =
+    ((driver n : ℕ) (name : List ℕ) → granted (e .answer) ≡ true → e .call ≡ «open» channel driver n name → ⊥)
+    × ((offset : ℕ) (bytes : List ℕ) → granted (e .answer) ≡ true → e .call ≡ write channel offset bytes → offset ≤ k → k < offset + length bytes → ⊥)
+    × Unwritten channel k h
+
+-- "A byte read from an open channel is the one last written there": every done read of a history gave the bytes last written before it
+abbrev pub ReadsRight : History → Type 0
+ReadsRight [] = Unit {0}
+ReadsRight (e ∷ h) =
+    ((channel offset size : ℕ) → e .call ≡ read channel offset size → granted (e .answer) ≡ true
+    → (i : ℕ) → i < size → getD (e .output) i 0 ≡ lastWritten h channel (offset + i)) × ReadsRight h
+
 -- What a done call makes of the byte at an offset of a segment, which was `old`, while that place stays the user's: a store there puts its byte.
 unfoldable pub stored : Call → (segment offset old : ℕ) → ℕ
 unfolding patched
@@ -124,3 +139,10 @@ unfolding stored
 lastStored [] segment offset first = first
 lastStored (e ∷ h) segment offset first =
     cond (granted (e .answer)) (stored (e .call) segment offset (lastStored h segment offset first)) (lastStored h segment offset first)
+
+-- "changes only by the user's store": no event of these is a done store of this byte
+abbrev pub Unstored : (segment k : ℕ) → History → Type 0
+Unstored segment k [] = Unit {0}
+Unstored segment k (e ∷ h) =
+    ((offset : ℕ) (bytes : List ℕ) → granted (e .answer) ≡ true → e .call ≡ store segment offset bytes → offset ≤ k → k < offset + length bytes → ⊥)
+    × Unstored segment k h

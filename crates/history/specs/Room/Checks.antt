@@ -1,33 +1,20 @@
 -- The earlier checks of an open, each by itself: whoever meets them passes.
-use mathlib.Core.Path.{_≡_, refl}
-use mathlib.Core.Logic.{_≢_}
+use mathlib.Core.Path.{refl}
 use mathlib.Core.List.{List}
-use Prim.Native.Nat.{ℕ, _<_}
+use Prim.Native.Nat.{ℕ}
 use native.Mathlib.Omega.{arith}
-use Rattle.names.specs.Definition.Grammar.{Reading, Reads}
+use Rattle.names.specs.Definition.Grammar.{Reading}
 use Rattle.names.specs.Laws.Right.{reads-one}
-use Rattle.kernel.specs.Definition.Names.{wanted}
 use Rattle.kernel.specs.Definition.Calls.{«open»}
-use Rattle.kernel.specs.Definition.Refusals.{OpenAt, Enabled, tables-bad, ram-wrong, open-channel, open-exists, open-name, open-device, open-driver, open-full, open-room}
-use Rattle.kernel.specs.Laws.Ready.{Ready}
+use Rattle.kernel.specs.Definition.Refusals.{tables-bad, ram-wrong, open-channel, open-exists, open-name, open-device, open-driver, open-full, open-room}
 use Rattle.kernel.specs.declared.Tables.{Tables}
 use Rattle.history.specs.Definition.Room.{Passes}
-
--- the tables are good and RAM of their size is lent; the channel is a number and not open; the name reads, and an enabled device has it;
--- the driver's status is 0; and there is a row left
-pub record Checks (t : Tables) (ram channel driver : ℕ) (name : List ℕ) (r : Reading) (i : ℕ) : Type 0 where
-  pub ready : Ready t ram
-  pub number : channel ≢ 255
-  pub new : (j : ℕ) → ¬ OpenAt t channel j
-  pub reads : Reads name r
-  pub device : Enabled t (wanted t r) i
-  pub driven : driver ≡ 0
-  pub few : t .opened < 32
+use Rattle.history.specs.Definition.Checks.{Checks}
 
 pub checks-pass : (t : Tables) (ram output channel driver n : ℕ) (name : List ℕ) (r : Reading) (i : ℕ) → Checks t ram channel driver name r i
     → Passes t ram output («open» channel driver n name)
-checks-pass t ram output channel driver n name r i c k h (tables-bad s bad) = bad (c .ready .good)
-checks-pass t ram output channel driver n name r i c k h (ram-wrong s wrong) = wrong (c .ready .size)
+checks-pass t ram output channel driver n name r i c k h (tables-bad s bad) = bad (c .good)
+checks-pass t ram output channel driver n name r i c k h (ram-wrong s wrong) = wrong (c .size)
 checks-pass t ram output _ driver n name r i c k h open-channel = c .number refl
 checks-pass t ram output channel driver n name r i c k h (open-exists {i = j} o) = c .new j o
 checks-pass t ram output channel driver n name r i c k h (open-name none) = none r (c .reads)

@@ -16,7 +16,8 @@ use Rattle.events.specs.Laws.Bodies.{Bytes}
 use Rattle.events.specs.Definition.Records.{next, startIn, callIn}
 use Rattle.history.specs.Definition.Runs.{Run}
 use Rattle.replay.specs.Definition.Replay.{EventRecord, recordsTo, recordsIn, records, bytesOf, replayed, before}
-use Rattle.replay.specs.Laws.Runs.{stateOf, since, Starts, replay-run}
+use Rattle.replay.specs.Definition.Runs.{stateOf, since, Starts}
+use Rattle.replay.specs.Laws.Runs.{replay-run}
 
 -- "start, bytes 08 00 00 01 42 2B FC FD FE FF; open 5, status 0, n 100, "VIDEO:"", and two bytes of a boundary's four
 abbrev buffer : List ℕ

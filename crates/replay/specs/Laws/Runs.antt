@@ -1,46 +1,24 @@
 -- A replay is a run of history: once a start is accepted, what is proved of any sequence of calls is proved of what `replay` leaves.
 use mathlib.Core.Path.{_≡_, refl, subst}
-use mathlib.Core.Bool.{Bool, true, false, cond, _&&_, false≢true}
+use mathlib.Core.Bool.{Bool, true, false, cond, false≢true}
 use mathlib.Core.List.{List, [], _∷_, _++_}
-use mathlib.Core.Logic.{_⊎_, inl, inr}
+use mathlib.Core.Logic.{inl, inr}
 use Prim.Native.Nat.{ℕ, zero, suc, _+_, _<_}
 use native.Mathlib.Omega.{arith}
 use lib.ListN.{length, getD, take, drop}
 use lib.Seq.{getD-drop}
 use Rattle.kernel.specs.Definition.Answers.{granted}
-use Rattle.kernel.specs.Definition.Calls.{Call, start, reset, «open», close, read, write, default, status, link, boundary, set-user-boundary, allocate, free, store, load, no-call, short-start, isStart}
+use Rattle.kernel.specs.Definition.Calls.{Call, start, reset, «open», close, read, write, default, status, link, boundary, set-user-boundary, allocate, free, store, load, no-call, short-start}
 use Rattle.kernel.specs.Definition.Step.{Result, heard, decided, completed, step}
-use Rattle.events.specs.Definition.Records.{Next, finished, broken, found, next, callIn}
+use Rattle.events.specs.Definition.Records.{Next, finished, broken, found, next}
 use Rattle.events.specs.Laws.Next.{next-found}
 use Rattle.events.specs.Laws.Bodies.{Bytes, call-fields}
-use Rattle.history.specs.Definition.Runs.{State, Event, History, after, event, stay, then, Run, lastWritten}
+use Rattle.history.specs.Definition.Runs.{State, History, after, event, stay, then, Run, lastWritten}
 use Rattle.history.specs.Bytes.BytesRead.{bytes-read}
 use Rattle.replay.specs.Definition.Replay.{EventRecord, recordsTo, recordsIn, records, asked, replayed}
+use Rattle.replay.specs.Definition.Runs.{stateOf, callOf, eventOf, starts, since, Starts}
 
-abbrev pub stateOf : Result → State
-stateOf m = record { tables = m .tables; ram = m .ram }
-
-abbrev pub callOf : EventRecord → Call
-callOf r = callIn (r .kind) (r .body)
-
--- a record's call on what the last one left, and its reply
-abbrev pub eventOf : Result → EventRecord → Event
-eventOf m r = event (stateOf m) (callOf r) (m .output)
-
--- an accepted start
-abbrev pub starts : Event → Bool
-starts e = isStart (e .call) && granted (e .answer)
-
--- the events since the last accepted start, after those of h
-abbrev pub since : History → Result → List EventRecord → History
-since h m [] = h
-since h m (r ∷ rs) = since (cond (starts (eventOf m r)) [] (eventOf m r ∷ h)) (asked m r) rs
-
--- one of the records is an accepted start
-abbrev pub Starts : Result → List EventRecord → Type 0
-Starts m [] = ⊥
-Starts m (r ∷ rs) = (starts (eventOf m r) ≡ true) ⊎ Starts (asked m r) rs
-
+-- the bodies of these records are bytes
 abbrev pub OfBytes : List EventRecord → Type 0
 OfBytes [] = Unit {0}
 OfBytes (r ∷ rs) = Bytes (r .body) × OfBytes rs
@@ -123,7 +101,7 @@ run-from h m (r ∷ rs) b (inl e) = rw e (run-on [] (asked m r) rs (b .1) (start
 run-from h m (r ∷ rs) b (inr s) = run-from _ (asked m r) rs (b .1) s
 
 -- What `replay` leaves of a buffer with an accepted start is a state of a run: its history is the events since the last one.
-pub replay-run : (m : Result) (xs : List ℕ) → Bytes xs → Starts m (records xs) → Run (since [] m (records xs)) (stateOf (replayed m (records xs)))
+pub replay-run : (m : Result) (xs : List ℕ) → ((i : ℕ) → getD xs i 0 < 256) → Starts m (records xs) → Run (since [] m (records xs)) (stateOf (replayed m (records xs)))
 replay-run m xs b s = run-from [] m (records xs) (records-bytes xs b) s
 
 -- ---- for example: a byte read
@@ -138,7 +116,7 @@ replayed-last m (r ∷ rs) q = replayed-last (asked m r) rs q
 
 -- The last record of a replayed buffer is a read, and is done: each byte that it gives is the one last written there through that channel since its
 -- opening, or zero if none was.
-pub last-read : (m : Result) (xs : List ℕ) (rs : List EventRecord) (q : EventRecord) → Bytes xs → records xs ≡ rs ++ (q ∷ []) → Starts m rs
+pub last-read : (m : Result) (xs : List ℕ) (rs : List EventRecord) (q : EventRecord) → ((i : ℕ) → getD xs i 0 < 256) → records xs ≡ rs ++ (q ∷ []) → Starts m rs
     → (channel offset size : ℕ) → callOf q ≡ read channel offset size → granted (replayed m (records xs) .answer) ≡ true
     → (i : ℕ) → i < size → getD (replayed m (records xs) .output) i 0 ≡ lastWritten (since [] m rs) channel (offset + i)
 last-read m xs rs q b e s channel offset size is done i h =
