@@ -33,7 +33,8 @@ reachable r = (good-state (r .started) (r .runs), all-heard (r .started) (r .run
 pub reachable-fewest : {h : History} {s : State} → Run h s → Fewest (s .tables)
 reachable-fewest {s = s} r = fewest (s .tables) (reachable r .0 .good)
 
--- An open that passes every earlier check is refused for room exactly when no layout fits, and a link likewise.
+-- An open that passes every earlier check is refused for room exactly when no layout fits. A link, where `LinkFits` does not hold: besides a layout it asks that
+-- R - m is at least 256 and that the m bytes are no part of the user's, which a layout alone does not give (Room/LinkAlone.antt).
 module _ {h : History} {s : State} (r : Run h s) (output : List ℕ) where
   pub reachable-open : (channel driver n : ℕ) (name : List ℕ) → Passes (s .tables) (length (s .ram)) (length output) («open» channel driver n name)
       → OnlyRoom (event s («open» channel driver n name) output .answer) (Layout (recordsAnd (s .tables) n) (Outside (s .tables) (s .tables .room) (offered (s .tables))))

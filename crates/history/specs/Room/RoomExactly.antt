@@ -1,4 +1,5 @@
--- "An open that passes every earlier check is refused for room exactly when no such layout fits" (condition 3), and the same of a link.
+-- "An open that passes every earlier check is refused for room exactly when no such layout fits" (condition 3); and a link exactly when `LinkFits` does not
+-- hold, which asks more than a layout.
 use mathlib.Core.Path.{_≡_, refl}
 use mathlib.Core.Logic.{_↔_}
 use mathlib.Core.List.{List, [], _∷_}
