@@ -7,4 +7,5 @@ pub mod Layout
 pub mod Places
 pub mod Room
 pub mod Checks
+pub mod Refused
 pub mod ExactlyOne

@@ -73,7 +73,7 @@ start-none s z =
 step-holds : (s : State) (c : Call) (output : List ℕ) (h : History) → Sound s → Fields c → NotAccepted (event s c output) → Holds (lastWritten h) (s .tables) (s .ram)
     → Holds (lastWritten (event s c output ∷ h)) (after s c output .tables) (after s c output .ram)
 unfolding lastWritten
-step-holds s c output h r f n holds = go (stepped s c output r f n)
+step-holds s c output h r f n holds = go (stepped s c output r n)
   where
     go : Stepped s c output → Holds (lastWritten (event s c output ∷ h)) (after s c output .tables) (after s c output .ram)
     go (refused e q) =

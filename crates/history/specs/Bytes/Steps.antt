@@ -1,5 +1,5 @@
 -- One step: a done call is known by its kind, the RAM keeps its length, and good tables with RAM of their size stay so.
-use mathlib.Core.Path.{_≡_, refl, sym, subst, _∙_}
+use mathlib.Core.Path.{_≡_, refl, sym, ap, subst, _∙_}
 use mathlib.Core.Bool.{Bool, true, false, cond, _&&_, _||_, false≢true}
 use mathlib.Core.List.{List, _++_}
 use Prim.Native.Nat.{ℕ, _+_, _-_, _≤_, _<_}
@@ -17,13 +17,13 @@ use Rattle.kernel.specs.Definition.Reset.{bit4, bit5}
 use Rattle.kernel.specs.Definition.Segments.{mayReach, reachOf}
 use Rattle.kernel.specs.Definition.Answers.{granted}
 use Rattle.kernel.specs.Definition.Calls.{Call, isStart}
-use Rattle.kernel.specs.Definition.Step.{segmentAt, ramAfter, completed, step}
+use Rattle.kernel.specs.Definition.Step.{segmentAt, ramAfter, Result, completed, step}
 use Rattle.kernel.specs.Definition.Fields.{Fields}
 use Rattle.kernel.specs.Laws.Ready.{Ready, ready-heard, decided-ready, start-ready}
 use Rattle.kernel.specs.declared.Tables.{Tables}
 use Rattle.history.specs.Definition.Runs.{State, after, event, Started, NotAccepted}
 use Rattle.history.specs.Bytes.Done.{Done, resets, opens, closes, reads, writes, names, counts, links, tells, bounds, grants, shares, frees, stores, loads, heard-done}
-use Rattle.kernel.specs.Laws.Refused.{refused-stays}
+use Rattle.history.specs.Answers.Refused.{refused-changes-nothing}
 use Rattle.history.specs.Bytes.Places.{reach-small}
 
 -- a state with good tables, and RAM of their size
@@ -89,14 +89,16 @@ no-start : (a b : Bool) → a && b ≡ false → b ≡ true → a ≡ false
 no-start true b f e = absurd (false≢true (sym f ∙ e))
 no-start false b f e = refl
 
-pub stepped : (s : State) (c : Call) (output : List ℕ) → Sound s → Fields c → NotAccepted (event s c output) → Stepped s c output
+-- what a call leaves, as a state
+abbrev leaves : Result → State
+leaves r = record { tables = r .tables; ram = r .ram }
+
+pub stepped : (s : State) (c : Call) (output : List ℕ) → Sound s → NotAccepted (event s c output) → Stepped s c output
 unfolding step completed
-stepped s c output r f n = go (granted (event s c output .answer)) refl
+stepped s c output r n = go (granted (event s c output .answer)) refl
   where
     go : (b : Bool) → granted (event s c output .answer) ≡ b → Stepped s c output
-    go false e =
-        let same : after s c output .tables ≡ s .tables = refused-stays (s .tables) (length (s .ram)) (length output) c f e in
-        refused e (rw (e, same))
+    go false e = refused e (ap leaves (refused-changes-nothing (s .tables) (s .ram) c output e))
     go true e =
         let heard-is = ready-heard (s .tables) (length (s .ram)) (length output) c r in
         done e
@@ -106,7 +108,7 @@ stepped s c output r f n = go (granted (event s c output .answer)) refl
 
 -- "each made on the tables and RAM the last one left": they stay good, and of one size
 pub step-sound : (s : State) (c : Call) (output : List ℕ) → Sound s → Fields c → NotAccepted (event s c output) → Sound (after s c output)
-step-sound s c output r f n = go (stepped s c output r f n)
+step-sound s c output r f n = go (stepped s c output r n)
   where
     go : Stepped s c output → Sound (after s c output)
     go (refused e q) = subst Sound (sym q) r

@@ -29,7 +29,7 @@ module _ (segment offset : ℕ) where
       → UsersIn segment offset s → UsersIn segment offset (after s c output) → userByte s segment offset ≡ lastStored h segment offset first
       → userByte (after s c output) segment offset ≡ lastStored (event s c output ∷ h) segment offset first
   unfolding lastStored
-  step-user s c output h first r f n b l old = go (stepped s c output r f n)
+  step-user s c output h first r f n b l old = go (stepped s c output r n)
     where
       go : Stepped s c output → userByte (after s c output) segment offset ≡ lastStored (event s c output ∷ h) segment offset first
       go (refused e q) = rw e (ap (λ (x : State). userByte x segment offset) q ∙ old)
