@@ -74,10 +74,11 @@ pub(super) fn diff(arguments: &Arguments) -> Result<u8, Trouble> {
         None => None,
     };
     match exoslog::diff(one.listing(), two.listing(), log.as_deref()) {
-        Some(difference) => {
-            print(difference.as_bytes())?;
-            Ok(NOT_RIGHT)
-        }
+        Some(difference) => match print(difference.as_bytes()) {
+            // where nobody reads the difference, the status still tells of it
+            Ok(()) | Err(Trouble::BrokenPipe) => Ok(NOT_RIGHT),
+            Err(trouble) => Err(trouble),
+        },
         None => Ok(DONE),
     }
 }

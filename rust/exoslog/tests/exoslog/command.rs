@@ -3,7 +3,7 @@
 use std::fs;
 use std::io::Write;
 use std::path::PathBuf;
-use std::process::{Command, Output, Stdio};
+use std::process::{Child, Command, Output, Stdio};
 
 const EXAMPLE: &str = include_str!("../data/example.log");
 
@@ -31,14 +31,18 @@ impl Ran {
     }
 }
 
-fn run(arguments: &[&str], input: &[u8]) -> Ran {
-    let mut child = Command::new(env!("CARGO_BIN_EXE_exoslog"))
+fn spawn(arguments: &[&str]) -> Child {
+    let mut command = Command::new(env!("CARGO_BIN_EXE_exoslog"));
+    command
         .args(arguments)
         .stdin(Stdio::piped())
         .stdout(Stdio::piped())
-        .stderr(Stdio::piped())
-        .spawn()
-        .unwrap();
+        .stderr(Stdio::piped());
+    command.spawn().unwrap()
+}
+
+fn run(arguments: &[&str], input: &[u8]) -> Ran {
+    let mut child = spawn(arguments);
     // a run that reads no input may have ended
     let _ = child.stdin.take().unwrap().write_all(input);
     child.wait_with_output().unwrap().into()
@@ -286,16 +290,25 @@ fn a_worked_audit() {
     assert!(ran.text().contains(numbers));
 }
 
+/// A run whose output nobody reads, from before its input is there.
+fn run_unread(arguments: &[&str], input: &[u8]) -> Ran {
+    let mut child = spawn(arguments);
+    drop(child.stdout.take());
+    child.stdin.take().unwrap().write_all(input).unwrap();
+    child.wait_with_output().unwrap().into()
+}
+
 #[test]
 fn a_broken_pipe_ends_quietly() {
-    let log = File::new("pipe.bin", &[9; 4_000_000]);
-    let mut child = Command::new(env!("CARGO_BIN_EXE_exoslog"))
-        .args(["decode", log.name()])
-        .stdout(Stdio::piped())
-        .stderr(Stdio::piped())
-        .spawn()
-        .unwrap();
-    drop(child.stdout.take());
-    let ran = Ran::from(child.wait_with_output().unwrap());
+    let ran = run_unread(&["decode"], &[9; 100]);
+    assert_eq!((ran.status, ran.err.as_str()), (0, ""));
+}
+
+#[test]
+fn a_difference_that_nobody_reads_is_told_by_the_status() {
+    let listing = File::new("unread.list", b"3 0 0 0\n");
+    let ran = run_unread(&["diff", "-", listing.name()], b"3 3 0 0\n");
+    assert_eq!((ran.status, ran.err.as_str()), (1, ""));
+    let ran = run_unread(&["diff", "-", listing.name()], b"3 0 0 0\n");
     assert_eq!((ran.status, ran.err.as_str()), (0, ""));
 }
