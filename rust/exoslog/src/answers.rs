@@ -7,11 +7,10 @@ pub const ANSWERS: [&str; 18] = [
     "SEGMENT", "OWNER", "BOUNDARY", "RANGE", "GUARD", "FLAGS", "START", "SHARED",
 ];
 
-/// An answer as its number and its name.
-pub fn answer(number: u64) -> String {
-    let name = usize::try_from(number)
-        .ok()
-        .and_then(|row| ANSWERS.get(row));
+/// An answer as its number, of any size, and its name.
+pub fn answer(number: &str) -> String {
+    let row: Option<usize> = number.parse().ok();
+    let name = row.and_then(|row| ANSWERS.get(row));
     format!("{number} {}", name.unwrap_or(&"(no answer of 01)"))
 }
 
@@ -43,9 +42,10 @@ mod tests {
         for (refusal, name) in refusals {
             assert_eq!(ANSWERS[usize::from(refusal.number())], name);
         }
-        assert_eq!(answer(0), "0 done");
-        assert_eq!(answer(SHARED_GRANT.into()), "17 SHARED");
-        assert_eq!(answer(18), "18 (no answer of 01)");
-        assert_eq!(answer(u64::MAX), "18446744073709551615 (no answer of 01)");
+        assert_eq!(answer("0"), "0 done");
+        assert_eq!(answer(&SHARED_GRANT.to_string()), "17 SHARED");
+        assert_eq!(answer("18"), "18 (no answer of 01)");
+        let large = "9".repeat(40);
+        assert_eq!(answer(&large), format!("{large} (no answer of 01)"));
     }
 }

@@ -38,6 +38,11 @@ pub fn is_in_words(log: &[u8]) -> bool {
         .any(|byte| byte.is_ascii_control() && !b"\t\n\r".contains(byte))
 }
 
+/// A text without the byte order mark that some editors put before it.
+pub(crate) fn without_mark(text: &[u8]) -> &[u8] {
+    text.strip_prefix("\u{feff}".as_bytes()).unwrap_or(text)
+}
+
 #[cfg(test)]
 mod tests {
     use super::*;

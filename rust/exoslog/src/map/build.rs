@@ -46,7 +46,7 @@ pub fn map(log: &[u8], after: Option<usize>) -> Result<Map, PastTheEnd> {
 fn answer_words(record: Record, reply: Option<Reply>) -> String {
     match (record, reply) {
         (Record::Whole { .. }, Some(Reply { number, a, b })) => {
-            format!("{}, a {a}, b {b}", answer(number.into()))
+            format!("{}, a {a}, b {b}", answer(&number.to_string()))
         }
         _ => "bad: the listing ends here".to_string(),
     }
