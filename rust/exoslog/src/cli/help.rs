@@ -75,7 +75,9 @@ usage: exoslog map [--at K] [--svg OUT | --text] [--from FORM] [LOG]
 The log is replayed as the listing program runs it: at most four segments are
 lent, a bad record ends it. The picture has the segments in list order with
 their classes and places in the chain, R, the EXOS and the user boundary, and
-the line's records by channel, exact to the byte.
+the line's records by channel, exact to the byte. The replay is by the Rust
+kernel, of which nothing is proved: what the proved kernel answers is listed by
+exos-list.
 ";
 
 pub const DIFF: &str = "\
