@@ -1,5 +1,6 @@
 //! Mistakes in a log in words, and how they are shown.
 
+use crate::without_mark;
 use std::fmt;
 
 /// A mistake: where it is, what was expected and what was found.
@@ -34,7 +35,8 @@ const WINDOW: usize = 72;
 impl Mistake {
     /// The message with the file's name, the line and a mark under the place.
     pub fn show(&self, file: &str, text: &[u8]) -> String {
-        let line = text.split(|&byte| byte == b'\n').nth(self.line - 1);
+        let mut lines = without_mark(text).split(|&byte| byte == b'\n');
+        let line = lines.nth(self.line - 1);
         let line = plain(line.unwrap_or_default());
         let (shown, before) = window(&line, self.column - 1);
         let width = self.width.min(shown.len().saturating_sub(before)).max(1);

@@ -101,11 +101,14 @@ impl Arguments {
         Some(value)
     }
 
-    /// The operands, of which there may only be so many.
-    pub fn operands(&self, least: usize, most: usize) -> Result<&[OsString], String> {
-        match self.operands.get(most) {
-            Some(more) => Err(format!("one operand too many: {}", more.to_string_lossy())),
-            None if self.operands.len() < least => Err("an operand is missing".to_string()),
+    /// The operands: those that must be there, by their names, and at most so
+    /// many more.
+    pub fn operands(&self, needed: &[&str], more: usize) -> Result<&[OsString], String> {
+        if let Some(missing) = needed.get(self.operands.len()) {
+            return Err(format!("{missing} is missing"));
+        }
+        match self.operands.get(needed.len() + more) {
+            Some(one) => Err(format!("one operand too many: {}", one.to_string_lossy())),
             None => Ok(&self.operands),
         }
     }
@@ -134,10 +137,10 @@ mod tests {
             let read = read(arguments).unwrap();
             assert_eq!(read.value("--output"), Some(OsStr::new("x")));
             assert!(read.has("--text"));
-            assert_eq!(read.operands(0, 2).unwrap(), ["a", "-"]);
+            assert_eq!(read.operands(&[], 2).unwrap(), ["a", "-"]);
         }
         let read = read(&["--", "-o"]).unwrap();
-        assert_eq!(read.operands(1, 1).unwrap(), ["-o"]);
+        assert_eq!(read.operands(&["A"], 0).unwrap(), ["-o"]);
     }
 
     #[test]
@@ -152,7 +155,13 @@ mod tests {
             "option --output is given twice"
         );
         let two = read(&["a", "b"]).unwrap();
-        assert_eq!(two.operands(0, 1).unwrap_err(), "one operand too many: b");
-        assert_eq!(two.operands(3, 3).unwrap_err(), "an operand is missing");
+        assert_eq!(
+            two.operands(&["A"], 0).unwrap_err(),
+            "one operand too many: b"
+        );
+        assert_eq!(
+            two.operands(&["A", "B", "C"], 0).unwrap_err(),
+            "C is missing"
+        );
     }
 }

@@ -2,13 +2,13 @@
 
 use super::args::Arguments;
 use super::streams::{print, write, Input, LogForm};
-use super::trouble::{Trouble, DONE, NOT_RIGHT};
-use exoslog::{counted, svg, terminal, PastTheEnd};
+use super::trouble::{say, Trouble, DONE, NOT_RIGHT};
+use exoslog::{counted, is_in_words, svg, terminal, PastTheEnd};
 use std::ffi::OsStr;
 use std::io::{self, IsTerminal};
 
 pub(super) fn encode(arguments: &Arguments) -> Result<u8, Trouble> {
-    let file = arguments.operands(0, 1)?.first();
+    let file = arguments.operands(&[], 1)?.first();
     let output = arguments.value("--output");
     if output.is_none() && io::stdout().is_terminal() {
         let what = "event records are binary: give -o OUT, or send the output to a file or a pipe";
@@ -20,7 +20,13 @@ pub(super) fn encode(arguments: &Arguments) -> Result<u8, Trouble> {
 }
 
 pub(super) fn decode(arguments: &Arguments) -> Result<u8, Trouble> {
-    let input = Input::read(arguments.operands(0, 1)?.first())?;
+    let input = Input::read(arguments.operands(&[], 1)?.first())?;
+    if !input.bytes.is_empty() && is_in_words(&input.bytes) {
+        let name = &input.name;
+        say(&format!(
+            "exoslog: {name} looks like a log in words; exoslog encode reads those\n"
+        ));
+    }
     let words = exoslog::decode(&input.bytes);
     write(arguments.value("--output"), words.as_bytes())?;
     Ok(DONE)
@@ -33,7 +39,7 @@ pub(super) fn map(arguments: &Arguments) -> Result<u8, Trouble> {
         return Err(Trouble::Usage("--svg and --text are given".to_string()));
     }
     let at = arguments.value("--at").map(record_number).transpose()?;
-    let input = Input::read(arguments.operands(0, 1)?.first())?;
+    let input = Input::read(arguments.operands(&[], 1)?.first())?;
     let map = exoslog::map(&input.log(form)?, at).map_err(|PastTheEnd { asked, records }| {
         let name = &input.name;
         Trouble::Input(format!(
@@ -58,7 +64,7 @@ fn record_number(word: &OsStr) -> Result<usize, Trouble> {
 
 pub(super) fn diff(arguments: &Arguments) -> Result<u8, Trouble> {
     let form = LogForm::of(arguments)?;
-    let files = arguments.operands(2, 3)?;
+    let files = arguments.operands(&["LISTING1", "LISTING2"], 1)?;
     if files.iter().filter(|file| *file == "-").count() > 1 {
         return Err(Trouble::Usage("standard input is given twice".to_string()));
     }

@@ -2,7 +2,7 @@
 
 use super::args::Arguments;
 use super::trouble::Trouble;
-use exoslog::{encode, is_in_words, Listing, Mistake};
+use exoslog::{encode, form_of, is_in_words, records, Listing, Mistake, Record};
 use std::ffi::{OsStr, OsString};
 use std::fs;
 use std::io::{self, ErrorKind, Read, Write};
@@ -66,7 +66,23 @@ impl Input {
         if !words {
             return Ok(self.bytes.clone());
         }
-        encode(&self.bytes).map_err(|mistakes| self.mistakes(&mistakes))
+        encode(&self.bytes).map_err(|mistakes| {
+            if self.begins_with_a_record() {
+                let name = &self.name;
+                return Trouble::Input(format!(
+                    "exoslog: {name} looks like event records; exoslog decode reads those\n"
+                ));
+            }
+            self.mistakes(&mistakes)
+        })
+    }
+
+    /// Whether a whole record of a kind of 01 comes first.
+    fn begins_with_a_record(&self) -> bool {
+        match records(&self.bytes).next() {
+            Some(Record::Whole { kind, .. }) => form_of(kind).is_some(),
+            _ => false,
+        }
     }
 
     fn mistakes(&self, mistakes: &[Mistake]) -> Trouble {

@@ -41,8 +41,13 @@ impl Trouble {
             Trouble::Input(what) => (what, NOT_RIGHT),
             Trouble::BrokenPipe => return DONE,
         };
-        // where standard error cannot be written, there is nobody to tell
-        let _ = io::stderr().write_all(said.as_bytes());
+        say(&said);
         status
     }
+}
+
+/// Says something on standard error.
+pub(super) fn say(said: &str) {
+    // where standard error cannot be written, there is nobody to tell
+    let _ = io::stderr().write_all(said.as_bytes());
 }

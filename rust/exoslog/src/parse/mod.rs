@@ -7,6 +7,7 @@ mod tests;
 use crate::grammar::{Field, Form, FORMS};
 use crate::mistakes::Mistake;
 use crate::records::{put_record, LONGEST};
+use crate::without_mark;
 use reader::Reader;
 
 /// The most bytes of a body.
@@ -16,7 +17,8 @@ const LONGEST_BODY: usize = LONGEST - 2;
 pub fn encode(text: &[u8]) -> Result<Vec<u8>, Vec<Mistake>> {
     let mut log = Vec::new();
     let mut mistakes = Vec::new();
-    for (row, line) in text.split(|&byte| byte == b'\n').enumerate() {
+    let lines = without_mark(text).split(|&byte| byte == b'\n');
+    for (row, line) in lines.enumerate() {
         let mut reader = Reader::new(row + 1, line);
         if let Err(mistake) = reader.record(&mut log) {
             mistakes.push(mistake);

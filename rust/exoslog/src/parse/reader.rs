@@ -135,19 +135,21 @@ impl<'a> Reader<'a> {
 
     /// The next word is not what was expected.
     pub(super) fn mistake(&mut self, expected: String) -> Mistake {
-        let width = self.peek().len();
-        self.mistake_in_word(&expected, width)
+        let length = self.peek().len();
+        self.mistake_in_word(&expected, length)
     }
 
-    /// The next bytes are not what was expected.
-    fn mistake_in_word(&self, expected: &str, width: usize) -> Mistake {
+    /// The next bytes are not what was expected. Columns are characters; before
+    /// a mistake all that was read is ASCII.
+    fn mistake_in_word(&self, expected: &str, length: usize) -> Mistake {
         let rest = &self.line[self.at..];
+        let found = &rest[..length.min(rest.len())];
         Mistake {
             line: self.row,
             column: self.at + 1,
-            width: width.max(1),
+            width: String::from_utf8_lossy(found).chars().count().max(1),
             expected: expected.to_string(),
-            found: found_words(&rest[..width.min(rest.len())]),
+            found: found_words(found),
         }
     }
 

@@ -40,6 +40,8 @@ fn blanks_comments_line_ends_and_hex_numbers() {
     ] {
         assert_eq!(encode(text.as_bytes()), Ok(plain.clone()), "{text}");
     }
+    let marked = "\u{feff}write 5 98 aa55\nclose 5\n";
+    assert_eq!(encode(marked.as_bytes()), Ok(plain));
     assert_eq!(encode(b""), Ok(vec![]));
     assert_eq!(encode(b"\n \n#\n"), Ok(vec![]));
 }
@@ -245,4 +247,17 @@ fn long_words_are_cut_in_messages() {
             "z".repeat(32)
         )
     );
+}
+
+#[test]
+fn the_mark_is_as_wide_as_the_word() {
+    for (text, shown) in [
+        ("clöse 5", "    clöse 5\n    ^^^^^\n"),
+        ("\u{feff}opne 5", "    opne 5\n    ^^^^\n"),
+        ("link 9 \"é\"", "    link 9 \"é\"\n            ^\n"),
+    ] {
+        let mistake = &encode(text.as_bytes()).unwrap_err()[0];
+        let told = mistake.show("f", text.as_bytes());
+        assert!(told.ends_with(shown), "{told}");
+    }
 }

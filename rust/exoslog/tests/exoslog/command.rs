@@ -1,74 +1,9 @@
 //! The command as people run it.
 
+use crate::runs::{run, run_unread, File};
 use std::fs;
-use std::io::Write;
-use std::path::PathBuf;
-use std::process::{Child, Command, Output, Stdio};
 
 const EXAMPLE: &str = include_str!("../data/example.log");
-
-/// What a run printed, and its exit status.
-#[derive(Debug, PartialEq, Eq)]
-struct Ran {
-    status: i32,
-    out: Vec<u8>,
-    err: String,
-}
-
-impl From<Output> for Ran {
-    fn from(output: Output) -> Ran {
-        Ran {
-            status: output.status.code().unwrap(),
-            out: output.stdout,
-            err: String::from_utf8(output.stderr).unwrap(),
-        }
-    }
-}
-
-impl Ran {
-    fn text(&self) -> &str {
-        std::str::from_utf8(&self.out).unwrap()
-    }
-}
-
-fn spawn(arguments: &[&str]) -> Child {
-    let mut command = Command::new(env!("CARGO_BIN_EXE_exoslog"));
-    command
-        .args(arguments)
-        .stdin(Stdio::piped())
-        .stdout(Stdio::piped())
-        .stderr(Stdio::piped());
-    command.spawn().unwrap()
-}
-
-fn run(arguments: &[&str], input: &[u8]) -> Ran {
-    let mut child = spawn(arguments);
-    // a run that reads no input may have ended
-    let _ = child.stdin.take().unwrap().write_all(input);
-    child.wait_with_output().unwrap().into()
-}
-
-/// A file of a test's own.
-struct File(PathBuf);
-
-impl File {
-    fn new(name: &str, bytes: &[u8]) -> File {
-        let path = PathBuf::from(env!("CARGO_TARGET_TMPDIR")).join(name);
-        fs::write(&path, bytes).unwrap();
-        File(path)
-    }
-
-    fn name(&self) -> &str {
-        self.0.to_str().unwrap()
-    }
-}
-
-impl Drop for File {
-    fn drop(&mut self) {
-        // a file that stays is written anew by the next run
-        let _ = fs::remove_file(&self.0);
-    }
-}
 
 #[test]
 fn encode_and_decode_over_streams_and_files() {
@@ -182,7 +117,7 @@ fn wrong_uses_end_with_2() {
         ),
         (
             &["diff", "a"],
-            "exoslog: an operand is missing\nTry exoslog diff --help.\n",
+            "exoslog: LISTING2 is missing\nTry exoslog diff --help.\n",
         ),
         (
             &["diff", "-", "-"],
@@ -216,9 +151,32 @@ fn a_map_after_a_record_from_words_and_from_records() {
     ));
     let records = run(&["encode"], EXAMPLE.as_bytes()).out;
     assert_eq!(run(&["map", "--text", "--at=4"], &records), from_words);
-    let forced = run(&["map", "--from", "words", "-"], &records);
-    assert_eq!(forced.status, 1);
-    assert!(forced.err.starts_with("<stdin>:1:1: expected start, "));
+}
+
+#[test]
+fn the_other_form_of_a_log_is_named() {
+    let records = run(&["encode"], EXAMPLE.as_bytes()).out;
+    for arguments in [&["encode"][..], &["map", "--from", "words", "-"]] {
+        let ran = run(arguments, &records);
+        assert_eq!((ran.status, ran.out.len()), (1, 0));
+        assert_eq!(
+            ran.err,
+            "exoslog: <stdin> looks like event records; exoslog decode reads those\n"
+        );
+    }
+    let ran = run(&["decode"], EXAMPLE.as_bytes());
+    assert_eq!(
+        (ran.status, run(&["encode"], &ran.out).out),
+        (0, EXAMPLE.into())
+    );
+    assert_eq!(
+        ran.err,
+        "exoslog: <stdin> looks like a log in words; exoslog encode reads those\n"
+    );
+    let ran = run(&["encode"], b"close \x1b\n");
+    assert!(ran
+        .err
+        .starts_with("<stdin>:1:7: expected a channel number"));
 }
 
 #[test]
@@ -240,75 +198,7 @@ fn a_map_past_the_end_of_the_log() {
 }
 
 #[test]
-fn listings_that_differ_and_do_not() {
-    let one = File::new("one.list", b"256 0 4 11074\n1 0 0 0\n22 0 255 10958\n");
-    let two = File::new("two.list", b"256 0 4 11074\n1 0 0 0\n22 0 255 10752\n");
-    let log = File::new("diff.log", EXAMPLE.as_bytes());
-    let same = run(&["diff", one.name(), one.name(), log.name()], b"");
-    assert_eq!((same.status, same.out.len(), same.err.as_str()), (0, 0, ""));
-    let ran = run(&["diff", one.name(), two.name(), log.name()], b"");
-    assert_eq!((ran.status, ran.err.as_str()), (1, ""));
-    let expected = format!(
-        "record 3 differs\n  record: boundary\n  {}: 22 0 255 10958\n  {}: 22 0 255 10752\n  \
-         b (EXOS boundary): 10958, 10752\n",
-        one.name(),
-        two.name()
-    );
-    assert_eq!(ran.text(), expected);
-    let piped = run(&["diff", "-", two.name()], b"256 0 4 11074\n");
-    assert_eq!(piped.status, 1);
-    assert!(piped
-        .text()
-        .starts_with("record 2 differs\n  <stdin>: ends before"));
-    let bad_log = File::new("bad.log", b"close x\n");
-    let ran = run(&["diff", one.name(), two.name(), bad_log.name()], b"");
-    assert_eq!((ran.status, ran.out.len()), (2, 0));
-    assert!(ran.err.contains(":1:7: expected a channel number"));
-}
-
-/// A maker's kernel that compares pages grants a buffer four bytes too long.
-#[test]
-fn a_worked_audit() {
-    let log = include_bytes!("../data/audit.log");
-    let maker = include_bytes!("../data/maker.list");
-    let mut ours = Vec::new();
-    exos_kernel::listing(&run(&["encode"], log).out[..], &mut ours).unwrap();
-    let ours = File::new("ours.list", &ours);
-    let maker = File::new("maker.list", maker);
-    let log = File::new("audit.log", log);
-    let ran = run(&["diff", ours.name(), maker.name(), log.name()], b"");
-    let expected = format!(
-        "record 6 differs\n  record: open 5 0 1062 \"VIDEO:\"\n  {}: 1 9 0 0\n  \
-         {}: 1 0 0 0\n  answer: 9 ROOM, 0 done\n",
-        ours.name(),
-        maker.name()
-    );
-    assert_eq!((ran.status, ran.text()), (1, expected.as_str()));
-    let ran = run(&["map", "--at", "5", log.name()], b"");
-    let numbers = "R 11074, cold R 11074, T 0, chain 255\n\
-                   EXOS boundary 11074 of 255, user boundary 10000 of 255\n";
-    assert!(ran.text().contains(numbers));
-}
-
-/// A run whose output nobody reads, from before its input is there.
-fn run_unread(arguments: &[&str], input: &[u8]) -> Ran {
-    let mut child = spawn(arguments);
-    drop(child.stdout.take());
-    child.stdin.take().unwrap().write_all(input).unwrap();
-    child.wait_with_output().unwrap().into()
-}
-
-#[test]
 fn a_broken_pipe_ends_quietly() {
-    let ran = run_unread(&["decode"], &[9; 100]);
-    assert_eq!((ran.status, ran.err.as_str()), (0, ""));
-}
-
-#[test]
-fn a_difference_that_nobody_reads_is_told_by_the_status() {
-    let listing = File::new("unread.list", b"3 0 0 0\n");
-    let ran = run_unread(&["diff", "-", listing.name()], b"3 3 0 0\n");
-    assert_eq!((ran.status, ran.err.as_str()), (1, ""));
-    let ran = run_unread(&["diff", "-", listing.name()], b"3 0 0 0\n");
+    let ran = run_unread(&["decode"], &[0; 100]);
     assert_eq!((ran.status, ran.err.as_str()), (0, ""));
 }

@@ -1,5 +1,6 @@
 //! Tests of the tool as a whole.
 
+mod audits;
 mod command;
 mod logs;
 mod pictures;
@@ -7,3 +8,4 @@ mod pictures;
 mod random;
 mod replays;
 mod round_trips;
+mod runs;
