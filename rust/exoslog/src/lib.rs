@@ -20,6 +20,7 @@ mod words;
 
 pub use answers::{answer, ANSWERS};
 pub use diff::{diff, Listing};
+pub use exos_kernel::hex;
 pub use grammar::{form_of, Field, Form, Misfit, FORMS};
 pub use map::{map, Boundary, Class, LineRecord, Map, PastTheEnd, Ram, Region, Segment, What};
 pub use mistakes::Mistake;
@@ -28,7 +29,7 @@ pub use records::{records, Record, Records, LONGEST};
 pub use replay::answer_to;
 pub use svg::svg;
 pub use terminal::terminal;
-pub use words::{counted, decode, hex, quoted, words};
+pub use words::{counted, decode, quoted, words};
 
 /// Whether a log is in words: it has no control byte but tab, newline and
 /// carriage return. A record of a kind of 01 has one, since the high byte of

@@ -1,7 +1,7 @@
 //! A log replayed as the listing program runs it.
 
 use crate::records::Record;
-use exos_kernel::{call, decode, Call, Machine, Reply};
+use exos_kernel::{decode, Machine, Reply};
 
 /// Makes a record's call; "a bad length or cut record" has no answer.
 pub fn answer_to(machine: &mut Machine, record: Record) -> Option<Reply> {
@@ -9,14 +9,6 @@ pub fn answer_to(machine: &mut Machine, record: Record) -> Option<Reply> {
         Record::Whole { kind, body } => Some(machine.answer(decode(kind, body))),
         Record::Bad(_) => None,
     }
-}
-
-/// The last chain segment and the EXOS boundary, as the call `boundary` gives
-/// them.
-pub(crate) fn boundary(machine: &Machine) -> Option<Reply> {
-    let mut tables = machine.tables()?.clone();
-    let mut ram = machine.ram().to_vec();
-    Some(call(&mut tables, &mut ram, Call::Boundary, &mut []))
 }
 
 #[cfg(test)]
@@ -67,7 +59,5 @@ mod tests {
         answer_to(&mut machine, records.next().unwrap());
         assert_eq!(machine.tables().unwrap().segments, 2);
         assert_eq!(machine.ram().len(), 2 * SEGMENT);
-        let Reply { a, b, .. } = boundary(&machine).unwrap();
-        assert_eq!((a, b), (255, 11_074));
     }
 }

@@ -2,6 +2,7 @@
 
 use crate::grammar::{form_of, Field, Form, Misfit};
 use crate::records::{records, Record, LONGEST};
+use exos_kernel::hex;
 
 /// A log in words, one record a line. [`encode`](crate::encode) gives exactly
 /// these bytes back.
@@ -80,15 +81,6 @@ fn data(bytes: &[u8]) -> String {
 pub fn counted(count: usize, thing: &str) -> String {
     let s = if count == 1 { "" } else { "s" };
     format!("{count} {thing}{s}")
-}
-
-/// Bytes in lower-case hex.
-pub fn hex(bytes: &[u8]) -> String {
-    let digit = |value: u8| char::from(b"0123456789abcdef"[usize::from(value)]);
-    bytes
-        .iter()
-        .flat_map(|byte| [digit(byte >> 4), digit(byte & 15)])
-        .collect()
 }
 
 /// A string in double quotes: printable bytes as they are, `\\` and `\"`, any

@@ -23,7 +23,7 @@ pub use calls::{call, Call, Refusal, Reply, SHARED_GRANT};
 pub use channels::{lend, Lent};
 pub use events::decode;
 pub use good::good;
-pub use listing::listing;
+pub use listing::{hex, listing};
 pub use machine::Machine;
 pub use tables::{
     class, Channel, DefaultName, Device, Tables, HEADING, LEAST_R, MOST_R, NAME, ROWS_OF_CHANNELS,

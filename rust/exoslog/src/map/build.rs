@@ -3,9 +3,9 @@
 use super::{Boundary, Class, LineRecord, Map, Ram, Region, Segment, What};
 use crate::answers::answer;
 use crate::records::{records, Record};
-use crate::replay::{answer_to, boundary};
+use crate::replay::answer_to;
 use crate::words::words;
-use exos_kernel::{class, Channel, Machine, Reply, Tables, HEADING, SEGMENT};
+use exos_kernel::{class, Call, Channel, Machine, Reply, Tables, HEADING, SEGMENT};
 
 /// The log has fewer records than were asked for.
 #[derive(Clone, Copy, Debug, PartialEq, Eq)]
@@ -31,15 +31,13 @@ pub fn map(log: &[u8], after: Option<usize>) -> Result<Map, PastTheEnd> {
     for record in records(log).take(after) {
         last = Some((record, answer_to(&mut machine, record)));
     }
+    let boundary = machine.answer(Call::Boundary);
     Ok(Map {
         after,
         of,
         record: last.map(|(record, _)| words(record)),
         answer: last.map(|(record, reply)| answer_words(record, reply)),
-        ram: machine
-            .tables()
-            .zip(boundary(&machine))
-            .map(|(tables, boundary)| ram(tables, boundary)),
+        ram: machine.tables().map(|tables| ram(tables, boundary)),
     })
 }
 
