@@ -23,7 +23,8 @@ static unsigned u16(const uint8_t *at) { return at[0] + 256u * at[1]; }
 static void print_line(unsigned kind, const uint8_t *reply, const uint8_t *out) {
   unsigned b = u16(reply + 4);
   printf("%u %u %u %u", kind, u16(reply), u16(reply + 2), b);
-  if (u16(reply) == EXOS_DONE && b > 0 && (kind == 6 || kind == 20 || kind == 258)) {
+  bool fills = kind == EXOS_KIND_READ || kind == EXOS_KIND_STATUS || kind == EXOS_KIND_USER_LOAD;
+  if (u16(reply) == EXOS_DONE && b > 0 && fills) {
     putchar(' ');
     for (unsigned i = 0; i < b; i++) printf("%02x", out[i]);
   }
@@ -31,7 +32,7 @@ static void print_line(unsigned kind, const uint8_t *reply, const uint8_t *out) 
 }
 
 int main(void) {
-  static uint8_t image[EXOS_IMAGE], ram[4 * EXOS_SEGMENT], out[4096], reply[EXOS_REPLY];
+  static uint8_t image[EXOS_IMAGE_BYTES], ram[4 * EXOS_SEGMENT_BYTES], out[4096], reply[EXOS_REPLY_BYTES];
   static uint8_t ram_again[sizeof ram], out_again[sizeof out], reply_again[sizeof reply];
 
   for (size_t at = 0; at < sizeof log_bytes;) {
@@ -57,5 +58,12 @@ int main(void) {
     if (memcmp(out, out_again, sizeof out) != 0) return 6;
     if (memcmp(reply, reply_again, sizeof reply) != 0) return 7;
   }
+
+  /* A start of four segments is refused where five are lent, and no later record finds tables. */
+  static uint8_t more_ram[5 * EXOS_SEGMENT_BYTES];
+  exos_replay(more_ram, sizeof more_ram, out, sizeof out, log_bytes, 10, reply, sizeof reply);
+  if (u16(reply) != EXOS_START) return 8;
+  exos_replay(more_ram, sizeof more_ram, out, sizeof out, log_bytes, sizeof log_bytes, reply, sizeof reply);
+  if (u16(reply) != EXOS_TABLES) return 9;
   return 0;
 }

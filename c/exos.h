@@ -1,4 +1,5 @@
-/* The proved kernel over bytes, for C: the library of crates/exos, x86-64.
+/* The proved kernel over bytes, for C and C++: the library of crates/exos, x86-64. `rt staticlib exos` builds it as
+ * target/staticlib/libexos.a, which is linked like any object: cc -o program program.c libexos.a
  *
  * Every buffer belongs to the caller, before, in and after a call. The library keeps no pointer and no state of its own,
  * and takes no memory but stack (docs/BENCHMARK.md says how much). A pointer is never null, even where its length is 0, and
@@ -11,6 +12,10 @@
 #include <stdbool.h>
 #include <stddef.h>
 #include <stdint.h>
+
+#ifdef __cplusplus
+extern "C" {
+#endif
 
 /* The image of the tables. All zero is the image before any start.
  *
@@ -33,47 +38,69 @@
  *
  * Unused rows and bytes are 0.
  */
-#define EXOS_IMAGE 776
+#define EXOS_IMAGE_BYTES 776
 
 /* A reply: the answer's number, a and b, two bytes each. */
-#define EXOS_REPLY 6
+#define EXOS_REPLY_BYTES 6
 
 /* A segment of RAM. */
-#define EXOS_SEGMENT 16384
+#define EXOS_SEGMENT_BYTES 16384
 
 /* The longest event record, without the two bytes of its length. */
-#define EXOS_RECORD 4096
+#define EXOS_RECORD_BYTES 4096
 
-/* The answers' numbers. 0 and 17 are grants, the others refusals. */
+/* The kinds of event records, with the body of each, and a and b when it is done. Numbers are one byte, u8, or two, u16.
+ * A list, a name or data is the rest of the body: its bytes alone. n is the length of a channel's buffer, m of a device's
+ * RAM; flags are bit 4 for channels, 5 for devices too, 6 for user segments. */
+enum exos_kind {
+  EXOS_KIND_START = 256,            /* R u16, list (segments, u8 each)            segments, R */
+  EXOS_KIND_RESET = 0,              /* flags u8                                   0, 0 */
+  EXOS_KIND_OPEN = 1,               /* channel u8, driver status u8, n u16, name  device, unit */
+  EXOS_KIND_CLOSE = 3,              /* channel u8                                 0, 0 */
+  EXOS_KIND_READ = 6,               /* channel u8, offset u16, length u16         0, length */
+  EXOS_KIND_WRITE = 8,              /* channel u8, offset u16, data               0, length */
+  EXOS_KIND_DEFAULT = 19,           /* unit u8, name                              0, 0 */
+  EXOS_KIND_STATUS = 20,            /* none                                       0, 5 */
+  EXOS_KIND_LINK = 21,              /* m u16, name                                device, new R */
+  EXOS_KIND_BOUNDARY = 22,          /* none                                       last chain segment, EXOS boundary */
+  EXOS_KIND_SET_USER_BOUNDARY = 23, /* user boundary u16                          0, 0 */
+  EXOS_KIND_ALLOCATE = 24,          /* caller u8 (0 user, 1 device)               segment, 16,384 */
+  EXOS_KIND_FREE = 25,              /* caller u8, segment u8                      0, 0 */
+  EXOS_KIND_USER_STORE = 257,       /* segment u8, offset u16, data               0, length */
+  EXOS_KIND_USER_LOAD = 258         /* segment u8, offset u16, length u16         0, length */
+};
+
+/* The answers' numbers. 0 and 17 are grants, the others refusals, with a and b 0 but for EXOS_DRIVER. Where several are
+ * due the lowest is given. */
 enum exos_answer {
   EXOS_DONE = 0,
-  EXOS_TABLES = 1,
-  EXOS_CALL = 2,
-  EXOS_CHANNEL = 3,
-  EXOS_EXISTS = 4,
-  EXOS_NAME = 5,
-  EXOS_DEVICE = 6,
-  EXOS_DRIVER = 7,
-  EXOS_FULL = 8,
-  EXOS_ROOM = 9,
-  EXOS_NO_SEGMENT = 10,
-  EXOS_OWNER = 11,
-  EXOS_BOUNDARY = 12,
-  EXOS_RANGE = 13,
-  EXOS_GUARD = 14,
-  EXOS_FLAGS = 15,
-  EXOS_START = 16,
-  EXOS_SHARED = 17
+  EXOS_TABLES = 1,    /* not for start: tables not good, or RAM length wrong */
+  EXOS_CALL = 2,      /* kind unknown; body too short or too long; caller not 0 or 1 */
+  EXOS_CHANNEL = 3,   /* 255, or not open (open: 255 only) */
+  EXOS_EXISTS = 4,    /* open: already open */
+  EXOS_NAME = 5,      /* no name by 01's grammar */
+  EXOS_DEVICE = 6,    /* open: no enabled device so named */
+  EXOS_DRIVER = 7,    /* driver status not 0; a is that status */
+  EXOS_FULL = 8,      /* 32 channels or 16 devices already */
+  EXOS_ROOM = 9,      /* no room for the channel or the device */
+  EXOS_SEGMENT = 10,  /* nothing to allocate */
+  EXOS_OWNER = 11,    /* segment not the caller's to free, store or load */
+  EXOS_BOUNDARY = 12, /* nothing shared, or value above the EXOS boundary */
+  EXOS_RANGE = 13,    /* offset + length past the end, or lent output too short */
+  EXOS_GUARD = 14,    /* store touches page zero 30h to 5Bh, save 3Dh and 3Eh */
+  EXOS_FLAGS = 15,    /* a bit other than 4, 5, 6 */
+  EXOS_START = 16,    /* list, R or RAM length wrong */
+  EXOS_SHARED = 17    /* allocate gave a shared segment, b is the user boundary */
 };
 
 /* One call, on the image of the tables.
  *
- *   image   the tables, before and after: EXOS_IMAGE bytes, read, and written where the call is done
- *   ram     the RAM, segment by segment in the order of the list: EXOS_SEGMENT bytes for each segment of the tables (of
+ *   image   the tables, before and after: EXOS_IMAGE_BYTES, read, and written where the call is done
+ *   ram     the RAM, segment by segment in the order of the list: EXOS_SEGMENT_BYTES for each segment of the tables (of
  *           a start's list), read and written; another length is answered with EXOS_TABLES (EXOS_START)
- *   record  the event record without its length: kind in 2 bytes, then the body; 2 to EXOS_RECORD bytes, read
+ *   record  the event record without its length: kind in 2 bytes, then the body; 2 to EXOS_RECORD_BYTES, read
  *   out     the output that is lent: any length, its first b bytes written by read, status and user load
- *   reply   the answer: EXOS_REPLY bytes, written
+ *   reply   the answer: EXOS_REPLY_BYTES, written
  *
  * True where the call was made. False, and nothing changed, where the length of the image, the record or the reply is
  * none of the above.
@@ -86,9 +113,12 @@ bool exos_call(uint8_t *image, size_t image_len, uint8_t *ram, size_t ram_len, c
 /* Every whole event record at the front of a log, one after the other, from the tables before any start; up to the log's
  * end, a cut record or a bad length.
  *
- *   ram, out  as above
+ *   ram       all of it is lent to each start (the listing program lends what a start's list asks for): a start of fewer
+ *             or more segments than are lent is answered with EXOS_START, and what follows, where no start was done
+ *             before, with EXOS_TABLES
+ *   out       as above
  *   log       records, each with its length: any length, read
- *   reply     the last answer (done, 0 and 0 where there is no record): EXOS_REPLY bytes, written
+ *   reply     the last answer (done, 0 and 0 where there is no record): EXOS_REPLY_BYTES, written
  *
  * The bytes of the records. 0, and nothing changed, where the length of the reply is another.
  *
@@ -101,5 +131,9 @@ size_t exos_replay(uint8_t *ram, size_t ram_len, uint8_t *out, size_t out_len, c
                    uint8_t *reply, size_t reply_len);
 size_t exos_replay_tested(uint8_t *ram, size_t ram_len, uint8_t *out, size_t out_len, const uint8_t *log, size_t log_len,
                           uint8_t *reply, size_t reply_len);
+
+#ifdef __cplusplus
+}
+#endif
 
 #endif
