@@ -9,3 +9,4 @@ mod random;
 mod replays;
 mod round_trips;
 mod runs;
+mod transcript;
