@@ -1,7 +1,7 @@
 //! The picture as plain text, at most 80 columns wide.
 
 use crate::map::{Map, Ram, Region, Segment, What};
-use crate::words::counted;
+use crate::words::{counted, cut};
 use exos_kernel::SEGMENT;
 
 /// The cells of a segment's bar; a cell is 256 bytes.
@@ -21,19 +21,10 @@ pub fn terminal(map: &Map) -> String {
     }
     let mut text = String::new();
     for line in &lines {
-        text.push_str(&fitted(line.trim_end()));
+        text.push_str(&cut(line.trim_end(), WIDTH));
         text.push('\n');
     }
     text
-}
-
-/// A line that is too long is cut.
-fn fitted(line: &str) -> String {
-    if line.chars().count() <= WIDTH {
-        return line.to_string();
-    }
-    let start: String = line.chars().take(WIDTH - 3).collect();
-    format!("{start}...")
 }
 
 fn draw(ram: &Ram, lines: &mut Vec<String>) {

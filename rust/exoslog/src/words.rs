@@ -83,6 +83,15 @@ pub fn counted(count: usize, thing: &str) -> String {
     format!("{count} {thing}{s}")
 }
 
+/// A text of at most so many characters; a longer one ends with dots.
+pub(crate) fn cut(text: &str, most: usize) -> String {
+    if text.chars().count() <= most {
+        return text.to_string();
+    }
+    let start: String = text.chars().take(most - 3).collect();
+    format!("{start}...")
+}
+
 /// A string in double quotes: printable bytes as they are, `\\` and `\"`, any
 /// other byte as `\x` and two digits.
 pub fn quoted(bytes: &[u8]) -> String {

@@ -66,15 +66,7 @@ impl Input {
         if !words {
             return Ok(self.bytes.clone());
         }
-        encode(&self.bytes).map_err(|mistakes| {
-            if self.begins_with_a_record() {
-                let name = &self.name;
-                return Trouble::Input(format!(
-                    "exoslog: {name} looks like event records; exoslog decode reads those\n"
-                ));
-            }
-            self.mistakes(&mistakes)
-        })
+        encode(&self.bytes).map_err(|mistakes| self.mistakes(&mistakes))
     }
 
     /// Whether a whole record of a kind of 01 comes first.
@@ -86,6 +78,12 @@ impl Input {
     }
 
     fn mistakes(&self, mistakes: &[Mistake]) -> Trouble {
+        if self.begins_with_a_record() {
+            let name = &self.name;
+            return Trouble::Input(format!(
+                "exoslog: {name} looks like event records; exoslog decode reads those\n"
+            ));
+        }
         let mut said = String::new();
         for mistake in mistakes.iter().take(MOST_SHOWN) {
             said.push_str(&mistake.show(&self.name, &self.bytes));

@@ -18,20 +18,22 @@ const NAMES: [&str; 4] = ["kind", "answer", "a", "b"];
 impl<'a> Answer<'a> {
     /// Reads the fields, or says what is wrong with the line.
     pub(super) fn read(text: &'a [u8]) -> Result<Answer<'a>, String> {
-        let text = std::str::from_utf8(text).unwrap_or_default();
+        let Ok(text) = std::str::from_utf8(text) else {
+            return Err("has a line here that is no text".to_string());
+        };
         let (numbers, bytes) = match text.split(' ').collect::<Vec<_>>()[..] {
             [kind, number, a, b] => ([kind, number, a, b], ""),
             [kind, number, a, b, bytes] => ([kind, number, a, b], bytes),
-            _ => return Err("is no line of a listing: it has not four or five fields".to_string()),
+            _ => return Err("has a line here of other than four or five fields".to_string()),
         };
         for (name, number) in NAMES.iter().zip(numbers) {
             if number.is_empty() || !number.bytes().all(|digit| digit.is_ascii_digit()) {
                 let found = number.escape_debug();
-                return Err(format!("is not in 01's form: {name} is \"{found}\""));
+                return Err(format!("is not in 01's form here: {name} is \"{found}\""));
             }
         }
         if !bytes.bytes().all(|digit| digit.is_ascii_hexdigit()) {
-            return Err("is not in 01's form: the bytes are no hex".to_string());
+            return Err("is not in 01's form here: the bytes are no hex".to_string());
         }
         Ok(Answer { numbers, bytes })
     }

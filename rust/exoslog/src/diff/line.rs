@@ -1,7 +1,9 @@
 //! A line of a listing: what it says, and what in it is not in 01's form.
 
 use super::answer::Answer;
+use super::WIDTH;
 use crate::without_mark;
+use crate::words::cut;
 use std::fmt;
 
 /// A line of a listing, or that the listing ends before it.
@@ -107,7 +109,7 @@ fn end_fault(end: &[u8]) -> Option<Fault> {
 impl fmt::Display for Line<'_> {
     fn fmt(&self, f: &mut fmt::Formatter) -> fmt::Result {
         match self.text() {
-            Some(text) => write!(f, "{}", text.escape_ascii()),
+            Some(text) => f.write_str(&cut(&text.escape_ascii().to_string(), WIDTH)),
             None => f.write_str("ends before this record"),
         }
     }

@@ -6,7 +6,7 @@ mod line;
 mod tests;
 
 use crate::records::{records, Record};
-use crate::words::{counted, words};
+use crate::words::{counted, cut, words};
 use answer::kind_words;
 use line::Line;
 use std::iter;
@@ -38,6 +38,9 @@ pub fn diff(one: Listing, two: Listing, log: Option<&[u8]>) -> Option<String> {
     }
     Some(notes.lines.concat() + "no value differs\n")
 }
+
+/// The columns of a line or a record that are shown.
+const WIDTH: usize = 72;
 
 /// What stands at a record's number in both listings and in the log.
 struct Place<'a> {
@@ -86,10 +89,8 @@ impl Place<'_> {
         if let Some(log) = log {
             let count = || counted(records(log).count(), "record");
             let none = || format!("none, the log has {}", count());
-            lines.push(format!(
-                "  record: {}\n",
-                self.record.map_or_else(none, words)
-            ));
+            let words = self.record.map_or_else(none, words);
+            lines.push(format!("  record: {}\n", cut(&words, WIDTH)));
         }
         lines.push(format!("  {}: {}\n", self.left.file, self.left));
         lines.push(format!("  {}: {}\n", self.right.file, self.right));

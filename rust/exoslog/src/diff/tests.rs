@@ -59,6 +59,24 @@ fn bytes_that_differ() {
 }
 
 #[test]
+fn long_lines_and_records_are_cut() {
+    let listing = |byte| format!("8 0 0 1000\n6 0 0 1000 {}{byte}\n", "00".repeat(999));
+    let log = format!("write 5 0 {}\nread 5 0 1000", "00".repeat(1_000));
+    let told = compared(&listing("00"), &listing("01"), Some(&log)).unwrap();
+    let line = format!("6 0 0 1000 {}...", "0".repeat(58));
+    assert_eq!(
+        told,
+        format!(
+            "record 2 differs\n  record: read 5 0 1000\n  one: {line}\n  two: {line}\n  \
+             bytes: byte 999 is 00, 01\n"
+        )
+    );
+    let told = compared("8 0 0 1000\n", "8 3 0 0\n", Some(&log)).unwrap();
+    let record = format!("  record: write 5 0 {}...\n", "0".repeat(59));
+    assert!(told.contains(&record), "{told}");
+}
+
+#[test]
 fn a_listing_that_ends_first() {
     assert_eq!(
         compared("20 1 0 0\n", "", Some("status")).unwrap(),
@@ -81,7 +99,7 @@ fn lines_that_cannot_be_compared() {
     assert_eq!(
         reasons("bad", "3 0 0"),
         "  one finds a bad length or a cut record here\n  \
-         two is no line of a listing: it has not four or five fields\n"
+         two has a line here of other than four or five fields\n"
     );
     for (two, found) in [
         ("3 +0 0 0", "answer is \"+0\""),
@@ -89,9 +107,15 @@ fn lines_that_cannot_be_compared() {
         ("3 0 x 0", "a is \"x\""),
         ("3 0 0 0 0x", "the bytes are no hex"),
     ] {
-        let reason = format!("  two is not in 01's form: {found}\n");
+        let reason = format!("  two is not in 01's form here: {found}\n");
         assert_eq!(reasons(line, two), reason);
     }
+    let no_text = Listing {
+        name: "two",
+        text: b"3 0 0 0 \xff\n",
+    };
+    let told = diff(listing("one", "3 0 0 0\n"), no_text, None).unwrap();
+    assert!(told.ends_with("\n  two has a line here that is no text\n"));
     let told = of("3 0 0 0\n", "\x1b 0 0 0\n").unwrap();
     assert!(told.contains("  two: \\x1b 0 0 0\n"), "{told}");
     assert!(told.ends_with("kind is \"\\u{1b}\"\n"), "{told}");
