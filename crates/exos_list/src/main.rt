@@ -1,7 +1,7 @@
 // The listing program: reads event records from standard input and prints a line a record.
 ghost use Prim.Native.Nat.{_+_, _≤_, _<_};
 ghost use lib.ListN.{length};
-ghost use Rattle.listing.specs.Laws.Held.{Held};
+ghost use Rattle.listing.specs.Definition.NoneOrGood.{NoneOrGood};
 use kernel::Tables;
 use libc::STDIN_FILENO;
 use libc::STDOUT_FILENO;
@@ -30,8 +30,8 @@ fn read_after(buf: &mut [u8], left: usize) -> usize
 
 // Keeps what is left of the buffer, and reads on. Where the input has ended, writes what is left to write.
 fn fetch(tables: Tables, buf: &mut [u8], start: usize, filled: usize, text: &mut [u8]) -> State
-    requires { ⌜ Held tables × (start ≤ filled) × (filled ≤ length (now buf)) × (filled < start + length (now buf)) × (4 ≤ length (now text)) ⌝ }
-    ensures { λ r. ⌜ Held (r .tables) × (r .from ≤ r .filled) × (r .filled ≤ length (now (buf .exit))) ⌝ }
+    requires { ⌜ NoneOrGood tables × (start ≤ filled) × (filled ≤ length (now buf)) × (filled < start + length (now buf)) × (4 ≤ length (now text)) ⌝ }
+    ensures { λ r. ⌜ NoneOrGood (r .tables) × (r .from ≤ r .filled) × (r .filled ≤ length (now (buf .exit))) ⌝ }
 {
     let left = filled - start;
     keep(buf, start, left);
@@ -62,8 +62,8 @@ fn turn(
     buf: &mut [u8],
     text: &mut [u8],
 ) -> State
-    requires { ⌜ Held (s .tables) × (s .from ≤ s .filled) × (s .filled ≤ length (now buf)) × (4098 ≤ length (now buf)) × (4 ≤ length (now text)) ⌝ }
-    ensures { λ r. ⌜ Held (r .tables) × (r .from ≤ r .filled) × (r .filled ≤ length (now (buf .exit))) ⌝ }
+    requires { ⌜ NoneOrGood (s .tables) × (s .from ≤ s .filled) × (s .filled ≤ length (now buf)) × (4098 ≤ length (now buf)) × (4 ≤ length (now text)) ⌝ }
+    ensures { λ r. ⌜ NoneOrGood (r .tables) × (r .from ≤ r .filled) × (r .filled ≤ length (now (buf .exit))) ⌝ }
 {
     let from = s.from;
     let filled = s.filled;
@@ -106,8 +106,8 @@ fn whole_turn(
     buf: &mut [u8; 69634],
     text: &mut [u8; 73728],
 ) -> State
-    requires { ⌜ Held (s .tables) × (s .from ≤ s .filled) × (s .filled ≤ 69634) ⌝ }
-    ensures { λ r. ⌜ Held (r .tables) × (r .from ≤ r .filled) × (r .filled ≤ 69634) ⌝ }
+    requires { ⌜ NoneOrGood (s .tables) × (s .from ≤ s .filled) × (s .filled ≤ 69634) ⌝ }
+    ensures { λ r. ⌜ NoneOrGood (r .tables) × (r .from ≤ r .filled) × (r .filled ≤ 69634) ⌝ }
 {
     turn(s, ram, out, buf, text)
 }

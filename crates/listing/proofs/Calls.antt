@@ -18,8 +18,9 @@ use Rattle.events.specs.Laws.Bodies.{Bytes}
 use Rattle.events.proofs.ByKind.{bad-tables}
 use Rattle.text.specs.Definition.Put.{Put}
 use Rattle.listing.specs.Definition.Log.{lineOf, lentTo, onRest, logStep}
-use Rattle.listing.specs.Laws.Held.{Held, held-step}
-use Rattle.listing.specs.Laws.Pieces.{Stepped}
+use Rattle.listing.specs.Definition.NoneOrGood.{NoneOrGood}
+use Rattle.listing.specs.Laws.NoneOrGood.{record-keeps}
+use Rattle.listing.specs.Definition.Pieces.{Stepped}
 
 pub lent-other : (segments kind size n : ℕ) → (kind ≡ 256 → ⊥) → n ≡ min 4 segments → 16384 * n ≡ lentTo segments kind size
 unfolding lentTo
@@ -61,5 +62,5 @@ module _ (t : Tables) (ram out : List ℕ) (kind : ℕ) (body : List ℕ) (n : �
         room = room;
       }
 
-  pub held-after : length ram ≡ 65536 → Bytes body → Held t → Held (o .tables)
-  held-after s b k = rw (ap (λ (v : Result). v .tables) left) (held-step t ram out kind body s b k)
+  pub good-after : length ram ≡ 65536 → Bytes body → NoneOrGood t → NoneOrGood (o .tables)
+  good-after s b k = rw (ap (λ (v : Result). v .tables) left) (record-keeps t ram out kind body s b k)

@@ -13,7 +13,7 @@ use Rattle.text.specs.Definition.Put.{Put}
 use Rattle.text.specs.Laws.Text.{put-none}
 use Rattle.listing.specs.Definition.Log.{textFrom, badText}
 use Rattle.listing.specs.Laws.Log.{text-found, text-broken}
-use Rattle.listing.specs.Laws.Pieces.{Stepped, Whole, Carry, ending}
+use Rattle.listing.specs.Definition.Pieces.{Stepped, Whole, Carry, ending}
 
 pub carry-none : (t : Tables) (ram out xs text : List ℕ) → Carry t ram out xs t ram out (drop 0 xs) (take 0 text)
 carry-none t ram out xs text = record { holds = λ ys. refl }

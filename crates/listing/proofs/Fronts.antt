@@ -11,7 +11,7 @@ use Rattle.events.specs.Laws.Next.{next-cut, next-low, next-high, next-short, n
 use Rattle.events.proofs.Laws.{rest-of}
 use Rattle.listing.specs.declared.Front.{Front}
 use Rattle.listing.specs.declared.Front.the-variants.{Record, Cut, Bad}
-use Rattle.listing.specs.Laws.Pieces.{Short, Whole, Stands}
+use Rattle.listing.specs.Definition.Pieces.{Short, Whole, Stands}
 
 -- less than a length
 pub short-two : (xs : List ℕ) → length xs < 2 → Short xs

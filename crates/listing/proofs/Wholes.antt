@@ -11,7 +11,7 @@ use Rattle.text.specs.Definition.Put.{Put}
 use Rattle.listing.specs.declared.Stop.{Stop}
 use Rattle.listing.specs.declared.Stop.the-variants.{More, Full, Bad}
 use Rattle.listing.specs.Definition.Log.{textFrom, listing}
-use Rattle.listing.specs.Laws.Pieces.{Short, Carry, Drains, ending}
+use Rattle.listing.specs.Definition.Pieces.{Short, Carry, Drains, ending}
 use Rattle.listing.specs.Laws.Reading.{text-short}
 
 pub room-left : (t : Tables) (ram out log : List ℕ) (t′ : Tables) (ram′ out′ left text : List ℕ) (used : ℕ) (stop : Stop) → stop ≡ More
@@ -25,7 +25,7 @@ module _ (t : Tables) (e : t ≡ noTables) (log : List ℕ) (t′ : Tables) (ram
   is-listing = rw (e, append-nil log)
 
   pub listed-bad : stop ≡ Bad → take used text ≡ listing log
-  listed-bad q = sym ((rw q at d) .0 []) ∙ is-listing
+  listed-bad q = let m = rw q at d in sym (m []) ∙ is-listing
 
   carried : Carry t (replicate 65536 0) (replicate 4096 0) log t′ ram′ out′ left (take used text) → take used text ++ textFrom t′ ram′ out′ left ≡ listing log
   carried c = rw (append-nil left) at (sym (c .holds []) ∙ is-listing)

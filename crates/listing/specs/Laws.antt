@@ -2,6 +2,5 @@
 pub mod Log
 pub mod Starts
 pub mod Example
-pub mod Held
-pub mod Pieces
+pub mod NoneOrGood
 pub mod Reading

@@ -2,8 +2,8 @@
 ghost use mathlib.Core.Path.{_≡_};
 ghost use Prim.Native.Nat.{_≤_, _<_};
 ghost use lib.ListN.{length, drop};
-ghost use Rattle.listing.specs.Laws.Held.{Held};
-ghost use Rattle.listing.specs.Laws.Pieces.{Stands, Drains};
+ghost use Rattle.listing.specs.Definition.NoneOrGood.{NoneOrGood};
+ghost use Rattle.listing.specs.Definition.Pieces.{Stands, Drains};
 use super::Drained;
 use super::Front;
 use super::Stop;
@@ -46,8 +46,8 @@ pub fn drain(
     input: &[u8],
     text: &mut [u8],
 ) -> Drained
-    requires { ⌜ Held t ⌝ }
-    ensures { λ r. ⌜ Drains t (now (ram .entry)) (now (out .entry)) (now (input .entry)) (r .tables) (now (ram .exit)) (now (out .exit)) (drop (r .taken) (now (input .entry))) (now (text .exit)) (r .used) (r .stop) × Held (r .tables) × (r .taken ≤ length (now (input .entry))) × (r .used ≤ length (now (text .exit))) ⌝ }
+    requires { ⌜ NoneOrGood t ⌝ }
+    ensures { λ r. ⌜ Drains t (now (ram .entry)) (now (out .entry)) (now (input .entry)) (r .tables) (now (ram .exit)) (now (out .exit)) (drop (r .taken) (now (input .entry))) (now (text .exit)) (r .used) (r .stop) × NoneOrGood (r .tables) × (r .taken ≤ length (now (input .entry))) × (r .used ≤ length (now (text .exit))) ⌝ }
 {
     let mut tables = t;
     let mut at: usize = 0;

@@ -4,7 +4,7 @@ ghost use mathlib.Core.List.{List};
 ghost use Prim.Native.Nat.{ℕ, _+_, _≤_};
 ghost use lib.ListN.{length, take, drop};
 ghost use Rattle.text.specs.Definition.Put.{Put};
-ghost use Rattle.listing.specs.Laws.Pieces.{ending, Lists};
+ghost use Rattle.listing.specs.Definition.Pieces.{ending, Lists};
 use super::Listed;
 use super::Stop;
 use super::buffers::drain;

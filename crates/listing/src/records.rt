@@ -5,8 +5,8 @@ ghost use lib.ListN.{length};
 ghost use Rattle.kernel.specs.Definition.Step.{result};
 ghost use Rattle.events.specs.Definition.Records.{stepOf};
 ghost use Rattle.listing.specs.Definition.Log.{lentTo};
-ghost use Rattle.listing.specs.Laws.Held.{Held};
-ghost use Rattle.listing.specs.Laws.Pieces.{Stepped};
+ghost use Rattle.listing.specs.Definition.NoneOrGood.{NoneOrGood};
+ghost use Rattle.listing.specs.Definition.Pieces.{Stepped};
 use super::After;
 use super::lines::put_line;
 use events::call_good;
@@ -48,7 +48,7 @@ fn lent(segments: u8, kind: u16, size: usize) -> usize
 
 // A record's call. After an accepted start the tables are good by theorem, and before it there are none: they are not tested.
 fn call(t: Tables, ram: &mut [u8], kind: u16, body: &[u8], out: &mut [u8]) -> Outcome
-    requires { ⌜ Held t × (length (now ram) ≡ lentTo (t .segments) kind (length (now body))) ⌝ }
+    requires { ⌜ NoneOrGood t × (length (now ram) ≡ lentTo (t .segments) kind (length (now body))) ⌝ }
     ensures { λ r. ⌜ result r (now (ram .exit)) (now (out .exit)) ≡ stepOf t (now (ram .entry)) kind (now (body .entry)) (now (out .entry)) ⌝ }
 {
     if kind == 256 {
@@ -70,8 +70,8 @@ pub fn record(
     text: &mut [u8],
     used: usize,
 ) -> After
-    requires { ⌜ Held t × (length (now ram) ≡ 65536) × (used + 8217 ≤ length (now text)) ⌝ }
-    ensures { λ r. ⌜ Stepped t (now (ram .entry)) (now (out .entry)) kind (now (body .entry)) (now (text .entry)) used (r .tables) (now (ram .exit)) (now (out .exit)) (now (text .exit)) (r .used) × Held (r .tables) ⌝ }
+    requires { ⌜ NoneOrGood t × (length (now ram) ≡ 65536) × (used + 8217 ≤ length (now text)) ⌝ }
+    ensures { λ r. ⌜ Stepped t (now (ram .entry)) (now (out .entry)) kind (now (body .entry)) (now (text .entry)) used (r .tables) (now (ram .exit)) (now (out .exit)) (now (text .exit)) (r .used) × NoneOrGood (r .tables) ⌝ }
 {
     let n = lent(t.segments, kind, body.len());
     let o = call(t, &mut ram[..n], kind, body, out);

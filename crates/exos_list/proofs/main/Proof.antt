@@ -1,12 +1,12 @@
 -- `exos_list::main` is safe and ends, since the turns fall; the tables are held from turn to turn.
 use Prim.Native.Nat.{_≤_}
 use native.Mathlib.Omega.{arith}
-use Rattle.listing.specs.Laws.Held.{Held, none}
+use Rattle.listing.specs.Definition.NoneOrGood.{NoneOrGood, none}
 use Rattle.exos_list.proofs.main.Statement.{statement}
 use Rattle.exos_list.proofs.main.Tie as tie
 
 abbrev Inv-loop : tie.InvT-loop
-Inv-loop ram₀ out₀ buf₀ text₀ s₀ turns₀ ram out buf text s turns = Held (s .tables) × (s .from ≤ s .filled) × (s .filled ≤ 69634)
+Inv-loop ram₀ out₀ buf₀ text₀ s₀ turns₀ ram out buf text s turns = NoneOrGood (s .tables) × (s .from ≤ s .filled) × (s .filled ≤ 69634)
 
 abbrev μ-loop : tie.MeasureT-loop
 μ-loop ram₀ out₀ buf₀ text₀ s₀ turns₀ ram out buf text s turns = turns

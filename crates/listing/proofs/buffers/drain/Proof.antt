@@ -5,8 +5,8 @@ use Prim.Native.Nat.{_+_, _-_, _≤_}
 use native.Mathlib.Omega.{arith}
 use borrow.Author.Needs.{needs}
 use lib.ListN.{length, take, drop}
-use Rattle.listing.specs.Laws.Held.{Held}
-use Rattle.listing.specs.Laws.Pieces.{Whole, Carry}
+use Rattle.listing.specs.Definition.NoneOrGood.{NoneOrGood}
+use Rattle.listing.specs.Definition.Pieces.{Whole, Carry}
 use Rattle.listing.proofs.Fronts.{short-at, bad-at, whole-at, within}
 use Rattle.listing.proofs.Carries.{carry-none, carry-bad, carry-at}
 use Rattle.listing.proofs.buffers.drain.Statement.{statement}
@@ -14,7 +14,7 @@ use Rattle.listing.proofs.buffers.drain.Tie as tie
 
 abbrev Inv-loop : tie.InvT-loop
 Inv-loop ram₀ out₀ input text₀ tables₀ at₀ used₀ ram out text tables at used =
-    Carry tables₀ ram₀ out₀ input tables ram out (drop at input) (take used text) × Held tables × (at ≤ length input) × (used ≤ length text) × (length text ≡ length text₀)
+    Carry tables₀ ram₀ out₀ input tables ram out (drop at input) (take used text) × NoneOrGood tables × (at ≤ length input) × (used ≤ length text) × (length text ≡ length text₀)
 
 abbrev μ-loop : tie.MeasureT-loop
 μ-loop ram₀ out₀ input text₀ tables₀ at₀ used₀ ram out text tables at used = length input - at
@@ -56,7 +56,7 @@ same-length-2 : tie.Need-same-length-2 Inv-loop μ-loop
 same-length-2 c = c .before .before .put-bad .kept .0 ∙ c .before .before .before .before .before .before .before .before .before .loop .inv .4
 
 returns-2 : tie.Need-returns-2 Inv-loop μ-loop
-returns-2 c = let l = c .before .before .before .before .before .before .before .before .before .loop in let a = c .before .before .before .before .before .before .before .before .before .before .before .before .args in let p = c .before .before .put-bad in ((carry-bad (a .t) (now (a .ram)) (now (a .out)) (now (a .input)) (l .tables) _ _ (drop (l .at) (now (a .input))) (l .text) (l .used) (l .inv .0) (bad-at (now (a .input)) (l .at) _ (c .before .before .before .before .before .before .front .ensures) (c .before .before .before .before .enum-told2 .given .1)) _ _ (p .ensures .0), tt), l .inv .1, l .inv .2, p .ensures .1)
+returns-2 c = let l = c .before .before .before .before .before .before .before .before .before .loop in let a = c .before .before .before .before .before .before .before .before .before .before .before .before .args in let p = c .before .before .put-bad in (carry-bad (a .t) (now (a .ram)) (now (a .out)) (now (a .input)) (l .tables) _ _ (drop (l .at) (now (a .input))) (l .text) (l .used) (l .inv .0) (bad-at (now (a .input)) (l .at) _ (c .before .before .before .before .before .before .front .ensures) (c .before .before .before .before .enum-told2 .given .1)) _ _ (p .ensures .0), l .inv .1, l .inv .2, p .ensures .1)
 
 enum-known-f : tie.Need-enum-known-f Inv-loop μ-loop
 enum-known-f c = search needs

@@ -2,7 +2,7 @@
 use denote.Ref.{now}
 use native.Mathlib.Omega.{arith}
 use lib.ListN.{drop, length-drop}
-use Rattle.listing.specs.Laws.Held.{none}
+use Rattle.listing.specs.Definition.NoneOrGood.{none}
 use Rattle.listing.proofs.Wholes.{room-left, listed-bad, listed-over, listed-text}
 use borrow.Author.Needs.{needs}
 use Rattle.listing.proofs.pieces.list.Statement.{statement}
@@ -39,7 +39,7 @@ same-length-2 : tie.Need-same-length-2
 same-length-2 c = search needs
 
 returns-2 : tie.Need-returns-2
-returns-2 c = let d = c .before .before .before .before .drain in let log = now (c .before .before .before .before .before .before .before .before .before .before .before .args .log) in let n = c .before .before .before .before .before .before .before .before .«none» .ensures in (listed-over _ n log (d .result .tables) (d .last .1 .0) (d .last .1 .1 .0) (drop (d .result .taken) log) (d .last .1 .1 .1 .1 .0) (d .result .used) (d .result .stop) (d .ensures .0) (c .enum-told2 .given .1) (d .ensures .3), tt)
+returns-2 c = let d = c .before .before .before .before .drain in let log = now (c .before .before .before .before .before .before .before .before .before .before .before .args .log) in let n = c .before .before .before .before .before .before .before .before .«none» .ensures in listed-over _ n log (d .result .tables) (d .last .1 .0) (d .last .1 .1 .0) (drop (d .result .taken) log) (d .last .1 .1 .1 .1 .0) (d .result .used) (d .result .stop) (d .ensures .0) (c .enum-told2 .given .1) (d .ensures .3)
 
 same-length-3 : tie.Need-same-length-3
 same-length-3 c = search needs

@@ -2,7 +2,7 @@
 use mathlib.Core.Path.{refl, _∙_}
 use Rattle.events.specs.Definition.Records.{callIn}
 use Rattle.events.proofs.ByKind.{by-kind}
-use Rattle.listing.specs.Laws.Held.{held-none, held-started, lent-theirs}
+use Rattle.listing.specs.Laws.NoneOrGood.{is-none, is-good, lent-theirs}
 use Rattle.listing.proofs.Calls.{unstarted}
 use borrow.Author.Needs.{needs}
 use Rattle.listing.proofs.records.call.Statement.{statement}
@@ -22,10 +22,10 @@ refuse-requires : tie.Need-refuse-requires
 refuse-requires c κs = search needs
 
 returns-2 : tie.Need-returns-2
-returns-2 c = unstarted _ _ _ _ _ _ (held-none _ (c .before .before .before .before .before .before .before .pre .0) (c .before .if2 .taken)) (c .before .before .before .if1 .left) (c .refuse .ensures)
+returns-2 c = unstarted _ _ _ _ _ _ (is-none _ (c .before .before .before .before .before .before .before .pre .0) (c .before .if2 .taken)) (c .before .before .before .if1 .left) (c .refuse .ensures)
 
 call-good-requires : tie.Need-call-good-requires
-call-good-requires c κs = let s = c .before .before .before .before .before .before .before .before in let g = held-started _ (s .pre .0) (c .before .before .if2 .left) in (g .0, s .pre .1 ∙ lent-theirs (s .args .t) _ _ (c .before .before .before .before .if1 .left) (g .1))
+call-good-requires c κs = let s = c .before .before .before .before .before .before .before .before in let g = is-good _ (s .pre .0) (c .before .before .if2 .left) in (g .0, s .pre .1 ∙ lent-theirs (s .args .t) _ _ (c .before .before .before .before .if1 .left) (g .1))
 
 same-length-2 : tie.Need-same-length-2
 same-length-2 c = search needs

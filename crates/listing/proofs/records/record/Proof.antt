@@ -3,7 +3,7 @@ use denote.Ref.{now}
 use mathlib.Core.Path.{sym, _∙_}
 use native.Mathlib.Omega.{arith}
 use lib.Seq.{length-take-le}
-use Rattle.listing.proofs.Calls.{stepped, held-after}
+use Rattle.listing.proofs.Calls.{stepped, good-after}
 use borrow.Author.Needs.{needs}
 use Rattle.listing.proofs.records.record.Statement.{statement}
 use Rattle.listing.proofs.records.record.Tie as tie
@@ -57,7 +57,7 @@ returns c =
     let out = k .last .1 .1 .1 .1 .0 in (
       stepped (a .t) (now (a .ram)) (now (a .out)) (a .kind) (now (a .body)) (n .result) (n .ensures .0) (k .result) ram out (k .ensures)
           (now (a .text)) (a .used) _ _ _ x y (c .before .before .before .before .before .before .b .ensures) (l .last .1 .1 .1 .1 .1 .0) (l .result) (l .ensures .0) (l .ensures .1),
-      held-after (a .t) (now (a .ram)) (now (a .out)) (a .kind) (now (a .body)) (n .result) (n .ensures .0) (k .result) ram out (k .ensures)
+      good-after (a .t) (now (a .ram)) (now (a .out)) (a .kind) (now (a .body)) (n .result) (n .ensures .0) (k .result) ram out (k .ensures)
           (s .pre .1) (λ i. omega (arith, c .before .before .before .before .before .before .before .before .before .before .before .before .before .before .before .before .before .before .before .shared-slice-known .given i)) (s .pre .0),
     )
 

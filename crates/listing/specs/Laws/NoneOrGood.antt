@@ -1,4 +1,4 @@
--- The tables that the listing carries from record to record, and that a record keeps them so.
+-- A record keeps the tables that the listing carries.
 use mathlib.Core.Path.{_≡_, refl, sym, ap, _∙_}
 use mathlib.Core.Bool.{Bool, true, false, false≢true}
 use mathlib.Core.List.{List}
@@ -18,23 +18,19 @@ use Rattle.kernel.specs.Laws.Ready.{decided-ready, start-ready}
 use Rattle.kernel.specs.declared.Tables.{Tables}
 use Rattle.events.specs.Definition.Records.{u16At, startIn, callIn}
 use Rattle.events.specs.Laws.Bodies.{Bytes, call-fields}
+use Rattle.listing.specs.Definition.NoneOrGood.{NoneOrGood, none, started}
 use Rattle.listing.specs.Definition.Log.{lentTo, logStep}
 use Rattle.listing.specs.Laws.Starts.{before-start, refused-leaves, short-answers}
 
--- no tables before an accepted start; after it good tables, of at most the four segments that are lent
-pub data Held (t : Tables) : Type 0 where
-  none : t ≡ noTables → Held t
-  started : Good t → t .segments ≤ 4 → Held t
-
 -- which of the two it is, by the number of segments
-pub held-none : (t : Tables) → Held t → t .segments ≡ 0 → t ≡ noTables
-held-none t (none e) h = e
-held-none t (started g l) h = absurd (omega (arith, g .list .least))
+pub is-none : (t : Tables) → NoneOrGood t → t .segments ≡ 0 → t ≡ noTables
+is-none t (none e) h = e
+is-none t (started g l) h = absurd (omega (arith, g .list .least))
 
-pub held-started : (t : Tables) → Held t → (t .segments ≡ 0 → ⊥) → Good t × (t .segments ≤ 4)
+pub is-good : (t : Tables) → NoneOrGood t → (t .segments ≡ 0 → ⊥) → Good t × (t .segments ≤ 4)
 unfolding noTables
-held-started t (none e) h = absurd (h (ap (λ (u : Tables). u .segments) e))
-held-started t (started g l) h = (g, l)
+is-good t (none e) h = absurd (h (ap (λ (u : Tables). u .segments) e))
+is-good t (started g l) h = (g, l)
 
 -- the RAM lent on good tables is theirs
 pub lent-theirs : (t : Tables) (kind size : ℕ) → (kind ≡ 256 → ⊥) → t .segments ≤ 4 → lentTo (t .segments) kind size ≡ ramSize t
@@ -51,9 +47,9 @@ lent-size ram segments kind size h = rw length-take (omega arith)
 
 module _ (t : Tables) (ram out : List ℕ) (body : List ℕ) (s : length ram ≡ 65536) where
   -- a start that is done
-  start-held : granted (logStep t ram out 256 body .answer) ≡ true → Held (logStep t ram out 256 body .tables)
+  start-leaves : granted (logStep t ram out 256 body .answer) ≡ true → NoneOrGood (logStep t ram out 256 body .tables)
   unfolding logStep step completed callIn startIn
-  start-held d = elim (split (ltb (length body) 2)) [
+  start-leaves d = elim (split (ltb (length body) 2)) [
     | inl e ↦ absurd (false≢true (sym (ap granted (short-answers t ram out body (ltb-true (length body) 2 e))) ∙ d))
     | inr e ↦
         let n = lentTo (t .segments) 256 (length body) in
@@ -62,10 +58,10 @@ module _ (t : Tables) (ram out : List ℕ) (body : List ℕ) (s : length ram ≡
   ]
 
   -- any other kind that is done
-  other-held : (kind : ℕ) → (kind ≡ 256 → ⊥) → Bytes body → Held t → granted (logStep t ram out kind body .answer) ≡ true → Held (logStep t ram out kind body .tables)
+  other-leaves : (kind : ℕ) → (kind ≡ 256 → ⊥) → Bytes body → NoneOrGood t → granted (logStep t ram out kind body .answer) ≡ true → NoneOrGood (logStep t ram out kind body .tables)
   unfolding logStep step completed
-  other-held kind n b (none e) d = absurd (false≢true (sym (ap granted (rw (← e) at (before-start ram out kind body n))) ∙ d))
-  other-held kind n b (started g l) d =
+  other-leaves kind n b (none e) d = absurd (false≢true (sym (ap granted (rw (← e) at (before-start ram out kind body n))) ∙ d))
+  other-leaves kind n b (started g l) d =
       let e = lent-theirs t kind (length body) n l in
       let q = lent-size ram (t .segments) kind (length body) s in
       let lent = length (take (lentTo (t .segments) kind (length body)) ram) in
@@ -73,11 +69,11 @@ module _ (t : Tables) (ram out : List ℕ) (body : List ℕ) (s : length ram ≡
       started (r .good) (omega (arith, r .size))
 
 -- a record keeps what is carried: no test of the tables is run for each
-pub held-step : (t : Tables) (ram out : List ℕ) (kind : ℕ) (body : List ℕ) → length ram ≡ 65536 → Bytes body → Held t → Held (logStep t ram out kind body .tables)
-held-step t ram out kind body s b h = elim (split (granted (logStep t ram out kind body .answer))) [
+pub record-keeps : (t : Tables) (ram out : List ℕ) (kind : ℕ) (body : List ℕ) → length ram ≡ 65536 → Bytes body → NoneOrGood t → NoneOrGood (logStep t ram out kind body .tables)
+record-keeps t ram out kind body s b h = elim (split (granted (logStep t ram out kind body .answer))) [
   | inl d ↦ elim (ℕ-discrete kind 256) [
-    | yes e ↦ rw e (start-held t ram out body s (rw e at d))
-    | no e ↦ other-held t ram out body s kind e b h d
+    | yes e ↦ rw e (start-leaves t ram out body s (rw e at d))
+    | no e ↦ other-leaves t ram out body s kind e b h d
   ]
   | inr d ↦ rw (refused-leaves t ram out kind body b d) h
 ]

@@ -53,9 +53,9 @@ ending xs = cond (eqb (length xs) 0) [] badText
 abbrev pub Drains : Tables → (ram out xs : List ℕ) → Tables → (ram′ out′ left text : List ℕ) → (used : ℕ) → Stop → Type 0
 Drains t ram out xs t′ ram′ out′ left text used More = Carry t ram out xs t′ ram′ out′ left (take used text) × Short left × (used + 8217 ≤ length text)
 Drains t ram out xs t′ ram′ out′ left text used Full = Carry t ram out xs t′ ram′ out′ left (take used text) × (length text < used + 8217)
-Drains t ram out xs t′ ram′ out′ left text used Ends = ((ys : List ℕ) → textFrom t ram out (xs ++ ys) ≡ take used text) × Unit {0}
+Drains t ram out xs t′ ram′ out′ left text used Ends = (ys : List ℕ) → textFrom t ram out (xs ++ ys) ≡ take used text
 
 -- the first bytes of `text` are the text of the whole log, or it has no room for it and for one line more
 abbrev pub Lists : (log text : List ℕ) → Listed → Type 0
 Lists log text (Text n) = (take n text ≡ listing log) × (n ≤ length text)
-Lists log text Over = (length text < length (listing log) + 8217) × Unit {0}
+Lists log text Over = length text < length (listing log) + 8217
