@@ -51,8 +51,3 @@ abbrev pub Fits : List ℕ → Found → Type 0
 Fits bytes (Whole q) = Spans bytes q × (1 ≤ length bytes) × Brings bytes
 Fits bytes Part = Unit {0}
 Fits bytes Bad = Unit {0}
-
-pub call-fits : (bytes : List ℕ) (r : Found) → CallFits bytes r → 1 ≤ length bytes → Brings bytes → Fits bytes r
-call-fits bytes (Whole q) s h b = (s, h, b)
-call-fits bytes Part s h b = tt
-call-fits bytes Bad s h b = tt

@@ -2,8 +2,7 @@
 use denote.Ref.{now}
 use mathlib.Core.Path.{_∙_}
 use native.Mathlib.Omega.{arith}
-use Rattle.stream.specs.Definition.Requests.{call-fits}
-use Rattle.stream.proofs.Branches.{none, goes-on, unknown, image-cut, too-large, brings}
+use Rattle.stream.proofs.Branches.{none, goes-on, unknown, image-cut, too-large, brings, call-fits}
 use borrow.Author.Needs.{needs}
 use Rattle.stream.proofs.requests.request.Statement.{statement}
 use Rattle.stream.proofs.requests.request.Tie as tie
