@@ -1,2 +1,2 @@
--- What holds of the program's state.
-pub mod State
+-- The program's state.
+pub mod Definition

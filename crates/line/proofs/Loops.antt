@@ -7,7 +7,7 @@ use native.Mathlib.Numerals.{add-one}
 use native.Mathlib.Omega.{arith}
 use lib.ListN.{length, getD, set, replicate, length-replicate, replicate-append-replicate}
 use Rattle.line.specs.Definition.Ram.{bytesFrom, putFrom}
-use Rattle.line.specs.Laws.Runs.{Ahead}
+use Rattle.line.specs.Definition.Runs.{Ahead}
 use Rattle.line.specs.Laws.Walks.{length-bytes, bytes-append, bytes-same, put-append, put-set, put-same, bytes-kept}
 
 -- some bytes are put already, and a turn puts those that follow

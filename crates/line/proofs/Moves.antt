@@ -5,8 +5,8 @@ use Prim.Native.Nat.{ℕ, _+_, _-_, _<_, _≤_, _%_}
 use native.Mathlib.Nat.{add-zero, zero-add}
 use native.Mathlib.Omega.{arith}
 use Rattle.line.specs.Definition.Ram.{bytesFrom, putFrom}
-use Rattle.line.specs.Laws.Runs.{rise, Ahead, fall, runUpTo}
-use Rattle.line.specs.Laws.Chains.{Chain}
+use Rattle.line.specs.Definition.Runs.{rise, Ahead, fall, runUpTo}
+use Rattle.line.specs.Definition.Chains.{Chain}
 use Rattle.line.specs.Definition.Line.{placeOf, lineFrom, putLine}
 use Rattle.line.specs.Laws.Walks.{length-bytes, bytes-same, put-same}
 use Rattle.line.proofs.Loops.{move-next, copy-back}

@@ -7,7 +7,7 @@ use native.Mathlib.Omega.{arith}
 use lib.ListN.{length, getD, set, take, drop, replicate, length-replicate}
 use lib.Seq.{sets, sets-eq, drop-cons, take-length, drop-length}
 use Rattle.line.specs.Definition.Ram.{bytesFrom, putFrom, putAt, filled}
-use Rattle.line.specs.Laws.Runs.{rise}
+use Rattle.line.specs.Definition.Runs.{rise}
 use Rattle.line.specs.Laws.Walks.{length-bytes}
 
 rise-bytes-from : (at p : ℕ) (ram : List ℕ) (n : ℕ) → at + p + n ≤ length ram → bytesFrom (rise at) ram p n ≡ take n (drop (at + p) ram)

@@ -6,7 +6,7 @@ use native.Mathlib.Nat.{zero-add}
 use native.Mathlib.Omega.{arith}
 use lib.ListN.{length, replicate, length-replicate}
 use Rattle.line.specs.Definition.Ram.{bytesFrom, putFrom, filled}
-use Rattle.line.specs.Laws.Runs.{rise, fall}
+use Rattle.line.specs.Definition.Runs.{rise, fall}
 use Rattle.line.specs.Definition.Line.{placeOf, lineFrom, putLine}
 use Rattle.line.specs.Laws.Walks.{length-bytes, bytes-same, put-same}
 use Rattle.line.proofs.Loops.{zero-next, copy-next, put-none, copy-none}

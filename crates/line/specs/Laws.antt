@@ -1,6 +1,5 @@
--- What the moves ask of a chain, the laws of walks and places, and the line byte by byte.
+-- The laws of walks and places, and the line byte by byte.
 pub mod Chains
-pub mod Runs
 pub mod Points
 pub mod Walks
 pub mod Places

@@ -3,7 +3,7 @@ ghost use mathlib.Core.Path.{_≡_};
 ghost use Prim.Native.Nat.{_+_, _<_, _≤_};
 ghost use lib.ListN.{length, replicate};
 ghost use Rattle.line.specs.Definition.Ram.{bytesFrom, putFrom};
-ghost use Rattle.line.specs.Laws.Runs.{fall, rise, Ahead};
+ghost use Rattle.line.specs.Definition.Runs.{fall, rise, Ahead};
 
 // The n bytes from index s down go to index d down.
 pub fn copy_fall(ram: &mut [u8], d: usize, s: usize, n: usize)

@@ -1,5 +1,4 @@
--- The computed reading is the one reading of the grammar, and what the steps of the parse promise.
-pub mod Steps
+-- The computed reading is the one reading of the grammar.
 pub mod Runs
 pub mod Numbers
 pub mod Laid

@@ -12,22 +12,23 @@ use Rattle.rows.specs.Laws.Lists.{and-right}
 use Rattle.kernel.specs.Definition.Tables.{ramSize}
 use Rattle.kernel.specs.Definition.Good.{Good, goodTest}
 use Rattle.kernel.specs.Definition.Step.{Result, accepted, result, completed, step}
-use Rattle.kernel.specs.Laws.Ready.{Ready, decided-ready}
+use Rattle.kernel.specs.Laws.Ready.{decided-ready}
 use Rattle.kernel.specs.declared.Tables.{Tables}
 use Rattle.kernel.specs.declared.Outcome.{Outcome}
 use Rattle.events.specs.Definition.Records.{u16At, callIn, stepOf}
 use Rattle.events.specs.Laws.Bodies.{Bytes, call-fields}
-use Rattle.replay.specs.Definition.Replay.{records, bytesOf, asked, replayed}
-use Rattle.replay.specs.Laws.Records.{sizeOf, front, size-fits, records-none, records-more, at-front}
+use Rattle.replay.specs.Definition.Replay.{records, sizeOf, bytesOf, asked, replayed}
+use Rattle.replay.specs.Laws.Records.{front, size-fits, records-none, records-more, at-front}
 
-pub accepted-ready : (t : Tables) (ram : ℕ) (b : Bool) → b ≡ accepted t ram → (b ≡ true → Good t) → b ≡ true → Ready t ram
-accepted-ready t ram b e g h = record { good = g h; size = eqb-true ram (ramSize t) (and-right (goodTest t) (eqb ram (ramSize t)) (sym e ∙ h)) }
+pub accepted-ready : (t : Tables) (ram : ℕ) (b : Bool) → b ≡ accepted t ram → (b ≡ true → Good t) → b ≡ true → Good t × (ram ≡ ramSize t)
+accepted-ready t ram b e g h = (g h, eqb-true ram (ramSize t) (and-right (goodTest t) (eqb ram (ramSize t)) (sym e ∙ h)))
 
-pub stays-ready : (t : Tables) (ram : List ℕ) (kind : ℕ) (body out : List ℕ) (r : Outcome) (ram' out' : List ℕ) → Ready t (length ram) → Bytes body
-    → length ram' ≡ length ram → result r ram' out' ≡ stepOf t ram kind body out → Ready (r .tables) (length ram')
+pub stays-ready : (t : Tables) (ram : List ℕ) (kind : ℕ) (body out : List ℕ) (r : Outcome) (ram' out' : List ℕ) → Good t × (length ram ≡ ramSize t) → Bytes body
+    → length ram' ≡ length ram → result r ram' out' ≡ stepOf t ram kind body out → Good (r .tables) × (length ram' ≡ ramSize (r .tables))
 unfolding step completed
 stays-ready t ram kind body out r ram' out' h b l e =
-    rw (l, ap (λ (x : Result). x .tables) e) (decided-ready t (length ram) (length out) (callIn kind body) h (call-fields kind body b))
+    let k = decided-ready t (length ram) (length out) (callIn kind body) (record { good = h .0; size = h .1 }) (call-fields kind body b) in
+    rw (l, ap (λ (x : Result). x .tables) e) (k .good, k .size)
 
 -- the record that stands at a place lies in the buffer
 lies : (xs : List ℕ) (at n : ℕ) → at ≤ length xs → n ≡ sizeOf (drop at xs) → (n ≡ 0 → ⊥) → (4 ≤ n) × (at + n ≤ length xs)

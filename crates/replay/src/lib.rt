@@ -3,11 +3,11 @@ ghost use mathlib.Core.Path.{_≡_};
 ghost use mathlib.Core.Bool.{true};
 ghost use Prim.Native.Nat.{_≤_};
 ghost use lib.ListN.{length, drop};
+ghost use Rattle.kernel.specs.Definition.Good.{Good};
 ghost use Rattle.kernel.specs.Definition.Step.{result};
-ghost use Rattle.kernel.specs.Laws.Ready.{Ready};
+ghost use Rattle.kernel.specs.Definition.Tables.{ramSize};
 ghost use Rattle.events.specs.Definition.Records.{stepOf};
-ghost use Rattle.replay.specs.Definition.Replay.{records, bytesOf, replayed, before};
-ghost use Rattle.replay.specs.Laws.Records.{sizeOf};
+ghost use Rattle.replay.specs.Definition.Replay.{records, sizeOf, bytesOf, replayed, before};
 use events::fields::u16_at;
 use kernel::Answer;
 use kernel::Outcome;
@@ -52,7 +52,7 @@ fn size_at(input: &[u8], at: usize) -> usize
 
 // Whether tables are known to be good from here on: never, where they are not to be held.
 fn known(t: Tables, size: usize, hold: bool) -> bool
-    ensures { λ r. ⌜ (r ≡ true → Ready t size) ⌝ }
+    ensures { λ r. ⌜ (r ≡ true → Good t × (size ≡ ramSize t)) ⌝ }
 {
     if hold { t.accepts(size) } else { false }
 }
@@ -67,8 +67,8 @@ fn turn(
     out: &mut [u8],
     hold: bool,
 ) -> Turned
-    requires { ⌜ (good ≡ true → Ready t (length (now ram))) ⌝ }
-    ensures { λ r. ⌜ (result (r .last) (now (ram .exit)) (now (out .exit)) ≡ stepOf t (now (ram .entry)) kind (now (body .entry)) (now (out .entry))) × (r .good ≡ true → Ready (r .last .tables) (length (now (ram .exit)))) ⌝ }
+    requires { ⌜ (good ≡ true → Good t × (length (now ram) ≡ ramSize t)) ⌝ }
+    ensures { λ r. ⌜ (result (r .last) (now (ram .exit)) (now (out .exit)) ≡ stepOf t (now (ram .entry)) kind (now (body .entry)) (now (out .entry))) × (r .good ≡ true → Good (r .last .tables) × (length (now (ram .exit)) ≡ ramSize (r .last .tables))) ⌝ }
 {
     if good {
         let last = events::call_good(t, ram, kind, body, out);

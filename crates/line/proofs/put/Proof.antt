@@ -7,7 +7,7 @@ use borrow.Author.Needs.{needs}
 use lib.ListN.{length}
 use Rattle.line.specs.Definition.Ram.{bytesFrom}
 use Rattle.line.specs.Definition.Line.{putLine, placeOf}
-use Rattle.line.specs.Laws.Runs.{rise}
+use Rattle.line.specs.Definition.Runs.{rise}
 use Rattle.line.proofs.Loops.{copy-none}
 use Rattle.line.proofs.Sides.{bytes-all}
 use Rattle.line.specs.Laws.Places.{place-inside}

@@ -4,7 +4,7 @@ use mathlib.Core.List.{List, [], _∷_}
 use Prim.Native.Nat.{ℕ, zero, suc, _+_, _*_, _<_, _≤_}
 use native.Mathlib.Omega.{arith}
 use lib.ListN.{getD}
-use Rattle.line.specs.Laws.Chains.{Chain}
+use Rattle.line.specs.Definition.Chains.{Chain}
 use Rattle.line.specs.Definition.Line.{chainIndexOf, offsetOf, placeOf, headingOf}
 
 two : List ℕ

@@ -4,7 +4,7 @@ use mathlib.Core.List.{List}
 use Prim.Native.Nat.{ℕ, _+_, _-_, _<_, _≤_}
 use native.Mathlib.Omega.{arith}
 use lib.ListN.{length, getD}
-use Rattle.line.specs.Laws.Chains.{Chain}
+use Rattle.line.specs.Definition.Chains.{Chain}
 use Rattle.line.specs.Definition.Line.{placeOf, putLine}
 use Rattle.line.specs.Laws.Walks.{put-at, put-same}
 use Rattle.line.specs.Laws.Places.{place-inside, place-apart, place-shift}

@@ -9,7 +9,7 @@ use lib.ListN.{length, getD, take, drop, length-drop}
 use lib.Seq.{getD-take, getD-drop, length-take-le}
 use borrow.Author.Tests.{lt-ltb, eq-eqb, ne-eqb}
 use Rattle.line.specs.declared.Lent.the-variants.{Part, Nothing}
-use Rattle.line.specs.Laws.Chains.{Chain}
+use Rattle.line.specs.Definition.Chains.{Chain}
 use Rattle.line.specs.Definition.Line.{chainIndexOf, offsetOf, placeOf, lineFrom}
 use Rattle.line.specs.Definition.Lent.{lentAt, partOf}
 use Rattle.line.specs.Laws.Walks.{bytes-at}

@@ -7,9 +7,9 @@ use native.Mathlib.Decide.{decLt}
 use native.Mathlib.Omega.{arith}
 use lib.ListN.{getD}
 use borrow.Author.Tests.{lt-ltb, le-ltb}
-use Rattle.line.specs.Laws.Chains.{Chain}
+use Rattle.line.specs.Definition.Chains.{Chain}
 use Rattle.line.specs.Definition.Line.{chainIndexOf, offsetOf, placeOf}
-use Rattle.line.specs.Laws.Runs.{runUpTo}
+use Rattle.line.specs.Definition.Runs.{runUpTo}
 
 -- the two cases of a position: in the room of the chain's first segment, or past it
 

@@ -6,7 +6,7 @@ use Prim.Native.Nat.{ℕ, _+_, _-_, _<_, _≤_}
 use native.Mathlib.Omega.{arith}
 use native.Mathlib.Decide.{decLt}
 use lib.ListN.{length, replicate, length-replicate, length-append, List·getD-append}
-use Rattle.line.specs.Laws.Chains.{Chain}
+use Rattle.line.specs.Definition.Chains.{Chain}
 use Rattle.line.specs.Definition.Line.{placeOf, lineFrom, afterClose}
 use Rattle.line.specs.Laws.Points.{Closed}
 use Rattle.line.specs.Laws.Walks.{length-bytes, bytes-at, length-put, put-elsewhere}

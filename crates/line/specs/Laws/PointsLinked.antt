@@ -7,7 +7,7 @@ use native.Mathlib.Nat.{zero-add}
 use native.Mathlib.Omega.{arith}
 use native.Mathlib.Decide.{decLt}
 use lib.ListN.{length, getD, replicate, length-replicate, getD-replicate}
-use Rattle.line.specs.Laws.Chains.{Chain}
+use Rattle.line.specs.Definition.Chains.{Chain}
 use Rattle.line.specs.Definition.Line.{placeOf, lineFrom, putLine, afterLink}
 use Rattle.line.specs.Laws.Points.{Linked}
 use Rattle.line.specs.Laws.Walks.{length-bytes, bytes-at, length-put, put-elsewhere}

@@ -1,7 +1,7 @@
 -- Laws of a unit's number, capped, and that it is found exactly where the rule on digits holds.
 use Prim.Native.Nat.{ℕ, zero, suc, _+_, _*_, _-_, _≤_, _<_}
 use mathlib.Core.Path.{_≡_, refl, sym, _∙_}
-use mathlib.Core.Bool.{Bool, true, false, cond, _&&_, and-eq-true-iff}
+use mathlib.Core.Bool.{Bool, true, false, _&&_, and-eq-true-iff}
 use mathlib.Core.List.{List, [], _∷_}
 use lib.ListN.{length, getD, drop, drop-of-length-le}
 use lib.Seq.{drop-cons}
@@ -11,19 +11,11 @@ use native.Mathlib.Omega.{arith}
 use native.Mathlib.Numerals.{add-one}
 use native.Mathlib.Decide.{decLe}
 use Rattle.names.specs.Definition.Grammar.{All, value, DigitsRule}
+use Rattle.names.specs.Definition.Capped.{capped, cappedNumber}
 use Rattle.names.specs.Definition.Tests.{allOf}
 use Rattle.names.specs.Definition.Read.{digitsTest}
 use Rattle.names.specs.Laws.Runs.{all-right, all-finds}
 use Rattle.names.specs.declared.Kind.the-variants.{Digit}
-
--- all above 256 as 256, which is no unit's number
-unfoldable pub capped : ℕ → ℕ
-capped n = cond (leb n 256) n 256
-
--- the number of one or more digits, capped; 256 where the bytes are no digits
-unfoldable pub cappedNumber : List ℕ → ℕ
-unfolding capped allOf
-cappedNumber ds = cond (leb 1 (length ds) && allOf Digit ds) (capped (value 0 ds)) 256
 
 pub capped-low : (n : ℕ) → n ≤ 256 → capped n ≡ n
 unfolding capped

@@ -6,15 +6,16 @@ use native.Mathlib.Omega.{arith}
 use denote.Ref.{now}
 use lib.ListN.{length}
 use borrow.Author.Needs.{needs}
+use Rattle.kernel.specs.Definition.Good.{Good}
 use Rattle.kernel.specs.Definition.Step.{result}
-use Rattle.kernel.specs.Laws.Ready.{Ready}
+use Rattle.kernel.specs.Definition.Tables.{ramSize}
 use Rattle.replay.proofs.Laws.{Goes, goes-first, goes-on, goes-last}
 use Rattle.replay.proofs.replay.Statement.{statement}
 use Rattle.replay.proofs.replay.Tie as tie
 
 abbrev Inv-loop : tie.InvT-loop
 Inv-loop ram₀ out₀ input hold good₀ last₀ at₀ n₀ ram out good last at n =
-    Goes (result last₀ ram₀ out₀) (result last ram out) input at n × (good ≡ true → Ready (last .tables) (length ram))
+    Goes (result last₀ ram₀ out₀) (result last ram out) input at n × (good ≡ true → Good (last .tables) × (length ram ≡ ramSize (last .tables)))
     × (length ram ≡ length ram₀) × (length out ≡ length out₀)
 
 abbrev μ-loop : tie.MeasureT-loop

@@ -6,7 +6,7 @@ use Rattle.replay.proofs.turn.Statement.{statement}
 use Rattle.replay.proofs.turn.Tie as tie
 
 call-good-requires : tie.Need-call-good-requires
-call-good-requires c κs = let r = c .before .before .before .before .before .before .pre (c .before .before .if1 .taken) in (r .good, r .size)
+call-good-requires c κs = c .before .before .before .before .before .before .pre (c .before .before .if1 .taken)
 
 same-length : tie.Need-same-length
 same-length c = search needs

@@ -44,3 +44,12 @@ replayed m (r ∷ rs) = replayed (asked m r) rs
 -- where a replay starts: these tables, this RAM, this output, and no answer yet
 abbrev pub before : Tables → (ram output : List ℕ) → Result
 before t ram output = result (gives (Done 0 0) t) ram output
+
+abbrev pub sizeTo : Next → ℕ
+sizeTo finished = 0
+sizeTo broken = 0
+sizeTo (found kind body rest) = 4 + length body
+
+-- the bytes that the record at the front takes with its length; 0 where none is
+unfoldable pub sizeOf : List ℕ → ℕ
+sizeOf xs = sizeTo (next xs)

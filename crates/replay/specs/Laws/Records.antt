@@ -10,7 +10,7 @@ use lib.ListN.{length, take, drop, length-drop}
 use lib.Seq.{getD-drop, length-take-le}
 use Rattle.events.specs.Definition.Records.{u16At, Next, finished, broken, found, next}
 use Rattle.events.specs.Laws.Next.{next-none, next-cut, next-low, next-high, next-short, next-whole, next-found, shorter}
-use Rattle.replay.specs.Definition.Replay.{EventRecord, recordsTo, recordsIn, records}
+use Rattle.replay.specs.Definition.Replay.{EventRecord, recordsTo, recordsIn, records, sizeTo, sizeOf}
 
 same-on : (f g : List ℕ → List EventRecord) (v : Next) → ((kind : ℕ) (body rest : List ℕ) → v ≡ found kind body rest → f rest ≡ g rest) → recordsTo f v ≡ recordsTo g v
 unfolding recordsTo
@@ -35,15 +35,6 @@ records-turn [] = rw (next-none [] (omega arith))
 records-turn (x ∷ xs) =
     same-on (recordsIn (length xs)) records (next (x ∷ xs))
     (λ kind body rest e. enough (length xs) (length rest) rest (omega (arith, shorter (x ∷ xs) kind body rest e)) (omega arith))
-
-abbrev pub sizeTo : Next → ℕ
-sizeTo finished = 0
-sizeTo broken = 0
-sizeTo (found kind body rest) = 4 + length body
-
--- the bytes that the record at the front takes with its length; 0 where none is
-unfoldable pub sizeOf : List ℕ → ℕ
-sizeOf xs = sizeTo (next xs)
 
 abbrev pub front : List ℕ → EventRecord
 front xs = record { kind = u16At xs 2; body = take (sizeOf xs - 4) (drop 4 xs) }

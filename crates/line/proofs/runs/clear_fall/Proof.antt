@@ -5,7 +5,7 @@ use Prim.Native.Nat.{_-_, _≤_}
 use native.Mathlib.Omega.{arith}
 use lib.ListN.{length, length-set, replicate}
 use Rattle.line.specs.Definition.Ram.{putFrom}
-use Rattle.line.specs.Laws.Runs.{fall}
+use Rattle.line.specs.Definition.Runs.{fall}
 use Rattle.line.proofs.Loops.{put-none, zero-byte}
 use Rattle.line.proofs.runs.clear_fall.Statement.{statement}
 use Rattle.line.proofs.runs.clear_fall.Tie as tie

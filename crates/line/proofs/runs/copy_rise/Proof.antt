@@ -5,7 +5,7 @@ use Prim.Native.Nat.{_+_, _-_, _≤_}
 use native.Mathlib.Omega.{arith}
 use lib.ListN.{length, length-set}
 use Rattle.line.specs.Definition.Ram.{bytesFrom, putFrom}
-use Rattle.line.specs.Laws.Runs.{rise}
+use Rattle.line.specs.Definition.Runs.{rise}
 use Rattle.line.proofs.Loops.{copy-none, move-byte}
 use Rattle.line.proofs.runs.copy_rise.Statement.{statement}
 use Rattle.line.proofs.runs.copy_rise.Tie as tie

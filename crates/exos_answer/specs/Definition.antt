@@ -1,0 +1,2 @@
+-- What holds of the program's state.
+pub mod State
