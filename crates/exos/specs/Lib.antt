@@ -1,2 +1,3 @@
--- The static library.
+-- The static library: the definition, and the laws about it.
 pub mod Definition
+pub mod Laws

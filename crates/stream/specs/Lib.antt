@@ -1,2 +1,3 @@
--- The stream that is compared.
+-- The stream that is compared: the definition, and the laws about it.
 pub mod Definition
+pub mod Laws

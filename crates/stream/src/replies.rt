@@ -1,7 +1,7 @@
 // A request's call, and the reply to it.
 ghost use mathlib.Core.Path.{_≡_};
 ghost use Prim.Native.Nat.{_+_, _≤_};
-ghost use lib.ListN.{length, take, drop};
+ghost use lib.ListN.{length};
 ghost use Rattle.kernel.specs.Definition.Step.{result};
 ghost use Rattle.kernel.specs.Definition.Lend.{partOn};
 ghost use Rattle.text.specs.Definition.Put.{Put};
@@ -105,7 +105,7 @@ pub fn reply(
 // The tables of an image, and a RAM by its length and a seed.
 pub fn bring(ram: &mut [u8], bytes: &[u8]) -> Machine
     requires { ⌜ (785 ≤ length (now bytes)) × (u32At (now bytes) 777 ≤ length (now ram)) ⌝ }
-    ensures { λ r. ⌜ Brought (now (bytes .entry)) (r .tables) (take (r .size) (now (ram .exit))) × (drop (r .size) (now (ram .exit)) ≡ drop (r .size) (now (ram .entry))) × (r .size ≡ u32At (now (bytes .entry)) 777) ⌝ }
+    ensures { λ r. ⌜ Brought (now (ram .entry)) (now (bytes .entry)) r (now (ram .exit)) ⌝ }
 {
     let size = u32_at(bytes, 777) as usize;
     fill(&mut ram[..size], u32_at(bytes, 781));

@@ -1,2 +1,3 @@
 -- Laws of text.
 pub mod Text
+pub mod One

@@ -17,7 +17,7 @@ same-length : tie.Need-same-length
 same-length c = search needs
 
 returns-2 : tie.Need-returns-2
-returns-2 c = let b = c .before .before .before .before .before .before .before .before .pre .3 (c .before .before .before .before .if1 .left) in omega (arith, b .1, c .before .before .bring .ensures .2)
+returns-2 c = let b = c .before .before .before .before .before .before .before .before .pre .3 (c .before .before .before .before .if1 .left) in omega (arith, b .1, c .before .before .bring .ensures .size-is)
 
 pub renewed-spec : {M : Type 1} → statement M
 renewed-spec =

@@ -2,7 +2,7 @@
 use mathlib.Core.Path.{_≡_}
 use mathlib.Core.List.{List, _++_}
 use Prim.Native.Nat.{ℕ, _+_}
-use lib.ListN.{length, drop, replicate}
+use lib.ListN.{length, take, drop, replicate}
 use Rattle.kernel.specs.Definition.Step.{Result}
 use Rattle.kernel.specs.declared.Tables.{Tables}
 use Rattle.kernel.specs.Definition.Lend.{lentOn, partOn}
@@ -14,11 +14,14 @@ use Rattle.image.specs.Definition.Image.{runAt, imageOf, tablesOf, answerBytes}
 use Rattle.stream.specs.Definition.Digest.{digestOf}
 use Rattle.stream.specs.Definition.Seed.{seeded}
 use Rattle.stream.specs.Definition.Numbers.{u32At, u64Bytes}
+use Rattle.stream.specs.declared.Machine.{Machine}
 
--- the image, and the RAM by its length and the seed
-pub record Brought (bytes : List ℕ) (t : Tables) (ram : List ℕ) : Type 0 where
-  pub tables-is : t ≡ tablesOf (runAt bytes 1 776)
-  pub ram-is : ram ≡ seeded (u32At bytes 777) (u32At bytes 781)
+-- the tables of the image, and the RAM by its length and the seed, at the front of what is lent for it
+pub record Brought (ram bytes : List ℕ) (m : Machine) (ram′ : List ℕ) : Type 0 where
+  pub tables-is : m .tables ≡ tablesOf (runAt bytes 1 776)
+  pub size-is : m .size ≡ u32At bytes 777
+  pub ram-is : take (m .size) ram′ ≡ seeded (u32At bytes 777) (u32At bytes 781)
+  pub behind : drop (m .size) ram′ ≡ drop (m .size) ram
 
 -- the call of an event record on n bytes of output, all 165
 abbrev pub stepBlank : Tables → (ram event : List ℕ) (n : ℕ) → Result

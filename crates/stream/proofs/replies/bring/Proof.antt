@@ -44,14 +44,13 @@ returns c =
     let a = c .before .before .before .before .before .before .before .before .before .before .args in
     let size = c .before .before .before .before .before .before .before .u32-at in
     let seed = c .before .before .before .before .before .u32-at2 in
-    let f = c .before .before .before .before .fill in (
-      record {
-        tables-is = c .decode .ensures;
-        ram-is = filled (now (a .ram)) (f .last .0) (drop (size .result) (now (a .ram))) (size .result) (seed .result) _ _ (omega (arith, c .before .before .before .before .before .before .before .before .before .before .pre .1, size .ensures .0)) (f .ensures) (size .ensures .0) (seed .ensures .0);
-      },
-      behind (now (a .ram)) (f .last .0) (drop (size .result) (now (a .ram))) (size .result) (seed .result) (omega (arith, c .before .before .before .before .before .before .before .before .before .before .pre .1, size .ensures .0)) (f .ensures),
-      size .ensures .0,
-    )
+    let f = c .before .before .before .before .fill in
+    record {
+      tables-is = c .decode .ensures;
+      size-is = size .ensures .0;
+      ram-is = filled (now (a .ram)) (f .last .0) (drop (size .result) (now (a .ram))) (size .result) (seed .result) _ _ (omega (arith, c .before .before .before .before .before .before .before .before .before .before .pre .1, size .ensures .0)) (f .ensures) (size .ensures .0) (seed .ensures .0);
+      behind = behind (now (a .ram)) (f .last .0) (drop (size .result) (now (a .ram))) (size .result) (seed .result) (omega (arith, c .before .before .before .before .before .before .before .before .before .before .pre .1, size .ensures .0)) (f .ensures);
+    }
 
 pub bring-spec : {M : Type 1} → statement M
 bring-spec =

@@ -1,0 +1,2 @@
+-- Laws of the library's promises.
+pub mod One

@@ -1,0 +1,2 @@
+-- Laws of the stream's promises.
+pub mod One
