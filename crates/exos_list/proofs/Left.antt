@@ -5,7 +5,7 @@ use mathlib.Core.List.{List}
 use native.Mathlib.Omega.{arith}
 use lib.ListN.{length, take, drop, length-drop}
 use lib.Seq.{length-take-le}
-use Rattle.listing.specs.Definition.Pieces.{Short}
+use Rattle.listing.specs.Laws.Pieces.{Short}
 
 module _ (buf : List ℕ) (from filled taken : ℕ) (h : from ≤ filled) (l : filled ≤ length buf) where
   part-length : length (take (filled - from) (drop from buf)) ≡ filled - from

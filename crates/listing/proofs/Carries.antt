@@ -1,52 +1,66 @@
--- What carries over from record to record.
+-- The lines of a buffer, record by record.
 use mathlib.Core.Path.{_≡_, refl, sym, ap, _∙_}
-use mathlib.Core.List.{List, append-assoc, _++_}
-use Prim.Native.Nat.{ℕ, suc, _+_, _-_, _<_}
+use mathlib.Core.List.{List}
+use Prim.Native.Nat.{ℕ, suc, _+_, _-_, _<_, _≤_}
 use native.Mathlib.Omega.{arith}
 use native.Mathlib.Numerals.{add-one}
 use lib.ListN.{length, getD, take, drop, set, length-drop}
-use lib.Seq.{drop-drop, getD-drop, take-suc-set, take-suc, drop-set-lt}
+use lib.Seq.{drop-drop, getD-drop, take-suc-set, take-suc, drop-set-lt, length-take-le}
 use borrow.Author.Tests.{eq-eqb, ne-eqb}
 use Rattle.kernel.specs.declared.Tables.{Tables}
-use Rattle.events.specs.Definition.Records.{broken, next}
 use Rattle.text.specs.Definition.Put.{Put}
 use Rattle.text.specs.Laws.Text.{put-none}
-use Rattle.listing.specs.Definition.Log.{textFrom, badText}
-use Rattle.listing.specs.Laws.Log.{text-found, text-broken}
-use Rattle.listing.specs.Definition.Pieces.{Stepped, Whole, Carry, ending}
+use Rattle.listing.specs.declared.Front.the-variants.{Record, Cut, Bad}
+use Rattle.listing.specs.declared.Stop.{Stop}
+use Rattle.listing.specs.declared.Stop.the-variants.{More, Full, Bad as Ends}
+use Rattle.listing.specs.Definition.Log.{badText}
+use Rattle.listing.specs.Definition.Pieces.{Stepped, frontOf, Mark, Drains, full, more, ends, line, ending}
 
-pub carry-none : (t : Tables) (ram out xs text : List ℕ) → Carry t ram out xs t ram out (drop 0 xs) (take 0 text)
-carry-none t ram out xs text = record { holds = λ ys. refl }
+-- the bytes behind those that are written
+pub put-behind : (d : List ℕ) {u v : List ℕ} {m r : ℕ} {xs : List ℕ} → drop m u ≡ drop m d → Put u v m r xs → drop r v ≡ drop r d
+put-behind d {u} {v} {m} {r} {xs} e p =
+    let passed : (l : List ℕ) → drop (length xs) (drop m l) ≡ drop r l = λ l. drop-drop (length xs) m l ∙ ap (λ (k : ℕ). drop k l) (sym (p .stop)) in
+    p .behind ∙ sym (passed u) ∙ ap (drop (length xs)) e ∙ passed d
 
-module _ (t : Tables) (ram out xs : List ℕ) (t₁ : Tables) (ram₁ out₁ left text : List ℕ) (used : ℕ)
-    (c : Carry t ram out xs t₁ ram₁ out₁ left (take used text)) where
-  -- one record more
-  pub carry-more : (kind size : ℕ) → Whole left kind size → (t₂ : Tables) (ram₂ out₂ text₂ : List ℕ) (used₂ : ℕ)
-      → Stepped t₁ ram₁ out₁ kind (take size (drop 4 left)) text used t₂ ram₂ out₂ text₂ used₂
-      → Carry t ram out xs t₂ ram₂ out₂ (drop (4 + size) left) (take used₂ text₂)
-  carry-more kind size w t₂ ram₂ out₂ text₂ used₂ s =
-      record {
-        holds = λ ys.
-            c .holds ys
-            ∙ rw (text-found t₁ ram₁ out₁ (left ++ ys) kind (take size (drop 4 left)) (drop (4 + size) left ++ ys) (w .is ys))
-            (rw (s .tables-are, s .ram-is, s .output-is, s .put .text) (sym (append-assoc (take used text) _ _)));
-      }
+abbrev pub mark : Tables → (ram out left text : List ℕ) → Mark
+mark t ram out left text = record { tables = t; ram = ram; output = out; left = left; text = text }
 
-  -- and then `bad`
-  pub carry-bad : ((ys : List ℕ) → next (left ++ ys) ≡ broken) → (text₂ : List ℕ) (used₂ : ℕ) → Put text text₂ used used₂ badText
-      → (ys : List ℕ) → textFrom t ram out (xs ++ ys) ≡ take used₂ text₂
-  carry-bad b text₂ used₂ p ys = c .holds ys ∙ rw (text-broken t₁ ram₁ out₁ (left ++ ys) (b ys)) (sym (p .text))
+-- the lines have come to a mark, whose text is the first `used` bytes of a text of `size` bytes
+module _ (size : ℕ) (start : Mark) (t : Tables) (ram out left text : List ℕ) (used : ℕ)
+    (goes : (to : Mark) (stop : Stop) → Drains size (mark t ram out left (take used text)) to stop → Drains size start to stop) (h : used ≤ length text)
+    (e : length text ≡ size) where
+  room : used + 8217 ≤ length text → length (take used text) + 8217 ≤ size
+  room r = rw (length-take-le used text h, ← e) r
+
+  pub drain-full : length text < used + 8217 → Drains (length text) start (mark t ram out left (take used text)) Full
+  drain-full r = rw e (goes _ _ (full (rw (length-take-le used text h, ← e) r)))
+
+  module _ (r : used + 8217 ≤ length text) where
+    pub drain-more : frontOf left ≡ Cut → Drains (length text) start (mark t ram out left (take used text)) More
+    drain-more f = rw e (goes _ _ (more (room r) f))
+
+    pub drain-bad : frontOf left ≡ Bad → (text₂ : List ℕ) (used₂ : ℕ) → Put text text₂ used used₂ badText → length text₂ ≡ size
+        → Drains (length text₂) start (mark t ram out left (take used₂ text₂)) Ends
+    drain-bad f text₂ used₂ p k = rw (k, p .text) (goes _ _ (ends (room r) f))
+
+    -- one record more
+    pub drain-line : (kind n : ℕ) → frontOf left ≡ Record kind n → (t₂ : Tables) (ram₂ out₂ text₂ : List ℕ) (used₂ : ℕ)
+        → Stepped t ram out kind (take n (drop 4 left)) text used t₂ ram₂ out₂ text₂ used₂
+        → (to : Mark) (stop : Stop) → Drains size (mark t₂ ram₂ out₂ (drop (4 + n) left) (take used₂ text₂)) to stop → Drains size start to stop
+    drain-line kind n f t₂ ram₂ out₂ text₂ used₂ s to stop d =
+        goes to stop (line (room r) f (rw (s .tables-are, s .ram-is, s .output-is, s .put .text) at d))
 
 -- the same with the input as the code takes it: the record's body, and the place after it
-pub carry-at : (t : Tables) (ram out xs : List ℕ) (t₁ : Tables) (ram₁ out₁ : List ℕ) (at : ℕ) (text : List ℕ) (used kind size : ℕ)
-    → Carry t ram out xs t₁ ram₁ out₁ (drop at xs) (take used text) → Whole (drop at xs) kind size → (t₂ : Tables) (ram₂ out₂ text₂ : List ℕ) (used₂ : ℕ)
-    → Stepped t₁ ram₁ out₁ kind (take (at + 4 + size - (at + 4)) (drop (at + 4) xs)) text used t₂ ram₂ out₂ text₂ used₂
-    → Carry t ram out xs t₂ ram₂ out₂ (drop (at + 4 + size) xs) (take used₂ text₂)
-carry-at t ram out xs t₁ ram₁ out₁ at text used kind size c w t₂ ram₂ out₂ text₂ used₂ s =
-    let m : at + 4 + size - (at + 4) ≡ size = omega arith in
-    let n : at + (4 + size) ≡ at + 4 + size = omega arith in
-    rw (drop-drop (4 + size) at xs, n) at
-    (carry-more t ram out xs t₁ ram₁ out₁ (drop at xs) text used c kind size w t₂ ram₂ out₂ text₂ used₂ (rw (drop-drop 4 at xs) (rw m at s)))
+pub drain-at : (size : ℕ) (start : Mark) (t : Tables) (ram out xs : List ℕ) (at : ℕ) (text : List ℕ) (used kind n : ℕ)
+    → ((to : Mark) (stop : Stop) → Drains size (mark t ram out (drop at xs) (take used text)) to stop → Drains size start to stop) → used ≤ length text
+    → length text ≡ size → used + 8217 ≤ length text → frontOf (drop at xs) ≡ Record kind n → (t₂ : Tables) (ram₂ out₂ text₂ : List ℕ) (used₂ : ℕ)
+    → Stepped t ram out kind (take (at + 4 + n - (at + 4)) (drop (at + 4) xs)) text used t₂ ram₂ out₂ text₂ used₂
+    → (to : Mark) (stop : Stop) → Drains size (mark t₂ ram₂ out₂ (drop (at + 4 + n) xs) (take used₂ text₂)) to stop → Drains size start to stop
+drain-at size start t ram out xs at text used kind n goes h e r f t₂ ram₂ out₂ text₂ used₂ s =
+    let m : at + 4 + n - (at + 4) ≡ n = omega arith in
+    let k : at + (4 + n) ≡ at + 4 + n = omega arith in
+    rw (drop-drop (4 + n) at xs, k) at
+    (drain-line size start t ram out (drop at xs) text used goes h e r kind n f t₂ ram₂ out₂ text₂ used₂ (rw (drop-drop 4 at xs) (rw m at s)))
 
 -- one byte moved to the front
 pub keep-turn : (buf buf₀ : List ℕ) (from i : ℕ) → from + i < length buf₀ → length buf ≡ length buf₀ → take i buf ≡ take i (drop from buf₀) → drop i buf ≡ drop i buf₀

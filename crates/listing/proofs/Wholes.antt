@@ -1,9 +1,9 @@
 -- The text of a whole log, from the lines of its buffer.
-use mathlib.Core.Path.{_≡_, sym, _∙_}
-use mathlib.Core.List.{List, [], _++_, append-nil}
+use mathlib.Core.Path.{_≡_, refl, sym, ap, _∙_}
+use mathlib.Core.List.{List, [], _++_, append-assoc, append-nil}
 use Prim.Native.Nat.{ℕ, _+_, _≤_, _<_}
 use native.Mathlib.Omega.{arith}
-use lib.ListN.{length, take, replicate, length-append}
+use lib.ListN.{length, take, drop, replicate, length-append}
 use lib.Seq.{length-take-le}
 use Rattle.kernel.specs.Definition.Reset.{noTables}
 use Rattle.kernel.specs.declared.Tables.{Tables}
@@ -11,31 +11,77 @@ use Rattle.text.specs.Definition.Put.{Put}
 use Rattle.listing.specs.declared.Stop.{Stop}
 use Rattle.listing.specs.declared.Stop.the-variants.{More, Full, Bad}
 use Rattle.listing.specs.Definition.Log.{textFrom, listing}
-use Rattle.listing.specs.Definition.Pieces.{Short, Carry, Drains, ending}
+use Rattle.listing.specs.Definition.Pieces.{Mark, begin, Drains, full, more, ends, line, ending}
+use Rattle.listing.specs.Laws.Log.{text-found, text-broken}
+use Rattle.listing.specs.Laws.Pieces.{Short, Carry}
 use Rattle.listing.specs.Laws.Reading.{text-short}
+use Rattle.listing.proofs.Fronts.{stands, whole-at}
 
-pub room-left : (t : Tables) (ram out log : List ℕ) (t′ : Tables) (ram′ out′ left text : List ℕ) (used : ℕ) (stop : Stop) → stop ≡ More
-    → Drains t ram out log t′ ram′ out′ left text used stop → Short left × (used + 8217 ≤ length text)
-room-left t ram out log t′ ram′ out′ left text used stop e d = let m = rw e at d in (m .1, m .2)
+-- where the lines stop
+abbrev Stopped : ℕ → Mark → Stop → Type 0
+Stopped size to More = Short (to .left) × (length (to .text) + 8217 ≤ size)
+Stopped size to Full = size < length (to .text) + 8217
+Stopped size to Bad = Unit {0}
+
+stopped : {size : ℕ} {m to : Mark} {stop : Stop} → Drains size m to stop → Stopped size to stop
+stopped (full h) = h
+stopped (more {m} h e) = (rw e at (stands (m .left)), h)
+stopped (ends h e) = tt
+stopped (line h e d) = stopped d
+
+pub room-left : (size : ℕ) (m to : Mark) (stop : Stop) → stop ≡ More → Drains size m to stop → Short (to .left) × (length (to .text) + 8217 ≤ size)
+room-left size m to stop e d = rw e at (stopped d)
+
+-- the text of a log that is listed up to a mark, whatever follows
+abbrev textOf : Mark → List ℕ → List ℕ
+textOf m ys = m .text ++ textFrom (m .tables) (m .ram) (m .output) (m .left ++ ys)
+
+abbrev textAt : Stop → Mark → List ℕ → List ℕ
+textAt More m ys = textOf m ys
+textAt Full m ys = textOf m ys
+textAt Bad m ys = m .text
+
+goes-on : {size : ℕ} {m to : Mark} {stop : Stop} → Drains size m to stop → (ys : List ℕ) → textOf m ys ≡ textAt stop to ys
+goes-on (full h) ys = refl
+goes-on (more h e) ys = refl
+goes-on (ends {m} h e) ys = let b = rw e at (stands (m .left)) in ap (λ (l : List ℕ). m .text ++ l) (text-broken (m .tables) (m .ram) (m .output) (m .left ++ ys) (b ys))
+goes-on (line {m} {to} {kind} {n} h e d) ys =
+    ap (λ (l : List ℕ). m .text ++ l)
+    (text-found (m .tables) (m .ram) (m .output) (m .left ++ ys) kind (take n (drop 4 (m .left))) (drop (4 + n) (m .left) ++ ys) (whole-at (m .left) kind n e .is ys))
+    ∙ sym (append-assoc (m .text) _ _)
+    ∙ goes-on d ys
+
+-- a piece that is drained is one of a `Session`
+pub carry-more : {size : ℕ} {t : Tables} {ram out xs : List ℕ} {to : Mark} → Drains size (begin t ram out xs) to More
+    → Carry t ram out xs (to .tables) (to .ram) (to .output) (to .left) (to .text)
+carry-more d = record { holds = goes-on d }
+
+pub carry-full : {size : ℕ} {t : Tables} {ram out xs : List ℕ} {to : Mark} → Drains size (begin t ram out xs) to Full
+    → Carry t ram out xs (to .tables) (to .ram) (to .output) (to .left) (to .text)
+carry-full d = record { holds = goes-on d }
+
+pub carry-bad : {size : ℕ} {t : Tables} {ram out xs : List ℕ} {to : Mark} → Drains size (begin t ram out xs) to Bad
+    → (ys : List ℕ) → textFrom t ram out (xs ++ ys) ≡ to .text
+carry-bad d = goes-on d
 
 module _ (t : Tables) (e : t ≡ noTables) (log : List ℕ) (t′ : Tables) (ram′ out′ left text : List ℕ) (used : ℕ) (stop : Stop)
-    (d : Drains t (replicate 65536 0) (replicate 4096 0) log t′ ram′ out′ left text used stop) where
+    (d : Drains (length text) (begin t (replicate 65536 0) (replicate 4096 0) log) (record { tables = t′; ram = ram′; output = out′; left = left; text = take used text }) stop) where
   is-listing : textFrom t (replicate 65536 0) (replicate 4096 0) (log ++ []) ≡ listing log
   unfolding listing
   is-listing = rw (e, append-nil log)
 
   pub listed-bad : stop ≡ Bad → take used text ≡ listing log
-  listed-bad q = let m = rw q at d in sym (m []) ∙ is-listing
+  listed-bad q = let b = rw q at d in sym (carry-bad b []) ∙ is-listing
 
   carried : Carry t (replicate 65536 0) (replicate 4096 0) log t′ ram′ out′ left (take used text) → take used text ++ textFrom t′ ram′ out′ left ≡ listing log
   carried c = rw (append-nil left) at (sym (c .holds []) ∙ is-listing)
 
   pub listed-over : stop ≡ Full → used ≤ length text → length text < length (listing log) + 8217
   listed-over q h =
-      let m = rw q at d in
-      rw (← carried (m .0), length-append, length-take-le used text h) (omega (arith, m .1))
+      let f = rw q at d in
+      rw (← carried (carry-full f), length-append, length-take-le used text h) (omega (arith, stopped f, length-take-le used text h))
 
   pub listed-text : stop ≡ More → (text₂ : List ℕ) (r : ℕ) → Put text text₂ used r (ending left) → take r text₂ ≡ listing log
   listed-text q text₂ r p =
-      let m = rw q at d in
-      p .text ∙ rw (← text-short t′ ram′ out′ left (m .1)) (carried (m .0))
+      let f = rw q at d in
+      p .text ∙ rw (← text-short t′ ram′ out′ left (stopped f .0)) (carried (carry-more f))

@@ -3,4 +3,6 @@ pub mod Log
 pub mod Starts
 pub mod Example
 pub mod NoneOrGood
+pub mod Pieces
+pub mod One
 pub mod Reading

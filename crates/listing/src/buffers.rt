@@ -3,7 +3,7 @@ ghost use mathlib.Core.Path.{_≡_};
 ghost use Prim.Native.Nat.{_≤_, _<_};
 ghost use lib.ListN.{length, drop};
 ghost use Rattle.listing.specs.Definition.NoneOrGood.{NoneOrGood};
-ghost use Rattle.listing.specs.Definition.Pieces.{Stands, Drains};
+ghost use Rattle.listing.specs.Definition.Pieces.{frontOf, begin, reached, Drains};
 use super::Drained;
 use super::Front;
 use super::Stop;
@@ -20,7 +20,7 @@ fn wide(x: u16) -> usize
 
 // What stands at the front of the input.
 fn front(input: &[u8]) -> Front
-    ensures { λ r. ⌜ Stands (now (input .entry)) r ⌝ }
+    ensures { λ r. ⌜ r ≡ frontOf (now (input .entry)) ⌝ }
 {
     if input.len() < 2 {
         return Front::Cut;
@@ -47,7 +47,7 @@ pub fn drain(
     text: &mut [u8],
 ) -> Drained
     requires { ⌜ NoneOrGood t ⌝ }
-    ensures { λ r. ⌜ Drains t (now (ram .entry)) (now (out .entry)) (now (input .entry)) (r .tables) (now (ram .exit)) (now (out .exit)) (drop (r .taken) (now (input .entry))) (now (text .exit)) (r .used) (r .stop) × NoneOrGood (r .tables) × (r .taken ≤ length (now (input .entry))) × (r .used ≤ length (now (text .exit))) ⌝ }
+    ensures { λ r. ⌜ Drains (length (now (text .exit))) (begin t (now (ram .entry)) (now (out .entry)) (now (input .entry))) (reached r (now (ram .exit)) (now (out .exit)) (now (input .entry)) (now (text .exit))) (r .stop) × NoneOrGood (r .tables) × (r .taken ≤ length (now (input .entry))) × (r .used ≤ length (now (text .exit))) × (drop (r .used) (now (text .exit)) ≡ drop (r .used) (now (text .entry))) ⌝ }
 {
     let mut tables = t;
     let mut at: usize = 0;

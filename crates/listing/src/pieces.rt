@@ -14,7 +14,7 @@ use kernel::Tables;
 // Moves the n bytes from index `from` to the front.
 pub fn keep(buf: &mut [u8], from: usize, n: usize)
     requires { ⌜ from + n ≤ length (now buf) ⌝ }
-    ensures { λ _. ⌜ take n (now (buf .exit)) ≡ take n (drop from (now (buf .entry))) ⌝ }
+    ensures { λ _. ⌜ (take n (now (buf .exit)) ≡ take n (drop from (now (buf .entry)))) × (drop n (now (buf .exit)) ≡ drop n (now (buf .entry))) ⌝ }
 {
     let mut i = 0;
     while i < n {
@@ -36,7 +36,7 @@ pub fn finish(left: usize, text: &mut [u8], at: usize) -> usize
 
 // The text of a whole log.
 pub fn list(log: &[u8], text: &mut [u8]) -> Listed
-    ensures { λ r. ⌜ Lists (now (log .entry)) (now (text .exit)) r ⌝ }
+    ensures { λ r. ⌜ Lists (now (log .entry)) (now (text .entry)) (now (text .exit)) r ⌝ }
 {
     let mut ram = [0u8; 65536];
     let mut out = [0u8; 4096];

@@ -2,19 +2,20 @@
 use mathlib.Core.Path.{_≡_}
 use mathlib.Core.Bool.{cond}
 use mathlib.Core.List.{List, [], _++_}
-use Prim.Native.Nat.{ℕ, _+_, _≤_, _<_}
+use Prim.Native.Nat.{ℕ, _+_, _-_, _≤_, _<_}
 use lib.ListN.{length, take, drop}
-use lib.Dec.{eqb}
+use lib.Dec.{eqb, ltb}
 use Rattle.kernel.specs.declared.Tables.{Tables}
-use Rattle.events.specs.Definition.Records.{finished, broken, found, next}
+use Rattle.events.specs.Definition.Records.{u16At}
 use Rattle.text.specs.Definition.Put.{Put}
+use Rattle.listing.specs.declared.Drained.{Drained}
 use Rattle.listing.specs.declared.Front.{Front}
 use Rattle.listing.specs.declared.Front.the-variants.{Record, Cut, Bad}
 use Rattle.listing.specs.declared.Listed.{Listed}
 use Rattle.listing.specs.declared.Listed.the-variants.{Text, Over}
 use Rattle.listing.specs.declared.Stop.{Stop}
 use Rattle.listing.specs.declared.Stop.the-variants.{More, Full, Bad as Ends}
-use Rattle.listing.specs.Definition.Log.{logStep, lineAfter, textFrom, listing, badText}
+use Rattle.listing.specs.Definition.Log.{logStep, lineAfter, listing, badText}
 
 -- what one record leaves: the definition's tables, RAM and output, and its line in the text
 pub record Stepped (t : Tables) (ram out : List ℕ) (kind : ℕ) (body text : List ℕ) (used : ℕ) (t′ : Tables) (ram′ out′ text′ : List ℕ) (used′ : ℕ) : Type 0 where
@@ -24,38 +25,54 @@ pub record Stepped (t : Tables) (ram out : List ℕ) (kind : ℕ) (body text : L
   pub put : Put text text′ used used′ (lineAfter kind (logStep t ram out kind body))
   pub room : used′ ≤ length text′
 
--- xs is less than a record: it is nothing, or bad if the input ends there
-pub record Short (xs : List ℕ) : Type 0 where
-  pub stops : next xs ≡ cond (eqb (length xs) 0) finished broken
-  pub short : length xs < 4098
+-- what stands at the front of xs: less than a record, a bad length, or a record of this kind whose body has so many bytes
+unfoldable pub frontOf : List ℕ → Front
+frontOf xs =
+    let n = u16At xs 0 in
+    cond (ltb (length xs) 2) Cut
+    (cond (ltb n 2) Bad
+    (cond (ltb 4096 n) Bad
+    (cond (ltb (length xs) (n + 2)) Cut
+    (Record (u16At xs 2) (n - 2)))))
 
--- a record at the front of xs, whatever follows
-pub record Whole (xs : List ℕ) (kind size : ℕ) : Type 0 where
-  pub fits : 4 + size ≤ length xs
-  pub is : (ys : List ℕ) → next (xs ++ ys) ≡ found kind (take size (drop 4 xs)) (drop (4 + size) xs ++ ys)
+-- how far a listing has come: what the records so far left of tables, RAM and output, the bytes that are left, and the records' lines
+pub record Mark : Type 0 where
+  pub tables : Tables
+  pub ram : List ℕ
+  pub output : List ℕ
+  pub left : List ℕ
+  pub text : List ℕ
 
--- what stands at the front of xs, whatever follows
-abbrev pub Stands : List ℕ → Front → Type 0
-Stands xs (Record kind size) = Whole xs kind size
-Stands xs Cut = Short xs
-Stands xs Bad = (ys : List ℕ) → next (xs ++ ys) ≡ broken
+abbrev pub begin : Tables → (ram out xs : List ℕ) → Mark
+begin t ram out xs = record { tables = t; ram = ram; output = out; left = xs; text = [] }
 
--- the text of a log that begins with xs is `text` and then the text of a log that begins with `left`, whatever follows
-pub record Carry (t : Tables) (ram out xs : List ℕ) (t′ : Tables) (ram′ out′ left text : List ℕ) : Type 0 where
-  pub holds : (ys : List ℕ) → textFrom t ram out (xs ++ ys) ≡ text ++ textFrom t′ ram′ out′ (left ++ ys)
+-- one record more
+abbrev pub lined : Mark → (kind n : ℕ) → Mark
+lined m kind n =
+    let r = logStep (m .tables) (m .ram) (m .output) kind (take n (drop 4 (m .left))) in
+    record { tables = r .tables; ram = r .ram; output = r .output; left = drop (4 + n) (m .left); text = m .text ++ lineAfter kind r }
+
+abbrev pub ended : Mark → Mark
+ended m = record { tables = m .tables; ram = m .ram; output = m .output; left = m .left; text = m .text ++ badText }
+
+-- from a mark to the one where the lines stop, and why: the text, of `size` bytes, has no room for the longest line; less than a record is left;
+-- or the log is bad
+pub data Drains (size : ℕ) : Mark → Mark → Stop → Type 0 where
+  full : {m : Mark} → size < length (m .text) + 8217 → Drains size m m Full
+  more : {m : Mark} → length (m .text) + 8217 ≤ size → frontOf (m .left) ≡ Cut → Drains size m m More
+  ends : {m : Mark} → length (m .text) + 8217 ≤ size → frontOf (m .left) ≡ Bad → Drains size m (ended m) Ends
+  line : {m to : Mark} {kind n : ℕ} {stop : Stop} → length (m .text) + 8217 ≤ size → frontOf (m .left) ≡ Record kind n → Drains size (lined m kind n) to stop
+      → Drains size m to stop
+
+-- the mark that an outcome stands for: what is left of the input, and the part of the text that is used
+abbrev pub reached : Drained → (ram out input text : List ℕ) → Mark
+reached r ram out input text = record { tables = r .tables; ram = ram; output = out; left = drop (r .taken) input; text = take (r .used) text }
 
 -- what is still to be written where the input ends and xs is left
 abbrev pub ending : List ℕ → List ℕ
 ending xs = cond (eqb (length xs) 0) [] badText
 
--- the first `used` bytes of `text` and what is left of xs, by why the lines stop: less than a record is left, and there is room for a line;
--- the text has no room for a line; or the text ends in `bad`, whatever follows
-abbrev pub Drains : Tables → (ram out xs : List ℕ) → Tables → (ram′ out′ left text : List ℕ) → (used : ℕ) → Stop → Type 0
-Drains t ram out xs t′ ram′ out′ left text used More = Carry t ram out xs t′ ram′ out′ left (take used text) × Short left × (used + 8217 ≤ length text)
-Drains t ram out xs t′ ram′ out′ left text used Full = Carry t ram out xs t′ ram′ out′ left (take used text) × (length text < used + 8217)
-Drains t ram out xs t′ ram′ out′ left text used Ends = (ys : List ℕ) → textFrom t ram out (xs ++ ys) ≡ take used text
-
--- the first bytes of `text` are the text of the whole log, or it has no room for it and for one line more
-abbrev pub Lists : (log text : List ℕ) → Listed → Type 0
-Lists log text (Text n) = (take n text ≡ listing log) × (n ≤ length text)
-Lists log text Over = length text < length (listing log) + 8217
+-- the first bytes of `text` are the text of the whole log, and those behind are as they were; or it has no room for it and for one line more
+abbrev pub Lists : (log text text′ : List ℕ) → Listed → Type 0
+Lists log text text′ (Text n) = (take n text′ ≡ listing log) × (n ≤ length text′) × (drop n text′ ≡ drop n text)
+Lists log text text′ Over = length text′ < length (listing log) + 8217

@@ -11,7 +11,8 @@ use Rattle.kernel.specs.Definition.Reset.{noTables}
 use Rattle.kernel.specs.declared.Tables.{Tables}
 use Rattle.listing.specs.Definition.Log.{textFrom, listing}
 use Rattle.listing.specs.Laws.Log.{text-broken, text-finished}
-use Rattle.listing.specs.Definition.Pieces.{Short, Carry, ending}
+use Rattle.listing.specs.Definition.Pieces.{ending}
+use Rattle.listing.specs.Laws.Pieces.{Short, Carry}
 
 -- the input ends with less than a record
 pub text-short : (t : Tables) (ram out xs : List ℕ) → Short xs → textFrom t ram out xs ≡ ending xs

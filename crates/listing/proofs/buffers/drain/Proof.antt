@@ -1,4 +1,4 @@
--- `listing::drain` meets its contract: what has been taken carries over, and the tables are held.
+-- `listing::drain` meets its contract: from where the lines have come they go on to where they stop.
 use denote.Ref.{now}
 use mathlib.Core.Path.{_≡_, refl, _∙_}
 use Prim.Native.Nat.{_+_, _-_, _≤_}
@@ -6,21 +6,24 @@ use native.Mathlib.Omega.{arith}
 use borrow.Author.Needs.{needs}
 use lib.ListN.{length, take, drop}
 use Rattle.listing.specs.Definition.NoneOrGood.{NoneOrGood}
-use Rattle.listing.specs.Definition.Pieces.{Whole, Carry}
-use Rattle.listing.proofs.Fronts.{short-at, bad-at, whole-at, within}
-use Rattle.listing.proofs.Carries.{carry-none, carry-bad, carry-at}
+use Rattle.listing.specs.declared.Front.the-variants.{Record}
+use Rattle.listing.specs.declared.Stop.{Stop}
+use Rattle.listing.specs.Definition.Pieces.{frontOf, Mark, begin, Drains}
+use Rattle.listing.proofs.Fronts.{front-at, whole-at, within}
+use Rattle.listing.proofs.Carries.{put-behind, mark, drain-full, drain-more, drain-bad, drain-at}
 use Rattle.listing.proofs.buffers.drain.Statement.{statement}
 use Rattle.listing.proofs.buffers.drain.Tie as tie
 
 abbrev Inv-loop : tie.InvT-loop
 Inv-loop ram₀ out₀ input text₀ tables₀ at₀ used₀ ram out text tables at used =
-    Carry tables₀ ram₀ out₀ input tables ram out (drop at input) (take used text) × NoneOrGood tables × (at ≤ length input) × (used ≤ length text) × (length text ≡ length text₀)
+    ((to : Mark) (stop : Stop) → Drains (length text₀) (mark tables ram out (drop at input) (take used text)) to stop → Drains (length text₀) (begin tables₀ ram₀ out₀ input) to stop)
+    × NoneOrGood tables × (at ≤ length input) × (used ≤ length text) × (length text ≡ length text₀) × (drop used text ≡ drop used text₀)
 
 abbrev μ-loop : tie.MeasureT-loop
 μ-loop ram₀ out₀ input text₀ tables₀ at₀ used₀ ram out text tables at used = length input - at
 
 loop-holds : tie.Need-loop-holds Inv-loop μ-loop
-loop-holds c = let s = c .before .before in let a = s .args in (carry-none (a .t) (now (a .ram)) (now (a .out)) (now (a .input)) (now (a .text)), s .pre, omega arith, omega arith, refl)
+loop-holds c = let s = c .before .before in (λ to stop d. d, s .pre, omega arith, omega arith, refl, refl)
 
 sub-loop : tie.Need-sub-loop Inv-loop μ-loop
 sub-loop c = omega arith
@@ -44,7 +47,10 @@ same-length : tie.Need-same-length Inv-loop μ-loop
 same-length c = c .before .before .before .before .before .loop .inv .4
 
 returns : tie.Need-returns Inv-loop μ-loop
-returns c = let l = c .before .before .before .before .before .loop in ((l .inv .0, short-at (now (c .before .before .before .before .before .before .before .before .args .input)) (l .at) _ (c .before .before .front .ensures) (c .enum-told .given .1), omega arith), l .inv .1, l .inv .2, l .inv .3)
+returns c =
+    let l = c .before .before .before .before .before .loop in
+    let f = front-at (now (c .before .before .before .before .before .before .before .before .args .input)) (l .at) _ _ (c .before .before .front .ensures) (c .enum-told .given .1) in
+    (drain-more _ _ _ _ _ _ (l .text) (l .used) (l .inv .0) (l .inv .3) (l .inv .4) (omega arith) f, l .inv .1, l .inv .2, l .inv .3, l .inv .5)
 
 enum-told-2 : tie.Need-enum-told-2 Inv-loop μ-loop
 enum-told-2 c = search needs
@@ -56,19 +62,24 @@ same-length-2 : tie.Need-same-length-2 Inv-loop μ-loop
 same-length-2 c = c .before .before .put-bad .kept .0 ∙ c .before .before .before .before .before .before .before .before .before .loop .inv .4
 
 returns-2 : tie.Need-returns-2 Inv-loop μ-loop
-returns-2 c = let l = c .before .before .before .before .before .before .before .before .before .loop in let a = c .before .before .before .before .before .before .before .before .before .before .before .before .args in let p = c .before .before .put-bad in (carry-bad (a .t) (now (a .ram)) (now (a .out)) (now (a .input)) (l .tables) _ _ (drop (l .at) (now (a .input))) (l .text) (l .used) (l .inv .0) (bad-at (now (a .input)) (l .at) _ (c .before .before .before .before .before .before .front .ensures) (c .before .before .before .before .enum-told2 .given .1)) _ _ (p .ensures .0), l .inv .1, l .inv .2, p .ensures .1)
+returns-2 c =
+    let l = c .before .before .before .before .before .before .before .before .before .loop in
+    let a = c .before .before .before .before .before .before .before .before .before .before .before .before .args in
+    let p = c .before .before .put-bad in
+    let f = front-at (now (a .input)) (l .at) _ _ (c .before .before .before .before .before .before .front .ensures) (c .before .before .before .before .enum-told2 .given .1) in
+    (drain-bad _ _ _ _ _ _ (l .text) (l .used) (l .inv .0) (l .inv .3) (l .inv .4) (omega arith) f _ _ (p .ensures .0) (p .kept .0 ∙ l .inv .4), l .inv .1, l .inv .2, p .ensures .1, put-behind (now (a .text)) (l .inv .5) (p .ensures .0))
 
 enum-known-f : tie.Need-enum-known-f Inv-loop μ-loop
 enum-known-f c = search needs
 
 -- the record that was found
-whole : (c : tie.After-known-told Inv-loop μ-loop)
-    → Whole (drop (c .before .before .before .before .before .before .loop .at) (now (c .before .before .before .before .before .before .before .before .before .args .input))) (c .before .f .given .0 .0) (c .before .f .given .0 .1 .0)
-whole c = whole-at (now (c .before .before .before .before .before .before .before .before .before .args .input)) (c .before .before .before .before .before .before .loop .at) _ (c .before .before .before .front .ensures) _ _ (c .before .f .given .1)
+front : (c : tie.After-known-told Inv-loop μ-loop)
+    → frontOf (drop (c .before .before .before .before .before .before .loop .at) (now (c .before .before .before .before .before .before .before .before .before .args .input))) ≡ Record (c .before .f .given .0 .0) (c .before .f .given .0 .1 .0)
+front c = front-at (now (c .before .before .before .before .before .before .before .before .before .args .input)) (c .before .before .before .before .before .before .loop .at) _ _ (c .before .before .before .front .ensures) (c .before .f .given .1)
 
 fits : (c : tie.After-known-told Inv-loop μ-loop)
     → c .before .before .before .before .before .before .loop .at + 4 + c .before .f .given .0 .1 .0 ≤ length (now (c .before .before .before .before .before .before .before .before .before .args .input))
-fits c = within (now (c .before .before .before .before .before .before .before .before .before .args .input)) (c .before .before .before .before .before .before .loop .at) (c .before .f .given .0 .0) (c .before .f .given .0 .1 .0) (whole c)
+fits c = within (now (c .before .before .before .before .before .before .before .before .before .args .input)) (c .before .before .before .before .before .before .loop .at) (c .before .f .given .0 .0) (c .before .f .given .0 .1 .0) (whole-at _ _ _ (front c))
 
 add-from : tie.Need-add-from Inv-loop μ-loop
 add-from c = omega (arith, fits c)
@@ -96,13 +107,20 @@ loop-again c =
     let l = c .before .before .before .before .before .before .before .before .before .before .before .before .before .before .loop in
     let a = c .before .before .before .before .before .before .before .before .before .before .before .before .before .before .before .before .before .args in
     let r = c .before .before .before .«record» in
-    (carry-at (a .t) (now (a .ram)) (now (a .out)) (now (a .input)) (l .tables) _ _ (l .at) (l .text) (l .used) _ _ (l .inv .0) (whole (c .before .before .before .before .before .before .before .before)) _ _ _ _ _ (r .ensures .0), r .ensures .1, omega (arith, fits (c .before .before .before .before .before .before .before .before)), r .ensures .0 .room, r .kept .1 .1 .1 .1 .1 .0 ∙ l .inv .4)
+    let k = c .before .before .before .before .before .before .before .before in (
+      drain-at _ _ (l .tables) _ _ (now (a .input)) (l .at) (l .text) (l .used) _ _ (l .inv .0) (l .inv .3) (l .inv .4) (omega arith) (front k) _ _ _ _ _ (r .ensures .0),
+      r .ensures .1,
+      omega (arith, fits k),
+      r .ensures .0 .room,
+      r .kept .1 .1 .1 .1 .1 .0 ∙ l .inv .4,
+      put-behind (now (a .text)) (l .inv .5) (r .ensures .0 .put),
+    )
 
 same-length-3 : tie.Need-same-length-3 Inv-loop μ-loop
 same-length-3 c = c .before .loop .inv .4
 
 returns-3 : tie.Need-returns-3 Inv-loop μ-loop
-returns-3 c = let l = c .before .loop in ((l .inv .0, omega arith), l .inv .1, l .inv .2, l .inv .3)
+returns-3 c = let l = c .before .loop in (drain-full _ _ _ _ _ _ (l .text) (l .used) (l .inv .0) (l .inv .3) (l .inv .4) (omega arith), l .inv .1, l .inv .2, l .inv .3, l .inv .5)
 
 pub drain-spec : {M : Type 1} → statement M
 drain-spec =

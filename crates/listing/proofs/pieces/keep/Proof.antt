@@ -44,7 +44,7 @@ same-length : tie.Need-same-length Inv-loop μ-loop
 same-length c = c .before .loop .inv .3
 
 returns : tie.Need-returns Inv-loop μ-loop
-returns c = let e : c .before .loop .i ≡ c .before .before .args .n = omega arith in rw e at (c .before .loop .inv .0)
+returns c = let e : c .before .loop .i ≡ c .before .before .args .n = omega arith in (rw e at (c .before .loop .inv .0), rw e at (c .before .loop .inv .1))
 
 pub keep-spec : {M : Type 1} → statement M
 keep-spec =
