@@ -33,7 +33,7 @@ module _ (size : ℕ) (start : Mark) (t : Tables) (ram out left text : List ℕ)
   room r = rw (length-take-le used text h, ← e) r
 
   pub drain-full : length text < used + 8217 → Drains (length text) start (mark t ram out left (take used text)) Full
-  drain-full r = rw e (goes _ _ (full (rw (length-take-le used text h, ← e) r)))
+  drain-full r = rw e (goes _ _ (full (omega (arith, r, e, length-take-le used text h))))
 
   module _ (r : used + 8217 ≤ length text) where
     pub drain-more : frontOf left ≡ Cut → Drains (length text) start (mark t ram out left (take used text)) More

@@ -8,14 +8,29 @@ use lib.Seq.{length-take-le}
 use Rattle.kernel.specs.Definition.Reset.{noTables}
 use Rattle.kernel.specs.declared.Tables.{Tables}
 use Rattle.text.specs.Definition.Put.{Put}
+use Rattle.listing.specs.declared.Drained.{Drained}
 use Rattle.listing.specs.declared.Stop.{Stop}
 use Rattle.listing.specs.declared.Stop.the-variants.{More, Full, Bad}
 use Rattle.listing.specs.Definition.Log.{textFrom, listing}
-use Rattle.listing.specs.Definition.Pieces.{Mark, begin, Drains, full, more, ends, line, ending}
+use Rattle.listing.specs.Definition.Pieces.{Mark, begin, Drains, full, more, ends, line, reached, Fills, ending}
 use Rattle.listing.specs.Laws.Log.{text-found, text-broken}
+use Rattle.listing.specs.Laws.One.{one-stop}
 use Rattle.listing.specs.Laws.Pieces.{Short, Carry}
 use Rattle.listing.specs.Laws.Reading.{text-short}
 use Rattle.listing.proofs.Fronts.{stands, whole-at}
+
+number : Stop → ℕ
+number More = 0
+number Full = 1
+number Bad = 2
+
+pub bad-first : {stop : Stop} → stop ≡ Bad → stop ≡ Full → ⊥
+unfolding number
+bad-first e f = omega (arith, ap number (sym e ∙ f))
+
+pub more-first : {stop : Stop} → stop ≡ More → stop ≡ Full → ⊥
+unfolding number
+more-first e f = omega (arith, ap number (sym e ∙ f))
 
 -- where the lines stop
 abbrev Stopped : ℕ → Mark → Stop → Type 0
@@ -29,8 +44,9 @@ stopped (more {m} h e) = (rw e at (stands (m .left)), h)
 stopped (ends h e) = tt
 stopped (line h e d) = stopped d
 
-pub room-left : (size : ℕ) (m to : Mark) (stop : Stop) → stop ≡ More → Drains size m to stop → Short (to .left) × (length (to .text) + 8217 ≤ size)
-room-left size m to stop e d = rw e at (stopped d)
+pub room-left : (m : Mark) (r : Drained) (ram out input text : List ℕ) → r .stop ≡ More → Drains (length text) m (reached r ram out input text) (r .stop)
+    → Short (drop (r .taken) input) × (length (take (r .used) text) + 8217 ≤ length text)
+room-left m r ram out input text e d = rw e at (stopped d)
 
 -- the text of a log that is listed up to a mark, whatever follows
 abbrev textOf : Mark → List ℕ → List ℕ
@@ -64,24 +80,31 @@ pub carry-bad : {size : ℕ} {t : Tables} {ram out xs : List ℕ} {to : Mark} �
     → (ys : List ℕ) → textFrom t ram out (xs ++ ys) ≡ to .text
 carry-bad d = goes-on d
 
-module _ (t : Tables) (e : t ≡ noTables) (log : List ℕ) (t′ : Tables) (ram′ out′ left text : List ℕ) (used : ℕ) (stop : Stop)
-    (d : Drains (length text) (begin t (replicate 65536 0) (replicate 4096 0) log) (record { tables = t′; ram = ram′; output = out′; left = left; text = take used text }) stop) where
+module _ (t : Tables) (e : t ≡ noTables) (log : List ℕ) (r : Drained) (ram out text : List ℕ)
+    (d : Drains (length text) (begin t (replicate 65536 0) (replicate 4096 0) log) (reached r ram out log text) (r .stop)) where
   is-listing : textFrom t (replicate 65536 0) (replicate 4096 0) (log ++ []) ≡ listing log
   unfolding listing
   is-listing = rw (e, append-nil log)
 
-  pub listed-bad : stop ≡ Bad → take used text ≡ listing log
+  pub never-full : (r .stop ≡ Full → ⊥) → (size : ℕ) → size ≡ length text → (to : Mark) → ¬ Fills log size to
+  never-full n size q to f = n (one-stop d (rw (q, ← e) at f) .1)
+
+  pub fills : r .stop ≡ Full → (to : Mark) × Fills log (length text) to
+  fills q = (_, rw (e, q) at d)
+
+  pub listed-bad : r .stop ≡ Bad → take (r .used) text ≡ listing log
   listed-bad q = let b = rw q at d in sym (carry-bad b []) ∙ is-listing
 
-  carried : Carry t (replicate 65536 0) (replicate 4096 0) log t′ ram′ out′ left (take used text) → take used text ++ textFrom t′ ram′ out′ left ≡ listing log
-  carried c = rw (append-nil left) at (sym (c .holds []) ∙ is-listing)
+  carried : Carry t (replicate 65536 0) (replicate 4096 0) log (r .tables) ram out (drop (r .taken) log) (take (r .used) text)
+      → take (r .used) text ++ textFrom (r .tables) ram out (drop (r .taken) log) ≡ listing log
+  carried c = rw (append-nil (drop (r .taken) log)) at (sym (c .holds []) ∙ is-listing)
 
-  pub listed-over : stop ≡ Full → used ≤ length text → length text < length (listing log) + 8217
+  pub listed-over : r .stop ≡ Full → r .used ≤ length text → length text < length (listing log) + 8217
   listed-over q h =
       let f = rw q at d in
-      rw (← carried (carry-full f), length-append, length-take-le used text h) (omega (arith, stopped f, length-take-le used text h))
+      rw (← carried (carry-full f), length-append, length-take-le (r .used) text h) (omega (arith, stopped f, length-take-le (r .used) text h))
 
-  pub listed-text : stop ≡ More → (text₂ : List ℕ) (r : ℕ) → Put text text₂ used r (ending left) → take r text₂ ≡ listing log
-  listed-text q text₂ r p =
+  pub listed-text : r .stop ≡ More → (text₂ : List ℕ) (end : ℕ) → Put text text₂ (r .used) end (ending (drop (r .taken) log)) → take end text₂ ≡ listing log
+  listed-text q text₂ end p =
       let f = rw q at d in
-      p .text ∙ rw (← text-short t′ ram′ out′ left (stopped f .0)) (carried (carry-more f))
+      p .text ∙ rw (← text-short (r .tables) ram out (drop (r .taken) log) (stopped f .0)) (carried (carry-more f))

@@ -49,7 +49,7 @@ fetch-requires : tie.Need-fetch-requires
 fetch-requires c κs =
     let s = c .before .before .before .before .before .before .before .before .before .before .before .before .before .before .before .before .before .before in
     let d = c .before .before .before .before .before .before .before .before .before .before .drain in
-    let short = room-left _ _ _ _ (c .before .before .enum-told .given .1) (d .ensures .0) .0 in
+    let short = room-left _ (d .result) _ _ _ _ (c .before .before .enum-told .given .1) (d .ensures .0) .0 in
     let k = start-within (now (s .args .buf)) (s .args .s .from) (s .args .s .filled) (d .result .taken) (s .pre .1) (s .pre .2) (d .ensures .2) in
     let h = left-short (now (s .args .buf)) (s .args .s .from) (s .args .s .filled) (d .result .taken) (s .pre .1) (s .pre .2) short in
     (d .ensures .1, k, omega (arith, s .pre), omega (arith, h, s .pre), omega (arith, s .pre, d .kept .1 .1 .1 .1 .0))

@@ -3,8 +3,9 @@ use mathlib.Core.Path.{_≡_}
 use mathlib.Core.Bool.{cond}
 use mathlib.Core.List.{List, [], _++_}
 use Prim.Native.Nat.{ℕ, _+_, _-_, _≤_, _<_}
-use lib.ListN.{length, take, drop}
+use lib.ListN.{length, take, drop, replicate}
 use lib.Dec.{eqb, ltb}
+use Rattle.kernel.specs.Definition.Reset.{noTables}
 use Rattle.kernel.specs.declared.Tables.{Tables}
 use Rattle.events.specs.Definition.Records.{u16At}
 use Rattle.text.specs.Definition.Put.{Put}
@@ -72,7 +73,13 @@ reached r ram out input text = record { tables = r .tables; ram = ram; output = 
 abbrev pub ending : List ℕ → List ℕ
 ending xs = cond (eqb (length xs) 0) [] badText
 
--- the first bytes of `text` are the text of the whole log, and those behind are as they were; or it has no room for it and for one line more
+-- the lines of a whole log leave no room for a longest one in a text of `size` bytes
+abbrev pub Fills : (log : List ℕ) (size : ℕ) → Mark → Type 0
+Fills log size to = Drains size (begin noTables (replicate 65536 0) (replicate 4096 0) log) to Full
+
+-- the first bytes of `text` are the text of the whole log, and those behind are as they were; or there was no room, and it is shorter than the log's
+-- with a longest line more
 abbrev pub Lists : (log text text′ : List ℕ) → Listed → Type 0
-Lists log text text′ (Text n) = (take n text′ ≡ listing log) × (n ≤ length text′) × (drop n text′ ≡ drop n text)
-Lists log text text′ Over = length text′ < length (listing log) + 8217
+Lists log text text′ (Text n) =
+    (take n text′ ≡ listing log) × (n ≤ length text′) × (drop n text′ ≡ drop n text) × ((to : Mark) → ¬ Fills log (length text′) to)
+Lists log text text′ Over = (length text′ < length (listing log) + 8217) × ((to : Mark) × Fills log (length text′) to)

@@ -3,15 +3,17 @@ use mathlib.Core.Path.{_≡_, refl, sym, ap, _∙_}
 use mathlib.Core.List.{List}
 use Prim.Native.Nat.{ℕ, _≤_}
 use native.Mathlib.Omega.{arith}
-use lib.ListN.{length, take, drop, length-drop}
+use lib.ListN.{length, take, drop, replicate, length-drop, length-replicate}
 use lib.Seq.{length-take-le}
 use Rattle.kernel.specs.declared.Tables.{Tables}
+use Rattle.text.specs.Definition.Put.{Put}
 use Rattle.text.specs.Laws.One.{one-buffer, one-put}
-use Rattle.listing.specs.Definition.Pieces.{Stepped, Mark, Drains, full, more, ends, line, reached, Lists}
+use Rattle.listing.specs.Definition.Pieces.{Stepped, Mark, Drains, full, more, ends, line, reached, ending, Lists}
 use Rattle.listing.specs.declared.Drained.{Drained}
 use Rattle.listing.specs.declared.Front.{Front}
 use Rattle.listing.specs.declared.Front.the-variants.{Record, Cut, Bad}
-use Rattle.listing.specs.declared.Listed.the-variants.{Text}
+use Rattle.listing.specs.declared.Listed.{Listed}
+use Rattle.listing.specs.declared.Listed.the-variants.{Text, Over}
 use Rattle.listing.specs.declared.Stop.{Stop}
 
 pub one-stepped : {t t′ t″ : Tables} {ram out body text ram′ out′ text′ ram″ out″ text″ : List ℕ} {kind used used′ used″ : ℕ}
@@ -61,23 +63,31 @@ pub one-drained : (m : Mark) (xs text : List ℕ) (r s : Drained) (ram′ out′
 one-drained m xs text r s ram′ out′ text′ ram″ out″ text″ l d i h b d′ i′ h′ b′ =
     let (e, z) = one-stop d (rw (← l) at d′) in
     let k : r .taken ≡ s .taken = omega (arith, ap (λ (x : Mark). length (x .left)) e, length-drop (r .taken) xs, length-drop (s .taken) xs) in
-    let u : r .used ≡ s .used = omega (arith, ap (λ (x : Mark). length (x .text)) e, length-take-le (r .used) text′ h, length-take-le (s .used) text″ h′) in
-    (
+    let u : r .used ≡ s .used = omega (arith, ap (λ (x : Mark). length (x .text)) e, length-take-le (r .used) text′ h, length-take-le (s .used) text″ h′) in (
       same-drained (ap (λ (x : Mark). x .tables) e) k u z,
       ap (λ (x : Mark). x .ram) e,
       ap (λ (x : Mark). x .output) e,
       one-buffer (r .used) (rw (← u) at (ap (λ (x : Mark). x .text) e)) (b ∙ sym (rw (← u) at b′)),
     )
 
--- a text that is written is the log's
-pub one-listed : (log text text′ text″ : List ℕ) (n n′ : ℕ) → Lists log text text′ (Text n) → Lists log text text″ (Text n′) → (n ≡ n′) × (text′ ≡ text″)
-one-listed log text text′ text″ n n′ p q =
-    let f : take n text′ ≡ take n′ text″ = p .0 ∙ sym (q .0) in
-    let e : n ≡ n′ = omega (arith, ap length f, length-take-le n text′ (p .1), length-take-le n′ text″ (q .1)) in
+-- whether the log's text is written, how long it is, and every byte of the text that is lent
+pub one-listed : (log text text′ text″ : List ℕ) (r s : Listed) → length text′ ≡ length text″ → Lists log text text′ r → Lists log text text″ s
+    → (r ≡ s) × ((r ≡ Over → ⊥) → text′ ≡ text″)
+one-listed log text text′ text″ (Text n) (Text k) l p q =
+    let f : take n text′ ≡ take k text″ = p .0 ∙ sym (q .0) in
+    let e : n ≡ k = omega (arith, ap length f, length-take-le n text′ (p .1), length-take-le k text″ (q .1)) in
     let s : Lists log text text″ (Text n) = rw (← e) at q in
-    (e, one-buffer n (p .0 ∙ sym (s .0)) (p .2 ∙ sym (s .2)))
+    (ap Text e, λ z. one-buffer n (p .0 ∙ sym (s .0)) (p .2 ∙ sym (s .2)))
+one-listed log text text′ text″ (Text n) Over l p q = absurd (p .3 (q .1 .0) (rw l (q .1 .1)))
+one-listed log text text′ text″ Over (Text k) l p q = absurd (q .3 (p .1 .0) (rw (← l) (p .1 .1)))
+one-listed log text text′ text″ Over Over l p q = (refl, λ z. absurd (z refl))
 
--- and bytes moved to the front leave one buffer
+-- bytes that are moved to the front
 pub one-kept : (buf buf′ buf″ : List ℕ) (from n : ℕ) → (take n buf′ ≡ take n (drop from buf)) × (drop n buf′ ≡ drop n buf)
     → (take n buf″ ≡ take n (drop from buf)) × (drop n buf″ ≡ drop n buf) → buf′ ≡ buf″
 one-kept buf buf′ buf″ from n p q = one-buffer n (p .0 ∙ sym (q .0)) (p .1 ∙ sym (q .1))
+
+-- the end of the input
+pub one-finished : (left : ℕ) {text text′ text″ : List ℕ} {at r s : ℕ} → ((xs : List ℕ) → length xs ≡ left → Put text text′ at r (ending xs))
+    → ((xs : List ℕ) → length xs ≡ left → Put text text″ at s (ending xs)) → (text′ ≡ text″) × (r ≡ s)
+one-finished left p q = let xs : List ℕ = replicate left 0 in one-put (p xs (length-replicate {A = ℕ} left 0)) (q xs (length-replicate {A = ℕ} left 0))
