@@ -12,7 +12,7 @@ ghost use Rattle.kernel.specs.Definition.Step.{step, completed, result, 
 use super::Answer;
 use super::Outcome;
 use super::Tables;
-use line::close_line;
+use line::close_record;
 use rows::Lookup;
 use rows::channels::channel_row;
 use rows::channels::total;
@@ -53,7 +53,7 @@ impl Tables {
         let start = total(channels, i);
         let line = total(channels, wide(self.opened));
         let n = wide16(channels[i].n);
-        close_line(ram, &chain, wide16(self.room), start, 16 + n, line);
+        close_record(ram, &chain, wide16(self.room), start, 16 + n, line);
     }
 
     pub fn close(self, ram: &mut [u8], channel: u8) -> Outcome

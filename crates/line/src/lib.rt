@@ -30,7 +30,7 @@ fn least(a: usize, b: usize) -> usize
 }
 
 // The place of position p of the line.
-pub fn place(chain: &[u8; 32], room: usize, p: usize) -> usize
+fn place(chain: &[u8; 32], room: usize, p: usize) -> usize
     requires { ⌜ (room ≤ 16384) × (p < room + 16384 * 31) ⌝ }
     ensures { λ r. ⌜ r ≡ placeOf (now (chain .entry)) room p ⌝ }
 {
@@ -54,7 +54,7 @@ fn reach(room: usize, p: usize) -> usize
 }
 
 // The heading of a record with a buffer of n bytes.
-pub fn heading(n: u16, channel: u8, device: u8, unit: u8) -> [u8; 16]
+fn heading(channel: u8, device: u8, unit: u8, n: u16) -> [u8; 16]
     ensures { λ r. ⌜ r ≡ headingOf (16 + n) channel device unit ⌝ }
 {
     let length = 16 + n as u32;
@@ -122,14 +122,7 @@ pub fn clear(ram: &mut [u8], chain: &[u8; 32], room: usize, start: usize, end: u
 }
 
 // The bytes from position start + gap to the end of the line move up by gap, the first of them first.
-pub fn move_up(
-    ram: &mut [u8],
-    chain: &[u8; 32],
-    room: usize,
-    start: usize,
-    gap: usize,
-    total: usize,
-)
+fn move_up(ram: &mut [u8], chain: &[u8; 32], room: usize, start: usize, gap: usize, total: usize)
     requires { ⌜ (start + gap ≤ total) × Chain (now chain) room total (length (now ram)) ⌝ }
     ensures { λ _. ⌜ now (ram .exit) ≡ putLine (now (chain .entry)) room (now (ram .entry)) start (lineFrom (now (chain .entry)) room (now (ram .entry)) (start + gap) (total - gap - start)) ⌝ }
 {
@@ -145,7 +138,7 @@ pub fn move_up(
 }
 
 // The whole line moves down by m, the last of it first.
-pub fn move_down(ram: &mut [u8], chain: &[u8; 32], room: usize, m: usize, total: usize)
+fn move_down(ram: &mut [u8], chain: &[u8; 32], room: usize, m: usize, total: usize)
     requires { ⌜ Chain (now chain) room (total + m) (length (now ram)) ⌝ }
     ensures { λ _. ⌜ now (ram .exit) ≡ putLine (now (chain .entry)) room (now (ram .entry)) m (lineFrom (now (chain .entry)) room (now (ram .entry)) 0 total) ⌝ }
 {
@@ -166,22 +159,22 @@ pub fn open_record(
     chain: &[u8; 32],
     room: usize,
     total: usize,
-    number: u8,
+    channel: u8,
     device: u8,
     unit: u8,
     n: u16,
 )
     requires { ⌜ Chain (now chain) room (total + 16 + n) (length (now ram)) ⌝ }
-    ensures { λ _. ⌜ now (ram .exit) ≡ afterOpen (now (chain .entry)) room (now (ram .entry)) total number device unit n ⌝ }
+    ensures { λ _. ⌜ now (ram .exit) ≡ afterOpen (now (chain .entry)) room (now (ram .entry)) total channel device unit n ⌝ }
 {
-    let head = heading(n, number, device, unit);
+    let head = heading(channel, device, unit, n);
     put(ram, chain, room, total, &head);
     let at = total + 16;
     clear(ram, chain, room, at, at + n as usize);
 }
 
 // The gap bytes from position start leave a line of total bytes.
-pub fn close_line(
+pub fn close_record(
     ram: &mut [u8],
     chain: &[u8; 32],
     room: usize,

@@ -23,10 +23,10 @@ abbrev pub linkedRow : List Device → ℕ → ℕ → Bool
 linkedRow ds known i =
     (ltb i 3 || someName (getD ds i beyondDevices .name) (getD ds i beyondDevices .length)) && agree (getD ds i beyondDevices .enabled) (upTo known (aliasRow ds i))
 
-name-same : (a : List ℕ) (la : ℕ) (b : List ℕ) (lb : ℕ) → sameName a la b lb ≡ true → someName a la ≡ someName b lb
-name-same a la b lb e =
-    let s = same-says a la b lb .yes e in
-    rw (s .long, upTo-same 28 (letterRow a lb) (letterRow b lb) (λ k h. rw (s .bytes k h)))
+name-same : (a : List ℕ) (length-a : ℕ) (b : List ℕ) (length-b : ℕ) → sameName a length-a b length-b ≡ true → someName a length-a ≡ someName b length-b
+name-same a length-a b length-b e =
+    let s = same-says a length-a b length-b .yes e in
+    rw (s .long, upTo-same 28 (letterRow a length-b) (letterRow b length-b) (λ k h. rw (s .bytes k h)))
 
 row-named : (ds : List Device) (i : ℕ) (s : List ℕ) → namedRow ds i s ≡ true → someName (padded 28 s) (length s) ≡ true
     → someName (getD ds i beyondDevices .name) (getD ds i beyondDevices .length) ≡ true

@@ -25,15 +25,15 @@ pub fn total(channels: [Channel; 32], count: usize) -> usize
     sum
 }
 
-// Where the channel `ch` stands among the first `opened` rows.
-pub fn channel_row(channels: [Channel; 32], opened: usize, ch: u8) -> Lookup
+// Where a channel stands among the first `opened` rows.
+pub fn channel_row(channels: [Channel; 32], opened: usize, channel: u8) -> Lookup
     requires { ⌜ opened ≤ 32 ⌝ }
-    ensures { λ r. ⌜ r ≡ foundAt (rowIn (take opened channels) ch) opened ⌝ }
+    ensures { λ r. ⌜ r ≡ foundAt (rowIn (take opened channels) channel) opened ⌝ }
 {
     let mut i: usize = 0;
     while i < opened {
         let c = channels[i];
-        if c.number == ch {
+        if c.number == channel {
             return Lookup::At(i);
         }
         i = i + 1;

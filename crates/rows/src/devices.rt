@@ -59,10 +59,10 @@ fn same_bytes(a: [u8; 28], b: [u8; 28]) -> bool
 }
 
 // Bytes are compared only where the lengths agree.
-pub fn same_name(a: [u8; 28], la: u8, b: [u8; 28], lb: u8) -> bool
-    ensures { λ r. ⌜ r ≡ sameName a la b lb ⌝ }
+fn same_name(a: [u8; 28], length_a: u8, b: [u8; 28], length_b: u8) -> bool
+    ensures { λ r. ⌜ r ≡ sameName a «length_a» b «length_b» ⌝ }
 {
-    if la != lb {
+    if length_a != length_b {
         return false;
     }
     same_bytes(a, b)
@@ -128,7 +128,7 @@ fn letters(name: [u8; 28], n: u8) -> bool
 }
 
 // A capital below the length, zero from it on.
-pub fn name_test(name: [u8; 28], length: u8) -> bool
+fn name_test(name: [u8; 28], length: u8) -> bool
     ensures { λ r. ⌜ r ≡ nameTest name length ⌝ }
 {
     (length <= 28) & letters(name, length)

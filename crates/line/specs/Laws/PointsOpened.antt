@@ -14,14 +14,14 @@ use Rattle.line.specs.Laws.Held.{held-at}
 use Rattle.line.specs.Laws.Makes.{length-heading}
 use Rattle.line.specs.Laws.OneRam.{one-ram, zero-after}
 
-pub opened-points : (chain : List ℕ) (room : ℕ) (ram : List ℕ) (total number device unit n : ℕ) → Chain chain room (total + 16 + n) (length ram)
-    → Opened chain room ram total number device unit n (afterOpen chain room ram total number device unit n)
+pub opened-points : (chain : List ℕ) (room : ℕ) (ram : List ℕ) (total channel device unit n : ℕ) → Chain chain room (total + 16 + n) (length ram)
+    → Opened chain room ram total channel device unit n (afterOpen chain room ram total channel device unit n)
 unfolding afterOpen
-opened-points chain room ram total number device unit n good =
+opened-points chain room ram total channel device unit n good =
     let walk = placeOf chain room in
-    let xs = headingOf (16 + n) number device unit in
+    let xs = headingOf (16 + n) channel device unit in
     let ys : List ℕ = replicate n 0 in
-    let nx = length-heading (16 + n) number device unit in
+    let nx = length-heading (16 + n) channel device unit in
     let ny = length-replicate {A = ℕ} n 0 in
     let nz = length-append xs ys in
     record {
@@ -34,9 +34,9 @@ opened-points chain room ram total number device unit n good =
       kept = λ i off. put-elsewhere walk (xs ++ ys) ram total i (λ k l e. off k (omega arith) e);
     }
 
-pub opened-only : (chain : List ℕ) (room : ℕ) (ram : List ℕ) (total number device unit n : ℕ) (a b : List ℕ)
-    → Opened chain room ram total number device unit n a → Opened chain room ram total number device unit n b → a ≡ b
-opened-only chain room ram total number device unit n a b oa ob =
+pub opened-only : (chain : List ℕ) (room : ℕ) (ram : List ℕ) (total channel device unit n : ℕ) (a b : List ℕ)
+    → Opened chain room ram total channel device unit n a → Opened chain room ram total channel device unit n b → a ≡ b
+opened-only chain room ram total channel device unit n a b oa ob =
     one-ram (placeOf chain room) total (16 + n) a b (oa .size ∙ sym (ob .size))
     (λ k h. by-cases (decLt k 16) (λ l. oa .heading k l ∙ sym (ob .heading k l))
     (λ l.

@@ -20,7 +20,7 @@ sameBytes a b k = eqb (at a k) (at b k)
 
 -- two names, each of 28 bytes with its length, are the same
 abbrev pub sameName : List ℕ → ℕ → List ℕ → ℕ → Bool
-sameName a la b lb = eqb la lb && upTo 28 (sameBytes a b)
+sameName a length-a b length-b = eqb length-a length-b && upTo 28 (sameBytes a b)
 
 -- an enabled device of this name
 abbrev pub deviceOf : List ℕ → Device

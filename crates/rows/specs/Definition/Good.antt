@@ -73,8 +73,8 @@ pub record NameGood (name : List ℕ) (n : ℕ) : Type 0 where
   pub rest : (i : ℕ) → n ≤ i → i < 28 → at name i ≡ 0
 
 -- two names, each of 28 bytes with its length, are the same
-pub record Same (a : List ℕ) (la : ℕ) (b : List ℕ) (lb : ℕ) : Type 0 where
-  pub long : la ≡ lb
+pub record Same (a : List ℕ) (length-a : ℕ) (b : List ℕ) (length-b : ℕ) : Type 0 where
+  pub long : length-a ≡ length-b
   pub bytes : (k : ℕ) → k < 28 → at a k ≡ at b k
 
 -- "Unused rows and bytes of the tables are zero"

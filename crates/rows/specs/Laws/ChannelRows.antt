@@ -105,12 +105,12 @@ channels-less cs opened known i l h g =
     }
 
 -- a channel that is not found is at no place
-pub place-none : (cs : List Channel) (ch n : ℕ) → n ≤ length cs → n ≤ rowIn (take n cs) ch → (i : ℕ) → i < n → getD cs i zeroChannel .number ≡ ch → ⊥
-place-none cs ch n l h i a e =
+pub place-none : (cs : List Channel) (channel n : ℕ) → n ≤ length cs → n ≤ rowIn (take n cs) channel → (i : ℕ) → i < n → getD cs i zeroChannel .number ≡ channel → ⊥
+place-none cs channel n l h i a e =
     let long : length (take n cs) ≡ n = omega (arith, length-take n cs) in
-    let no : eqb (getD (take n cs) i zeroChannel .number) ch ≡ false =
-    where-absent (λ (c : Channel). eqb (c .number) ch) (take n cs) zeroChannel (omega arith) i (omega arith) in
-    false≢true (sym (rw (getD-take n cs i zeroChannel a) at no) ∙ eq-eqb (getD cs i zeroChannel .number) ch e)
+    let no : eqb (getD (take n cs) i zeroChannel .number) channel ≡ false =
+    where-absent (λ (c : Channel). eqb (c .number) channel) (take n cs) zeroChannel (omega arith) i (omega arith) in
+    false≢true (sym (rw (getD-take n cs i zeroChannel a) at no) ∙ eq-eqb (getD cs i zeroChannel .number) channel e)
 
 -- a row more
 pub channels-more : (cs : List Channel) (opened known : ℕ) (c : Channel) → length cs ≡ 32 → opened < 32 → c .number < 255 → c .device < known

@@ -13,7 +13,7 @@ use Rattle.rows.specs.Definition.Good.{NameGood, Same, DevicesGood}
 use Rattle.rows.specs.Laws.Good.{same-yes, same-no, device-says}
 use Rattle.rows.specs.declared.Device.{Device}
 
-turned : {a b : List ℕ} {la lb : ℕ} → Same a la b lb → Same b lb a la
+turned : {a b : List ℕ} {length-a length-b : ℕ} → Same a length-a b length-b → Same b length-b a length-a
 turned e = record { long = sym (e .long); bytes = λ k l. sym (e .bytes k l) }
 
 -- a device more, the older of its name disabled

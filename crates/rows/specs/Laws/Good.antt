@@ -240,16 +240,16 @@ name-says name n =
       ],
     ))
 
-pub same-says : (a : List ℕ) (la : ℕ) (b : List ℕ) (lb : ℕ) → Says (sameName a la b lb) (Same a la b lb)
-same-says a la b lb =
-    says-as (says-and (says-eq la lb) (says-all 28 (sameBytes a b) (λ k. at a k ≡ at b k) (λ k h. says-eq (at a k) (at b k))))
+pub same-says : (a : List ℕ) (length-a : ℕ) (b : List ℕ) (length-b : ℕ) → Says (sameName a length-a b length-b) (Same a length-a b length-b)
+same-says a length-a b length-b =
+    says-as (says-and (says-eq length-a length-b) (says-all 28 (sameBytes a b) (λ k. at a k ≡ at b k) (λ k h. says-eq (at a k) (at b k))))
     (λ h. record { long = h .0; bytes = h .1 }) (λ g. (g .long, g .bytes))
 
-pub same-yes : (a : List ℕ) (la : ℕ) (b : List ℕ) (lb : ℕ) → Same a la b lb → sameName a la b lb ≡ true
-same-yes a la b lb = same-says a la b lb .make
+pub same-yes : (a : List ℕ) (length-a : ℕ) (b : List ℕ) (length-b : ℕ) → Same a length-a b length-b → sameName a length-a b length-b ≡ true
+same-yes a length-a b length-b = same-says a length-a b length-b .make
 
-pub same-no : (a : List ℕ) (la : ℕ) (b : List ℕ) (lb : ℕ) → (Same a la b lb → ⊥) → sameName a la b lb ≡ false
-same-no a la b lb = says-no (same-says a la b lb)
+pub same-no : (a : List ℕ) (length-a : ℕ) (b : List ℕ) (length-b : ℕ) → (Same a length-a b length-b → ⊥) → sameName a length-a b length-b ≡ false
+same-no a length-a b length-b = says-no (same-says a length-a b length-b)
 
 named-says : (ds : List Device) (i : ℕ) (s : List ℕ) → Says (namedRow ds i s) (Named ds i s)
 named-says ds i s = same-says (getD ds i beyondDevices .name) (getD ds i beyondDevices .length) (padded 28 s) (length s)

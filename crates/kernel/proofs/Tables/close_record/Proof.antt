@@ -25,11 +25,11 @@ wide16-requires c κs = search needs
 wide16-requires-2 : tie.Need-wide16-requires-2
 wide16-requires-2 c κs = search needs
 
-add-close-line : tie.Need-add-close-line
-add-close-line c = search needs
+add-close-record : tie.Need-add-close-record
+add-close-record c = search needs
 
-close-line-requires : tie.Need-close-line-requires
-close-line-requires c κs =
+close-record-requires : tie.Need-close-record-requires
+close-record-requires c κs =
     let s = c .before .before .before .before .before .before .before .before .before .before in
     record-chain (s .args .self) _ _ _ _ _ _ (c .before .before .before .before .before .before .total .ensures .0) (c .before .before .before .wide16 .ensures .0) (c .before .before .before .before .before .wide .ensures .0)
     (c .before .before .before .before .total2 .ensures .0) (c .wide162 .ensures .0) _ (s .pre .0) (s .pre .1) (s .pre .2)
@@ -41,7 +41,7 @@ returns : tie.Need-returns
 returns c =
     let s = c .before .before .before .before .before .before .before .before .before .before .before .before .before in
     record-closed (s .args .self) _ _ _ _ _ _ (c .before .before .before .before .before .before .before .before .before .total .ensures .0) (c .before .before .before .before .before .before .wide16 .ensures .0)
-    (c .before .before .before .before .before .before .before .before .wide .ensures .0) (c .before .before .before .before .before .before .before .total2 .ensures .0) (c .before .before .before .wide162 .ensures .0) _ _ (c .before .before .close-line .ensures)
+    (c .before .before .before .before .before .before .before .before .wide .ensures .0) (c .before .before .before .before .before .before .before .total2 .ensures .0) (c .before .before .before .wide162 .ensures .0) _ _ (c .before .before .close-record .ensures)
 
 pub close-record-spec : {M : Type 1} → statement M
 close-record-spec =
@@ -54,7 +54,7 @@ close-record-spec =
     element-copy-out-wide16
     wide16-requires
     wide16-requires-2
-    add-close-line
-    close-line-requires
+    add-close-record
+    close-record-requires
     same-length
     returns)

@@ -15,10 +15,10 @@ use Rattle.rows.proofs.channels.channel_row.Statement.{statement}
 use Rattle.rows.proofs.channels.channel_row.Tie as tie
 
 abbrev Inv-loop : tie.InvT-loop
-Inv-loop opened ch channels i₀ i = (i ≤ opened) × ((j : ℕ) → j < i → getD channels j zeroChannel .number ≡ ch → ⊥)
+Inv-loop opened channel channels i₀ i = (i ≤ opened) × ((j : ℕ) → j < i → getD channels j zeroChannel .number ≡ channel → ⊥)
 
 abbrev μ-loop : tie.MeasureT-loop
-μ-loop opened ch channels i₀ i = opened - i
+μ-loop opened channel channels i₀ i = opened - i
 
 loop-holds : tie.Need-loop-holds Inv-loop μ-loop
 loop-holds c = search needs
@@ -34,8 +34,8 @@ returns c =
     let s = c .before .before .before .before .before in
     let at = c .before .before .before .before .loop in
     let l : length (s .args .t1) ≡ 32 = s .good .0 .1 .0 .1 in
-    let e : rowIn (take (s .args .opened) (s .args .t1)) (s .args .ch) ≡ at .i =
-    where-here (λ (x : Channel). eqb (x .number) (s .args .ch)) (s .args .t1) zeroChannel (at .i) (s .args .opened) (omega arith) (omega arith)
+    let e : rowIn (take (s .args .opened) (s .args .t1)) (s .args .channel) ≡ at .i =
+    where-here (λ (x : Channel). eqb (x .number) (s .args .channel)) (s .args .t1) zeroChannel (at .i) (s .args .opened) (omega arith) (omega arith)
     (λ j g. ne-eqb _ _ (at .inv .1 j g)) (eq-eqb _ _ (c .if1 .taken)) in
     sym (ap (λ (k : ℕ). foundAt k (s .args .opened)) e ∙ found-yes (at .i) (s .args .opened) (omega arith))
 
@@ -52,8 +52,8 @@ returns-2 : tie.Need-returns-2 Inv-loop μ-loop
 returns-2 c =
     let s = c .before .before in
     let l : length (s .args .t1) ≡ 32 = s .good .0 .1 .0 .1 in
-    let e : rowIn (take (s .args .opened) (s .args .t1)) (s .args .ch) ≡ s .args .opened =
-    where-none (λ (x : Channel). eqb (x .number) (s .args .ch)) (s .args .t1) zeroChannel (s .args .opened) (omega arith)
+    let e : rowIn (take (s .args .opened) (s .args .t1)) (s .args .channel) ≡ s .args .opened =
+    where-none (λ (x : Channel). eqb (x .number) (s .args .channel)) (s .args .t1) zeroChannel (s .args .opened) (omega arith)
     (λ j g. ne-eqb _ _ (c .before .loop .inv .1 j (omega arith))) in
     sym (found-no _ (s .args .opened) (omega (arith, e)))
 

@@ -5,7 +5,7 @@ use Rattle.rows.proofs.devices.same_name.Statement.{statement}
 use Rattle.rows.proofs.devices.same_name.Tie as tie
 
 returns : tie.Need-returns
-returns c = rw (ne-eqb (c .before .args .la) (c .before .args .lb) (c .if1 .taken))
+returns c = rw (ne-eqb _ _ (c .if1 .taken))
 
 same-bytes-requires : tie.Need-same-bytes-requires
 same-bytes-requires c κs = search needs

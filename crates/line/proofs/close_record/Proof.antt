@@ -1,12 +1,12 @@
--- `line::close_line` meets its contract: the two calls make `afterClose`.
+-- `line::close_record` meets its contract: the two calls make `afterClose`.
 use denote.Ref.{now}
 use native.Mathlib.Omega.{arith}
 use borrow.Author.Needs.{needs}
 use lib.ListN.{length}
 use Rattle.line.specs.Laws.Places.{chain-less}
 use Rattle.line.specs.Laws.Makes.{closed-of}
-use Rattle.line.proofs.close_line.Statement.{statement}
-use Rattle.line.proofs.close_line.Tie as tie
+use Rattle.line.proofs.close_record.Statement.{statement}
+use Rattle.line.proofs.close_record.Tie as tie
 
 move-up-requires : tie.Need-move-up-requires
 move-up-requires c κs = search needs
@@ -32,6 +32,6 @@ returns c =
     let cleared = c .before .before .clear in
     closed-of (now (a .chain)) (a .room) (now (a .ram)) (moved .last .0) (cleared .last .0) (a .start) (a .gap) (a .total) (s .pre .0) (moved .ensures) (cleared .ensures)
 
-pub close-line-spec : {M : Type 1} → statement M
-close-line-spec =
+pub close-record-spec : {M : Type 1} → statement M
+close-record-spec =
     tie.close (tie.spec move-up-requires sub-clear clear-requires same-length returns)
