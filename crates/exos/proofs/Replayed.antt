@@ -4,7 +4,7 @@ use mathlib.Core.List.{List}
 use Prim.Native.Nat.{ℕ}
 use borrow.Author.Tests.{eq-eqb, ne-eqb}
 use lib.ListN.{length}
-use Rattle.kernel.specs.Definition.Reset.{noTables}
+use Rattle.kernel.specs.Definition.Start.{noTables}
 use Rattle.kernel.specs.Definition.Step.{Result, result}
 use Rattle.kernel.specs.declared.Tables.{Tables}
 use Rattle.kernel.specs.declared.Outcome.{Outcome}

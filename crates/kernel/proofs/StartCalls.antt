@@ -20,7 +20,7 @@ use Rattle.rows.specs.Definition.Tests.{listTest}
 use Rattle.rows.specs.Laws.Good.{list-says}
 use Rattle.rows.specs.declared.Device.{Device}
 use Rattle.kernel.specs.Definition.Tables.{withDefault}
-use Rattle.kernel.specs.Definition.Reset.{startTest, started}
+use Rattle.kernel.specs.Definition.Start.{startTest, started}
 use Rattle.kernel.specs.Definition.Answers.{gives}
 use Rattle.kernel.specs.Definition.Calls.{start, onDefault, onStart}
 use Rattle.kernel.specs.Definition.Step.{heard, decided, ramAfter, outputAfter, completed, result, step}

@@ -10,7 +10,7 @@ use Rattle.rows.specs.Definition.Lists.{every, upTo}
 use Rattle.rows.specs.Laws.Lists.{every-at, and-left, and-right}
 use Rattle.rows.specs.Definition.Sizes.{chainLength, boundaryAt}
 use Rattle.kernel.specs.Definition.Line.{grown, shrunk}
-use Rattle.kernel.specs.Definition.Reset.{noTables}
+use Rattle.kernel.specs.Definition.Start.{noTables}
 use Rattle.kernel.specs.Definition.Answers.{numberOf, aOf, bOf}
 use Rattle.kernel.specs.Definition.Calls.{Call, start, «open», close, boundary, set-user-boundary, allocate, load}
 use Rattle.kernel.specs.Definition.Step.{decided}

@@ -6,6 +6,7 @@ pub mod Line
 pub mod Segments
 pub mod Devices
 pub mod Reset
+pub mod Start
 pub mod Names
 pub mod Answers
 pub mod Calls

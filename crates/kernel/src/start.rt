@@ -3,7 +3,7 @@ ghost use mathlib.Core.Path.{_≡_};
 ghost use mathlib.Core.List.{List};
 ghost use Prim.Native.Nat.{ℕ, _≤_};
 ghost use lib.ListN.{length};
-ghost use Rattle.kernel.specs.Definition.Reset.{startTest, started, noTables};
+ghost use Rattle.kernel.specs.Definition.Start.{startTest, started, noTables};
 ghost use Rattle.kernel.specs.Definition.Calls as calls;
 ghost use Rattle.kernel.specs.Definition.Step.{step, result};
 use super::Answer;

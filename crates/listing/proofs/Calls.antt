@@ -8,7 +8,7 @@ use lib.ListN.{length, take, drop}
 use borrow.Author.Tests.{eq-eqb, ne-eqb}
 use Rattle.kernel.specs.Definition.Answers.{numberOf, aOf, bOf, gives}
 use Rattle.kernel.specs.Definition.Good.{goodTest}
-use Rattle.kernel.specs.Definition.Reset.{noTables}
+use Rattle.kernel.specs.Definition.Start.{noTables}
 use Rattle.kernel.specs.Definition.Step.{Result, result}
 use Rattle.kernel.specs.declared.Tables.{Tables}
 use Rattle.kernel.specs.declared.Outcome.{Outcome}

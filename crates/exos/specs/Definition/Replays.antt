@@ -5,7 +5,7 @@ use mathlib.Core.List.{List}
 use Prim.Native.Nat.{ℕ}
 use lib.Dec.{eqb}
 use lib.ListN.{length}
-use Rattle.kernel.specs.Definition.Reset.{noTables}
+use Rattle.kernel.specs.Definition.Start.{noTables}
 use Rattle.kernel.specs.Definition.Step.{Result}
 use Rattle.image.specs.Definition.Image.{answerBytes}
 use Rattle.replay.specs.Definition.Replay.{records, bytesOf, replayed, before}

@@ -18,7 +18,7 @@ use Rattle.kernel.specs.Definition.Tables.{classAt, rowOf, channelAt}
 use Rattle.kernel.specs.Definition.Line.{sizeAt, bufferAt, opening, closing}
 use Rattle.kernel.specs.Definition.Segments.{granting, sharingLast, freeing, bounding}
 use Rattle.kernel.specs.Definition.Devices.{linking}
-use Rattle.kernel.specs.Definition.Reset.{started}
+use Rattle.kernel.specs.Definition.Start.{started}
 use Rattle.kernel.specs.Definition.Answers.{granted}
 use Rattle.kernel.specs.Definition.Calls.{Call, read}
 use Rattle.kernel.specs.Definition.Step.{ramOpened, ramAfter, outputAfter, completed, step}

@@ -6,7 +6,7 @@ use native.Mathlib.Omega.{arith}
 use Rattle.names.specs.Definition.Tests.{lettersTest}
 use Rattle.rows.specs.Definition.Lists.{upTo}
 use Rattle.rows.specs.Definition.Sizes.{chainLength, boundaryAt}
-use Rattle.kernel.specs.Definition.Reset.{noTables}
+use Rattle.kernel.specs.Definition.Start.{noTables}
 use Rattle.kernel.specs.Definition.Line.{grown, shrunk}
 use Rattle.kernel.specs.Definition.Calls.{start, link, allocate}
 use Rattle.kernel.specs.Definition.Step.{decided}

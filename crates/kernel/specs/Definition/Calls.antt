@@ -14,7 +14,8 @@ use Rattle.kernel.specs.Definition.Tables.{SEGMENT, numberAt, rowOf, low
 use Rattle.kernel.specs.Definition.Line.{totalOf, sizeAt, boundaryOf, roomFor, opening, closing}
 use Rattle.kernel.specs.Definition.Segments.{someFree, mayShare, granting, sharingLast, mayFree, freeing, bounding, mayReach, reachOf, guarded}
 use Rattle.kernel.specs.Definition.Devices.{linking}
-use Rattle.kernel.specs.Definition.Reset.{otherBits, resetting, startTest, started}
+use Rattle.kernel.specs.Definition.Reset.{otherBits, resetting}
+use Rattle.kernel.specs.Definition.Start.{startTest, started}
 use Rattle.kernel.specs.Definition.Names.{wanted, deviceFor}
 use Rattle.kernel.specs.declared.Wanted.{Wanted}
 use Rattle.kernel.specs.Definition.Answers.{gives, unless, _when_}

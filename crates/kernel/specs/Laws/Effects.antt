@@ -20,7 +20,8 @@ use Rattle.kernel.specs.Definition.Tables.{classAt, rowOf, lowestFree, s
 use Rattle.kernel.specs.Definition.Line.{totalOf, sizeAt, boundaryOf, roomFor, opening, closing}
 use Rattle.kernel.specs.Definition.Segments.{classFor, someFree, mayShare, mayFree, granting, sharingLast, freeing, bounding, mayReach, reachOf, guarded}
 use Rattle.kernel.specs.Definition.Devices.{linking}
-use Rattle.kernel.specs.Definition.Reset.{otherBits, resetting, startTest, started}
+use Rattle.kernel.specs.Definition.Reset.{otherBits, resetting}
+use Rattle.kernel.specs.Definition.Start.{startTest, started}
 use Rattle.kernel.specs.Definition.Names.{wanted, deviceFor}
 use Rattle.kernel.specs.declared.Wanted.{Wanted}
 use Rattle.kernel.specs.Definition.Answers.{numberOf, granted, gives}

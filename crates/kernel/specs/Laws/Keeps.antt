@@ -7,7 +7,7 @@ use native.Mathlib.Omega.{arith}
 use lib.ListN.{length}
 use Rattle.names.specs.Definition.Words.{wordOf}
 use Rattle.rows.specs.Definition.Lists.{upTo}
-use Rattle.kernel.specs.Definition.Reset.{startTest, started}
+use Rattle.kernel.specs.Definition.Start.{startTest, started}
 use Rattle.kernel.specs.Definition.Answers.{granted, gives}
 use Rattle.kernel.specs.Definition.Calls.{Call, start, onStart}
 use Rattle.kernel.specs.Definition.Good.{Good}

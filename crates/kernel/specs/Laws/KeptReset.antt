@@ -20,7 +20,8 @@ use Rattle.rows.specs.Laws.DeviceRows.{built}
 use Rattle.rows.specs.declared.Channel.{Channel}
 use Rattle.kernel.specs.Definition.Tables.{SEGMENT, withChannels}
 use Rattle.kernel.specs.Definition.Line.{totalOf}
-use Rattle.kernel.specs.Definition.Reset.{bit4, bit5, bit6, emptying, restoring, releasing, resetting, startTest, started}
+use Rattle.kernel.specs.Definition.Reset.{bit4, bit5, bit6, emptying, restoring, releasing, resetting}
+use Rattle.kernel.specs.Definition.Start.{startTest, started}
 use Rattle.kernel.specs.Definition.Good.{Good}
 use Rattle.kernel.specs.Laws.Arrays.{length-padded}
 use Rattle.kernel.specs.Laws.Body.{body, whole, body-segments, body-channels, body-devices}

@@ -1,7 +1,7 @@
 -- Good tables, lent RAM of their size, are never refused for the tables, and a call leaves them so.
 use mathlib.Core.Path.{_≡_, refl, ap, sym, _∙_}
 use mathlib.Core.Bool.{Bool, true, false, cond, not, _&&_, _||_, false≢true}
-use mathlib.Core.List.{List, []}
+use mathlib.Core.List.{List}
 use Prim.Native.Nat.{ℕ, _-_, _*_, _+_}
 use native.Mathlib.Decide.{ℕ-discrete}
 use native.Mathlib.Omega.{arith}
@@ -20,7 +20,8 @@ use Rattle.kernel.specs.Definition.Tables.{SEGMENT, ramSize, classAt, wi
 use Rattle.kernel.specs.Definition.Line.{totalOf, opening, closing}
 use Rattle.kernel.specs.Definition.Segments.{granting, sharingLast, freeing, bounding}
 use Rattle.kernel.specs.Definition.Devices.{linking}
-use Rattle.kernel.specs.Definition.Reset.{bit4, bit5, bit6, emptying, restoring, releasing, resetting, startTest, started}
+use Rattle.kernel.specs.Definition.Reset.{bit4, bit5, bit6, emptying, restoring, releasing, resetting}
+use Rattle.kernel.specs.Definition.Start.{startTest, started}
 use Rattle.kernel.specs.Definition.Answers.{numberOf, granted, gives}
 use Rattle.kernel.specs.Definition.Calls.{Call, start, isStart}
 use Rattle.kernel.specs.Definition.Good.{Good}

@@ -5,7 +5,7 @@ use Prim.Native.Nat.{ℕ, zero, suc, _-_, _*_, min}
 use lib.ListN.{length, take, drop, replicate}
 use lib.Dec.{ltb, eqb}
 use Rattle.kernel.specs.Definition.Tables.{SEGMENT}
-use Rattle.kernel.specs.Definition.Reset.{noTables}
+use Rattle.kernel.specs.Definition.Start.{noTables}
 use Rattle.kernel.specs.Definition.Answers.{numberOf, aOf, bOf}
 use Rattle.kernel.specs.Definition.Step.{Result}
 use Rattle.kernel.specs.declared.Tables.{Tables}

@@ -19,7 +19,7 @@ use Rattle.kernel.specs.Definition.Step.{Result, decided, completed}
 use Rattle.kernel.specs.declared.Tables.{Tables}
 use Rattle.events.specs.Definition.Records.{u16At, found, next, startIn, openIn, closeIn, readIn, writeIn, boundaryIn, callIn}
 use Rattle.text.specs.Definition.Text.{decimalIn, decimalOf, fieldsOf}
-use Rattle.kernel.specs.Definition.Reset.{noTables}
+use Rattle.kernel.specs.Definition.Start.{noTables}
 use Rattle.listing.specs.Definition.Log.{showsOf, lineOf, lineAfter, lentTo, logStep, textFrom, listing}
 use Rattle.listing.specs.Laws.Log.{text-found, text-finished, log-full}
 

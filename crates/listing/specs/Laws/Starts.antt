@@ -14,7 +14,7 @@ use Rattle.kernel.specs.declared.Tables.{Tables}
 use Rattle.kernel.specs.declared.Answer.the-variants.{BadTables, BadCall, BadStart}
 use Rattle.events.specs.Definition.Records.{u16At, startIn, callIn}
 use Rattle.events.specs.Laws.Bodies.{Bytes, call-fields, no-start}
-use Rattle.kernel.specs.Definition.Reset.{noTables}
+use Rattle.kernel.specs.Definition.Start.{noTables}
 use Rattle.listing.specs.Definition.Log.{lentTo, logStep}
 
 barred : (ram output : ℕ) (c : Call) → isStart c ≡ false → decided noTables ram output c ≡ gives BadTables noTables

@@ -10,7 +10,7 @@ use lib.Dec.{ltb}
 use lib.ListN.{length}
 use Rattle.rows.specs.Definition.Lists.{upTo}
 use Rattle.rows.specs.Laws.Lists.{and-left, and-right}
-use Rattle.kernel.specs.Definition.Reset.{noTables}
+use Rattle.kernel.specs.Definition.Start.{noTables}
 use Rattle.kernel.specs.Definition.Step.{decided, completed, step}
 use Rattle.events.specs.Laws.Bodies.{Bytes}
 use Rattle.events.specs.Definition.Records.{next, startIn, callIn}

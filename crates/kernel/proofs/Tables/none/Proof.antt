@@ -1,6 +1,6 @@
 -- `Tables::none` meets its contract.
 use mathlib.Core.Path.{refl}
-use Rattle.kernel.specs.Definition.Reset.{noTables}
+use Rattle.kernel.specs.Definition.Start.{noTables}
 use Rattle.kernel.proofs.Tables.none.Statement.{statement}
 use Rattle.kernel.proofs.Tables.none.Tie as tie
 
