@@ -34,12 +34,12 @@ unfolding grown
 grown-none k t = let e : k - k ≡ 0 = omega arith in rw e
 
 -- T, as the code sums it
-pub end-of : (t : Tables) (count end : ℕ) → count ≡ t .opened → end ≡ sumOf (take count (t .channels)) → end ≡ totalOf t
-end-of t count end e f = rw (f, e)
+pub total-of : (t : Tables) (count total : ℕ) → count ≡ t .opened → total ≡ sumOf (take count (t .channels)) → total ≡ totalOf t
+total-of t count total e f = rw (f, e)
 
 -- T is no more than 32 segments hold under the highest room
-pub end-most : (t : Tables) → Good t → (end : ℕ) → end ≡ totalOf t → end ≤ 524032
-end-most t g end e = omega (arith, line-fits (t .room) (totalOf t), g .line, g .chain .most, g .room .most, g .room .top)
+pub total-most : (t : Tables) → Good t → (total : ℕ) → total ≡ totalOf t → total ≤ 524032
+total-most t g total e = omega (arith, line-fits (t .room) (totalOf t), g .line, g .chain .most, g .room .most, g .room .top)
 
 -- the room rule, with a segment shared and with none
 module _ (t : Tables) (room n segments held row : ℕ) (count : segments ≡ t .segments) (links : held ≡ t .held) (f : row ≡ firstOf SHARED (take segments (t .classes))) where

@@ -36,8 +36,8 @@ neither true y e = absurd (true≢false e)
 neither false y e = (refl, e)
 
 -- the device added
-module _ (t : Tables) (m : ℕ) (name : List ℕ) (end long held more : ℕ) (b : end ≡ totalOf t)
-    (e : long ≡ chainLength (t .room - m) end) (f : held ≡ t .held) (d : more ≡ long - held) where
+module _ (t : Tables) (m : ℕ) (name : List ℕ) (total long held more : ℕ) (b : total ≡ totalOf t)
+    (e : long ≡ chainLength (t .room - m) total) (f : held ≡ t .held) (d : more ≡ long - held) where
   growth : more ≡ chainLength (t .room - m) (totalOf t) - t .held
   growth = rw (d, f, e, b)
 
@@ -58,8 +58,8 @@ module _ (t : Tables) (m room size : ℕ) (a : room ≡ t .room) (b : size ≡ m
   pub room-low : room < 256 + size → false ≡ roomToLink t m
   room-low h = let g : t .room < 256 + m = rw (a, b) at h in rw (lt-ltb _ _ g)
 
-  pub room-left : (end : ℕ) (ok : Bool) → 256 + size ≤ room → end ≡ totalOf t → ok ≡ roomFor t (t .room - m) end → ok ≡ roomToLink t m
-  room-left end ok h e r =
+  pub room-left : (total : ℕ) (ok : Bool) → 256 + size ≤ room → total ≡ totalOf t → ok ≡ roomFor t (t .room - m) total → ok ≡ roomToLink t m
+  room-left total ok h e r =
       let g : 256 + m ≤ t .room = rw (a, b) at h in
       rw (le-ltb _ _ g, twice) (rw (r, e))
 
@@ -95,11 +95,11 @@ module _ (t : Tables) (m : ℕ) (name : List ℕ) (ok : Bool) (n : ok ≡ linkNa
 
 -- the line moved
 module _ (t : Tables) (m : ℕ) (name : List ℕ) (g : Good t) (l : Links t m name) (next : Tables) (e : next ≡ linking t m (wordOf name) (length name))
-    (room size end : ℕ) (a : room ≡ t .room) (b : size ≡ m) (d : end ≡ totalOf t) where
-  pub link-chain : (bytes : ℕ) → bytes ≡ ramSize t → (size ≤ room) × Chain (next .chain) room (end + size) bytes
+    (room size total : ℕ) (a : room ≡ t .room) (b : size ≡ m) (d : total ≡ totalOf t) where
+  pub link-chain : (bytes : ℕ) → bytes ≡ ramSize t → (size ≤ room) × Chain (next .chain) room (total + size) bytes
   link-chain bytes h = (omega (arith, l .least), rw (a, b, d, e) (linking-chain t m name g l bytes h))
 
-  pub link-done : (ram after out : List ℕ) → after ≡ afterLink (next .chain) room size ram end
+  pub link-done : (ram after out : List ℕ) → after ≡ afterLink (next .chain) room size ram total
       → onLink t m name ≡ gives (Done (t .known) (t .room - m)) (linking t m (wordOf name) (length name))
       → result (gives (Done (t .known) (next .room)) next) after out ≡ completed t (onLink t m name) ram (link m name) out
   unfolding completed

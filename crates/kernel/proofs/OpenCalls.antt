@@ -101,8 +101,8 @@ module _ (t : Tables) (s : List ℕ) (letters : ℕ) (number : UnitNumber) (word
       rw (e, f) v
 
 -- the row appended
-module _ (t : Tables) (c : Channel) (end size long held more : ℕ) (b : end ≡ totalOf t) (d : size ≡ c .n)
-    (e : long ≡ chainLength (t .room) (end + (16 + size))) (f : held ≡ t .held) (m : more ≡ long - held) where
+module _ (t : Tables) (c : Channel) (total size long held more : ℕ) (b : total ≡ totalOf t) (d : size ≡ c .n)
+    (e : long ≡ chainLength (t .room) (total + (16 + size))) (f : held ≡ t .held) (m : more ≡ long - held) where
   growth : more ≡ chainLength (t .room) (totalOf t + (16 + c .n)) - t .held
   growth = rw (m, f, e, d, b)
 
@@ -119,8 +119,8 @@ module _ (t : Tables) (c : Channel) where
   unfolding onOpenRow
   row-full h = rw (le-leb _ _ h)
 
-  module _ (end size : ℕ) (ok : Bool) (few : t .opened < 32) (b : end ≡ totalOf t) (d : size ≡ c .n)
-      (r : ok ≡ roomFor t (t .room) (end + (16 + size))) where
+  module _ (total size : ℕ) (ok : Bool) (few : t .opened < 32) (b : total ≡ totalOf t) (d : size ≡ c .n)
+      (r : ok ≡ roomFor t (t .room) (total + (16 + size))) where
     room-is : ok ≡ roomFor t (t .room) (totalOf t + (16 + c .n))
     room-is = rw (r, d, b)
 
@@ -132,9 +132,9 @@ module _ (t : Tables) (c : Channel) where
     row-fits n = record { few = few; room = sym room-is ∙ not-false _ n }
 
   module _ (g : Good t) (new : New t c) (fits : Fits t c) (next : Tables) (e : next ≡ opening t c) where
-    pub row-chain : (room end size : ℕ) → room ≡ t .room → end ≡ totalOf t → size ≡ ramSize t → Chain (next .chain) room (end + 16 + c .n) size
-    row-chain room end size a b d =
-        let z : end + 16 + c .n ≡ totalOf t + (16 + c .n) = omega arith in
+    pub row-chain : (room total size : ℕ) → room ≡ t .room → total ≡ totalOf t → size ≡ ramSize t → Chain (next .chain) room (total + 16 + c .n) size
+    row-chain room total size a b d =
+        let z : total + 16 + c .n ≡ totalOf t + (16 + c .n) = omega arith in
         rw (z, a, e) (opening-chain t c g new fits size d)
 
     row-answer : onOpenRow t c ≡ gives (Done (c .device) (c .unit)) next
@@ -144,11 +144,11 @@ module _ (t : Tables) (c : Channel) where
     row-ram : (ram : List ℕ) → afterOpen (next .chain) (t .room) ram (totalOf t) (c .number) (c .device) (c .unit) (c .n) ≡ ramOpened t next ram
     row-ram ram = rw (e, opening-row t c g new fits)
 
-    pub row-done : (room end : ℕ) (ram after out : List ℕ) → room ≡ t .room → end ≡ totalOf t
-        → after ≡ afterOpen (next .chain) room ram end (c .number) (c .device) (c .unit) (c .n)
+    pub row-done : (room total : ℕ) (ram after out : List ℕ) → room ≡ t .room → total ≡ totalOf t
+        → after ≡ afterOpen (next .chain) room ram total (c .number) (c .device) (c .unit) (c .n)
         → result (gives (Done (c .device) (c .unit)) next) after out ≡ completed t (onOpenRow t c) ram («open» (c .number) 0 (c .n) []) out
-    row-done room end ram after out a b h =
-        let k : afterOpen (next .chain) room ram end (c .number) (c .device) (c .unit) (c .n) ≡ ramOpened t next ram = rw (a, b) (row-ram ram) in
+    row-done room total ram after out a b h =
+        let k : afterOpen (next .chain) room ram total (c .number) (c .device) (c .unit) (c .n) ≡ ramOpened t next ram = rw (a, b) (row-ram ram) in
         done t (onOpenRow t c) next (c .device) (c .unit) ram after out (c .number) 0 (c .n) [] row-answer (h ∙ k)
 
 -- the device, and the status of its driver

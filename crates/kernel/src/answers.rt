@@ -1,7 +1,9 @@
-// The answers: 01's number and values for each.
+// The answers: 01's number and values for each, and what a refusal leaves.
 ghost use mathlib.Core.Path.{_≡_};
-ghost use Rattle.kernel.specs.Definition.Answers.{numberOf, aOf, bOf};
+ghost use Rattle.kernel.specs.Definition.Answers.{numberOf, aOf, bOf, gives};
 use super::Answer;
+use super::Outcome;
+use super::Tables;
 
 impl Answer {
     pub fn number(self) -> u8
@@ -48,6 +50,18 @@ impl Answer {
             Answer::Shared(_, b) => b,
             Answer::Driver(_) => 0,
             _ => 0,
+        }
+    }
+}
+
+impl Tables {
+    // A refusal leaves the tables.
+    pub fn refuse(self, answer: Answer) -> Outcome
+        ensures { λ r. ⌜ r ≡ gives answer self ⌝ }
+    {
+        Outcome {
+            answer,
+            tables: self,
         }
     }
 }

@@ -51,9 +51,9 @@ impl Tables {
         let chain = self.chain;
         let channels = self.channels;
         let start = total(channels, i);
-        let line = total(channels, wide(self.opened));
+        let total = total(channels, wide(self.opened));
         let n = wide16(channels[i].n);
-        close_record(ram, &chain, wide16(self.room), start, 16 + n, line);
+        close_record(ram, &chain, wide16(self.room), start, 16 + n, total);
     }
 
     pub fn close(self, ram: &mut [u8], channel: u8) -> Outcome

@@ -1,15 +1,10 @@
 // Good tables: the test that a public call runs first.
 ghost use mathlib.Core.Path.{_≡_};
 ghost use mathlib.Core.Bool.{true, _&&_};
-ghost use Prim.Native.Nat.{_≤_};
 ghost use lib.Dec.{leb};
 ghost use Rattle.rows.specs.Definition.Lists.{at};
 ghost use Rattle.kernel.specs.Definition.Good.{Good, goodTest};
-ghost use Rattle.kernel.specs.Definition.Line.{boundaryOf};
-ghost use Rattle.kernel.specs.Definition.Answers.{gives};
 ghost use Rattle.kernel.specs.Definition.Step.{accepted};
-use super::Answer;
-use super::Outcome;
 use super::Tables;
 use rows::channels::channel_test;
 use rows::channels::total;
@@ -55,20 +50,28 @@ impl Tables {
         let channels = self.channels;
         let devices = self.devices;
         let name = self.name;
-        let line = total(channels, opened);
+        let total = total(channels, opened);
         let last = wide(chain[held - 1]);
         let class = class_at(classes, last);
-        let edge = boundary_at(self.room, line);
-        let a = list_test(list, segments);
-        let b = class_test(classes, segments);
-        let c = room_test(self.room, self.cold);
-        let d = chain_test(classes, chain, held, segments);
-        let e = channel_test(channels, opened, known);
-        let f = held == chain_length(self.room, line);
-        let g = user_test(class, self.user, edge);
-        let h = device_test(devices, known);
-        let i = default_test(name, self.length, self.unit);
-        a & b & c & d & e & f & g & h & i
+        let edge = boundary_at(self.room, total);
+        let list_good = list_test(list, segments);
+        let classes_good = class_test(classes, segments);
+        let room_good = room_test(self.room, self.cold);
+        let chain_good = chain_test(classes, chain, held, segments);
+        let channels_good = channel_test(channels, opened, known);
+        let length_good = held == chain_length(self.room, total);
+        let user_good = user_test(class, self.user, edge);
+        let devices_good = device_test(devices, known);
+        let name_good = default_test(name, self.length, self.unit);
+        list_good
+            & classes_good
+            & room_good
+            & chain_good
+            & channels_good
+            & length_good
+            & user_good
+            & devices_good
+            & name_good
     }
 
     // Good tables, and a RAM of their length.
@@ -80,25 +83,5 @@ impl Tables {
         }
         let segments = wide(self.segments);
         ram == 16384 * segments
-    }
-
-    // A refusal leaves the tables.
-    pub fn refuse(self, answer: Answer) -> Outcome
-        ensures { λ r. ⌜ r ≡ gives answer self ⌝ }
-    {
-        Outcome {
-            answer,
-            tables: self,
-        }
-    }
-
-    // The EXOS boundary.
-    pub fn exos_boundary(self) -> u16
-        requires { ⌜ self .opened ≤ 32 ⌝ }
-        ensures { λ r. ⌜ r ≡ boundaryOf self ⌝ }
-    {
-        let channels = self.channels;
-        let opened = wide(self.opened);
-        boundary_at(self.room, total(channels, opened))
     }
 }

@@ -1,8 +1,9 @@
-// How the chain grows, and the room rule.
+// How the chain grows, the EXOS boundary, and the room rule.
 ghost use mathlib.Core.Path.{_≡_};
 ghost use Prim.Native.Nat.{_+_, _≤_, _<_};
-ghost use Rattle.kernel.specs.Definition.Line.{oneMore, grown, roomFor};
+ghost use Rattle.kernel.specs.Definition.Line.{oneMore, grown, boundaryOf, roomFor};
 use super::Tables;
+use rows::channels::total;
 use rows::numbers::less;
 use rows::numbers::wide;
 use rows::numbers::wide16;
@@ -43,6 +44,16 @@ impl Tables {
             i = i + 1;
         }
         t
+    }
+
+    // The EXOS boundary.
+    pub fn exos_boundary(self) -> u16
+        requires { ⌜ self .opened ≤ 32 ⌝ }
+        ensures { λ r. ⌜ r ≡ boundaryOf self ⌝ }
+    {
+        let channels = self.channels;
+        let opened = wide(self.opened);
+        boundary_at(self.room, total(channels, opened))
     }
 
     // The room rule, for a line of length `n` at the room `room`.

@@ -2,9 +2,9 @@
 use rows::Channel;
 use rows::Device;
 
-pub mod answers; // the numbers and values of the answers
+pub mod answers; // the numbers and values of the answers, and a refusal
 pub mod good; // the test for good tables
-pub mod grow; // how the chain grows, and the room rule
+pub mod grow; // how the chain grows, the EXOS boundary, and the room rule
 pub mod shrink; // how the chain gives segments up
 pub mod start; // start
 pub mod reset; // reset

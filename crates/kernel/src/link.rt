@@ -27,13 +27,13 @@ use rows::numbers::wide16;
 use rows::sizes::chain_length;
 
 impl Tables {
-    // The tables with one device more, an older one of its name disabled, and the chain as long as the line takes; `end` is T.
-    fn add_device(self, m: u16, name: &[u8], end: usize) -> Tables
-        requires { ⌜ Good self × Links self m (now name) × (end ≡ totalOf self) ⌝ }
+    // The tables with one device more, an older one of its name disabled, and the chain as long as the line takes; `total` is T.
+    fn add_device(self, m: u16, name: &[u8], total: usize) -> Tables
+        requires { ⌜ Good self × Links self m (now name) × (total ≡ totalOf self) ⌝ }
         ensures { λ r. ⌜ r ≡ linking self m (wordOf (now (name .entry))) (length (now (name .entry))) ⌝ }
     {
         let room = self.room - m;
-        let more = less(chain_length(room, end), wide(self.held));
+        let more = less(chain_length(room, total), wide(self.held));
         let bytes = word(name, name.len());
         let length = name.len() as u8;
         let devices = self.devices;
@@ -55,15 +55,15 @@ impl Tables {
         next.grow(more)
     }
 
-    // The room rule, for a device with `m` bytes; `end` is T.
-    fn room_to_link(self, m: u16, end: usize) -> bool
-        requires { ⌜ Good self × (end ≡ totalOf self) ⌝ }
+    // The room rule, for a device with `m` bytes; `total` is T.
+    fn room_to_link(self, m: u16, total: usize) -> bool
+        requires { ⌜ Good self × (total ≡ totalOf self) ⌝ }
         ensures { λ r. ⌜ r ≡ roomToLink self m ⌝ }
     {
         if wide16(self.room) < 256 + wide16(m) {
             return false;
         }
-        self.room_for(self.room - m, end)
+        self.room_for(self.room - m, total)
     }
 
     pub fn link(self, ram: &mut [u8], m: u16, name: &[u8]) -> Outcome
@@ -86,13 +86,13 @@ impl Tables {
             return self.refuse(Answer::Full);
         }
         let channels = self.channels;
-        let end = total(channels, wide(self.opened));
-        if !self.room_to_link(m, end) {
+        let total = total(channels, wide(self.opened));
+        if !self.room_to_link(m, total) {
             return self.refuse(Answer::NoRoom);
         }
-        let next = self.add_device(m, name, end);
+        let next = self.add_device(m, name, total);
         let chain = next.chain;
-        link_line(ram, &chain, wide16(self.room), wide16(m), end);
+        link_line(ram, &chain, wide16(self.room), wide16(m), total);
         Outcome {
             answer: Answer::Done(self.known, next.room),
             tables: next,

@@ -80,13 +80,13 @@ impl Tables {
         }
     }
 
-    // The tables with one row more, and the chain as long as the line takes; `end` is T, where the record starts.
-    fn append(self, c: Channel, end: usize) -> Tables
-        requires { ⌜ Good self × New self c × Fits self c × (end ≡ totalOf self) ⌝ }
+    // The tables with one row more, and the chain as long as the line takes; `total` is T, where the record starts.
+    fn append(self, c: Channel, total: usize) -> Tables
+        requires { ⌜ Good self × New self c × Fits self c × (total ≡ totalOf self) ⌝ }
         ensures { λ r. ⌜ r ≡ opening self c ⌝ }
     {
         let opened = wide(self.opened);
-        let size = end + (16 + wide16(c.n));
+        let size = total + (16 + wide16(c.n));
         let more = less(chain_length(self.room, size), wide(self.held));
         let mut next = self;
         next.opened = self.opened + 1;
@@ -107,18 +107,18 @@ impl Tables {
             return self.refuse(Answer::Full);
         }
         let channels = self.channels;
-        let end = total(channels, wide(self.opened));
+        let total = total(channels, wide(self.opened));
         let room = self.room;
-        if !self.room_for(room, end + (16 + wide16(c.n))) {
+        if !self.room_for(room, total + (16 + wide16(c.n))) {
             return self.refuse(Answer::NoRoom);
         }
-        let next = self.append(c, end);
+        let next = self.append(c, total);
         let chain = next.chain;
         open_record(
             ram,
             &chain,
             wide16(room),
-            end,
+            total,
             c.number,
             c.device,
             c.unit,

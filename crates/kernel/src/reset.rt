@@ -87,8 +87,8 @@ impl Tables {
     {
         let chain = self.chain;
         let channels = self.channels;
-        let line = total(channels, wide(self.opened));
-        clear(ram, &chain, wide16(self.room), 0, line);
+        let total = total(channels, wide(self.opened));
+        clear(ram, &chain, wide16(self.room), 0, total);
     }
 
     // The RAM that the cold R gains becomes zero.

@@ -1,7 +1,7 @@
 -- `Tables::add_device` meets its contract.
 use borrow.Author.Needs.{needs}
 use Rattle.kernel.proofs.NoChange.{grown-none}
-use Rattle.kernel.proofs.GrowCalls.{end-most}
+use Rattle.kernel.proofs.GrowCalls.{total-most}
 use Rattle.kernel.proofs.LinkCalls.{device-held, device-made}
 use Rattle.kernel.proofs.Tables.add_device.Statement.{statement}
 use Rattle.kernel.proofs.Tables.add_device.Tie as tie
@@ -10,7 +10,7 @@ sub-room : tie.Need-sub-room
 sub-room c = search needs
 
 chain-length-requires : tie.Need-chain-length-requires
-chain-length-requires c κs = let s = c .before .before in let h = end-most _ (s .pre .0) _ (s .pre .2) in search needs
+chain-length-requires c κs = let s = c .before .before in let h = total-most _ (s .pre .0) _ (s .pre .2) in search needs
 
 wide-requires : tie.Need-wide-requires
 wide-requires c κs = search needs

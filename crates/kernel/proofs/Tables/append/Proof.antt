@@ -2,14 +2,14 @@
 use Prim.Native.Nat.{_≤_}
 use borrow.Author.Needs.{needs}
 use Rattle.kernel.proofs.NoChange.{grown-none}
-use Rattle.kernel.proofs.GrowCalls.{end-most}
+use Rattle.kernel.proofs.GrowCalls.{total-most}
 use Rattle.kernel.proofs.OpenCalls.{append-held, append-made}
 use Rattle.kernel.proofs.Tables.append.Statement.{statement}
 use Rattle.kernel.proofs.Tables.append.Tie as tie
 
 -- the line is short enough for the sums
-short : (c : tie.Start) → c .args .end ≤ 524032
-short c = end-most _ (c .pre .0) _ (c .pre .3)
+short : (c : tie.Start) → c .args .total ≤ 524032
+short c = total-most _ (c .pre .0) _ (c .pre .3)
 
 wide-requires : tie.Need-wide-requires
 wide-requires c κs = search needs

@@ -4,14 +4,14 @@ use borrow.Author.Needs.{needs}
 use Rattle.kernel.specs.Definition.Line.{totalOf}
 use Rattle.kernel.specs.Laws.Links.{Links}
 use Rattle.kernel.proofs.Refusing.{refused}
-use Rattle.kernel.proofs.GrowCalls.{end-of}
+use Rattle.kernel.proofs.GrowCalls.{total-of}
 use Rattle.kernel.proofs.LinkCalls.{link-unnamed, link-full, link-none, link-answer, links-of, link-chain, link-done}
 use Rattle.kernel.proofs.Tables.link_good.Statement.{statement}
 use Rattle.kernel.proofs.Tables.link_good.Tie as tie
 
--- the line's end is T
-end : (c : tie.After-total) → c .total .result ≡ totalOf (c .before .before .before .before .before .before .before .before .before .args .self)
-end c = end-of (c .before .before .before .before .before .before .before .before .before .args .self) _ _ (c .before .wide .ensures .0) (c .total .ensures .0)
+-- the line's length is T
+total : (c : tie.After-total) → c .total .result ≡ totalOf (c .before .before .before .before .before .before .before .before .before .args .self)
+total c = total-of (c .before .before .before .before .before .before .before .before .before .args .self) _ _ (c .before .wide .ensures .0) (c .total .ensures .0)
 
 -- once the room is known: the device may be linked
 links : (c : tie.Else3) →
@@ -43,7 +43,7 @@ total-requires : tie.Need-total-requires
 total-requires c κs = search needs
 
 room-to-link-requires : tie.Need-room-to-link-requires
-room-to-link-requires c κs = (c .before .before .before .before .before .before .before .before .before .pre .0, end c)
+room-to-link-requires c κs = (c .before .before .before .before .before .before .before .before .before .pre .0, total c)
 
 refuse-requires-3 : tie.Need-refuse-requires-3
 refuse-requires-3 c κs = search needs
@@ -56,7 +56,7 @@ returns-3 c =
     (c .before .before .before .before .before .before .if2 .left) _ (c .before .before .room-to-link .ensures) (c .before .if3 .taken))
 
 add-device-requires : tie.Need-add-device-requires
-add-device-requires c κs = (c .before .before .before .before .before .before .before .before .before .before .before .pre .0, links c, end (c .before .before))
+add-device-requires c κs = (c .before .before .before .before .before .before .before .before .before .before .before .pre .0, links c, total (c .before .before))
 
 wide16-requires : tie.Need-wide16-requires
 wide16-requires c κs = search needs
@@ -70,7 +70,7 @@ link-line-requires c κs =
     let d = a .before in
     let s = d .before .before .before .before .before .before .before .before .before .before .before in
     link-chain (s .args .self) _ _ (s .pre .0) (links d) _ (a .add-device .ensures) _ _ _ (c .before .wide16 .ensures .0) (c .wide162 .ensures .0)
-    (end (d .before .before)) _ (s .pre .1)
+    (total (d .before .before)) _ (s .pre .1)
 
 same-length : tie.Need-same-length
 same-length c = search needs
@@ -82,7 +82,7 @@ returns-4 c =
     let d = a .before in
     let s = d .before .before .before .before .before .before .before .before .before .before .before in
     λ out. link-done (s .args .self) _ _ (s .pre .0) (links d) _ (a .add-device .ensures) _ _ _ (w .before .wide16 .ensures .0) (w .wide162 .ensures .0)
-    (end (d .before .before)) _ _ out (c .before .before .link-line .ensures)
+    (total (d .before .before)) _ _ out (c .before .before .link-line .ensures)
     (link-answer _ _ _ _ (d .before .before .before .before .before .before .before .before .link-name .ensures) (d .before .before .before .before .before .before .before .if1 .left)
     (d .before .before .before .before .before .if2 .left) _ (d .before .room-to-link .ensures) (d .if3 .left))
 

@@ -4,19 +4,19 @@ use borrow.Author.Needs.{needs}
 use Rattle.kernel.specs.Definition.Line.{totalOf}
 use Rattle.kernel.specs.Laws.Opens.{Fits}
 use Rattle.kernel.proofs.Refusing.{refused}
-use Rattle.kernel.proofs.GrowCalls.{end-of}
+use Rattle.kernel.proofs.GrowCalls.{total-of}
 use Rattle.kernel.proofs.OpenCalls.{row-full, row-none, row-fits, row-chain, row-done}
 use Rattle.kernel.proofs.Tables.open_row.Statement.{statement}
 use Rattle.kernel.proofs.Tables.open_row.Tie as tie
 
--- the line's end is T
-end : (c : tie.After-total) → c .total .result ≡ totalOf (c .before .before .before .before .before .before .args .self)
-end c = end-of (c .before .before .before .before .before .before .args .self) _ _ (c .before .wide .ensures .0) (c .total .ensures .0)
+-- the line's length is T
+total : (c : tie.After-total) → c .total .result ≡ totalOf (c .before .before .before .before .before .before .args .self)
+total c = total-of (c .before .before .before .before .before .before .args .self) _ _ (c .before .wide .ensures .0) (c .total .ensures .0)
 
 -- once the room is known: the record fits
 fits : (c : tie.Else2) → Fits (c .before .before .before .before .before .before .before .before .before .args .self) (c .before .before .before .before .before .before .before .before .before .args .c)
 fits c =
-    row-fits _ _ _ _ _ (c .before .before .before .before .before .before .if1 .left) (end (c .before .before .before)) (c .before .before .wide16 .ensures .0) (c .before .room-for .ensures) (c .if2 .left)
+    row-fits _ _ _ _ _ (c .before .before .before .before .before .before .if1 .left) (total (c .before .before .before)) (c .before .before .wide16 .ensures .0) (c .before .room-for .ensures) (c .if2 .left)
 
 refuse-requires : tie.Need-refuse-requires
 refuse-requires c κs = search needs
@@ -49,13 +49,13 @@ returns-2 : tie.Need-returns-2
 returns-2 c =
     let s = c .before .before .before .before .before .before .before .before .before .before in
     λ out. refused (s .args .self) _ _ _ _ _ out (c .refuse2 .ensures) refl
-    (row-none (s .args .self) (s .args .c) _ _ _ (c .before .before .before .before .before .before .before .if1 .left) (end (c .before .before .before .before)) (c .before .before .before .wide16 .ensures .0) (c .before .before .room-for .ensures)
+    (row-none (s .args .self) (s .args .c) _ _ _ (c .before .before .before .before .before .before .before .if1 .left) (total (c .before .before .before .before)) (c .before .before .before .wide16 .ensures .0) (c .before .before .room-for .ensures)
     (c .before .if2 .taken))
 
 append-requires : tie.Need-append-requires
 append-requires c κs =
     let s = c .before .before .before .before .before .before .before .before .before in
-    (s .pre .0, s .pre .2, fits c, end (c .before .before .before))
+    (s .pre .0, s .pre .2, fits c, total (c .before .before .before))
 
 wide16-requires-2 : tie.Need-wide16-requires-2
 wide16-requires-2 c κs = search needs
@@ -65,7 +65,7 @@ open-record-requires c κs =
     let a = c .before .before .before .before in
     let d = a .before in
     let s = d .before .before .before .before .before .before .before .before .before in
-    row-chain (s .args .self) (s .args .c) (s .pre .0) (s .pre .2) (fits d) _ (a .append .ensures) _ _ _ (c .wide162 .ensures .0) (end (d .before .before .before)) (s .pre .1)
+    row-chain (s .args .self) (s .args .c) (s .pre .0) (s .pre .2) (fits d) _ (a .append .ensures) _ _ _ (c .wide162 .ensures .0) (total (d .before .before .before)) (s .pre .1)
 
 cast-t20 : tie.Need-cast-t20
 cast-t20 c = search needs
@@ -79,7 +79,7 @@ returns-3 c =
     let a = w .before .before .before .before in
     let d = a .before in
     let s = d .before .before .before .before .before .before .before .before .before in
-    λ out. row-done (s .args .self) (s .args .c) (s .pre .0) (s .pre .2) (fits d) _ (a .append .ensures) _ _ _ _ out (w .wide162 .ensures .0) (end (d .before .before .before))
+    λ out. row-done (s .args .self) (s .args .c) (s .pre .0) (s .pre .2) (fits d) _ (a .append .ensures) _ _ _ _ out (w .wide162 .ensures .0) (total (d .before .before .before))
     (c .before .before .before .open-record .ensures)
 
 pub open-row-spec : {M : Type 1} → statement M

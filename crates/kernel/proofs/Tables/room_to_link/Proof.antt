@@ -1,6 +1,6 @@
 -- `Tables::room_to_link` meets its contract.
 use borrow.Author.Needs.{needs}
-use Rattle.kernel.proofs.GrowCalls.{end-most}
+use Rattle.kernel.proofs.GrowCalls.{total-most}
 use Rattle.kernel.proofs.LinkCalls.{room-low, room-left}
 use Rattle.kernel.proofs.Tables.room_to_link.Statement.{statement}
 use Rattle.kernel.proofs.Tables.room_to_link.Tie as tie
@@ -21,7 +21,7 @@ sub-room-for : tie.Need-sub-room-for
 sub-room-for c = search needs
 
 room-for-requires : tie.Need-room-for-requires
-room-for-requires c κs = let s = c .before .before .before .before in let h = end-most _ (s .pre .0) _ (s .pre .1) in search needs
+room-for-requires c κs = let s = c .before .before .before .before in let h = total-most _ (s .pre .0) _ (s .pre .1) in search needs
 
 returns-2 : tie.Need-returns-2
 returns-2 c =
