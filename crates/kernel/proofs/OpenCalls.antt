@@ -27,7 +27,7 @@ use Rattle.line.specs.Definition.Line.{afterOpen}
 use Rattle.kernel.specs.Definition.Tables.{ramSize, channelAt, withChannels}
 use Rattle.kernel.specs.Definition.Good.{Good}
 use Rattle.kernel.specs.Definition.Line.{totalOf, grown, roomFor, opening}
-use Rattle.kernel.specs.Definition.Names.{wantedBy}
+use Rattle.kernel.specs.Definition.Names.{unitOr, wantedBy}
 use Rattle.kernel.specs.Definition.Answers.{gives}
 use Rattle.kernel.specs.Definition.Calls.{«open», onOpen, onOpenNamed, onOpenTo}
 use Rattle.kernel.specs.Definition.Step.{Result, completed, result, ramOpened}
@@ -50,55 +50,44 @@ done : (t : Tables) (o : Outcome) (u : Tables) (a b : ℕ) (ram after out : List
 unfolding completed
 done t o u a b ram after out d e f s q h = rw (q, h)
 
-module _ (t : Tables) (ch n : ℕ) (place : Lookup) (count : n ≡ t .opened) (f : place ≡ foundAt (rowIn (take n (t .channels)) ch) n) where
-  pub open-yes : (i : ℕ) → place ≡ At i → true ≡ ltb (channelAt t ch) (t .opened)
+module _ (t : Tables) (channel n : ℕ) (place : Lookup) (count : n ≡ t .opened) (f : place ≡ foundAt (rowIn (take n (t .channels)) channel) n) where
+  pub open-yes : (i : ℕ) → place ≡ At i → true ≡ ltb (channelAt t channel) (t .opened)
   open-yes i e =
-      let h : channelAt t ch < t .opened = rw count at (found-at _ n i (sym f ∙ e) .1) in
+      let h : channelAt t channel < t .opened = rw count at (found-at _ n i (sym f ∙ e) .1) in
       sym (lt-ltb _ _ h)
 
-  pub open-no : place ≡ Nowhere → false ≡ ltb (channelAt t ch) (t .opened)
+  pub open-no : place ≡ Nowhere → false ≡ ltb (channelAt t channel) (t .opened)
   open-no e =
-      let h : t .opened ≤ channelAt t ch = rw count at (found-nowhere _ n (sym f ∙ e)) in
+      let h : t .opened ≤ channelAt t channel = rw count at (found-nowhere _ n (sym f ∙ e)) in
       sym (le-ltb _ _ h)
 
+-- the unit, where the string gives one and where it gives none
+module _ (number : UnitNumber) (other : ℕ) where
+  pub unit-given : (unit : ℕ) → number ≡ Given unit → unit ≡ unitOr number other
+  unit-given unit e = rw e
+
+  pub unit-absent : number ≡ Absent → other ≡ unitOr number other
+  unit-absent e = rw e
+
 -- the device and the unit, where the string has no letters and where it has some
-module _ (t : Tables) (s : List ℕ) (letters : ℕ) (number : UnitNumber) where
-  pub default-given : (unit : ℕ) → letters ≡ 0 → number ≡ Given unit
-      → _≡_ {A = Wanted} (record { name = t .name; length = t .length; unit = unit }) (wantedBy t (take letters s) number)
-  default-given unit e f = rw (e, f)
+pub wanted-default : (t : Tables) (s : List ℕ) (letters : ℕ) (number : UnitNumber) (unit : ℕ) → letters ≡ 0 → unit ≡ unitOr number (t .unit)
+    → _≡_ {A = Wanted} (record { name = t .name; length = t .length; unit = unit }) (wantedBy t (take letters s) number)
+wanted-default t s letters number unit e f = rw (e, f)
 
-  pub default-absent : letters ≡ 0 → number ≡ Absent
-      → _≡_ {A = Wanted} (record { name = t .name; length = t .length; unit = t .unit }) (wantedBy t (take letters s) number)
-  default-absent e f = rw (e, f)
+wanted-some : (t : Tables) (xs : List ℕ) (number : UnitNumber) → 1 ≤ length xs
+    → _≡_ {A = Wanted} (record { name = wordOf xs; length = length xs; unit = unitOr number 0 }) (wantedBy t xs number)
+wanted-some t [] number h = absurd (omega arith)
+wanted-some t (x ∷ xs) number h = refl
 
-wanted-given : (t : Tables) (xs : List ℕ) (unit : ℕ) → 1 ≤ length xs
-    → _≡_ {A = Wanted} (record { name = wordOf xs; length = length xs; unit = unit }) (wantedBy t xs (Given unit))
-wanted-given t [] unit h = absurd (omega arith)
-wanted-given t (x ∷ xs) unit h = refl
-
-wanted-absent : (t : Tables) (xs : List ℕ) → 1 ≤ length xs
-    → _≡_ {A = Wanted} (record { name = wordOf xs; length = length xs; unit = 0 }) (wantedBy t xs Absent)
-wanted-absent t [] h = absurd (omega arith)
-wanted-absent t (x ∷ xs) h = refl
-
-module _ (t : Tables) (s : List ℕ) (letters : ℕ) (number : UnitNumber) (word : List ℕ) (some : letters ≡ 0 → ⊥) (within : letters ≤ length s) (e : word ≡ wordOf (take letters s)) where
-  long : length (take letters s) ≡ letters
-  long = omega (arith, length-take letters s)
-
-  pub named-given : (unit : ℕ) → number ≡ Given unit
-      → _≡_ {A = Wanted} (record { name = word; length = letters; unit = unit }) (wantedBy t (take letters s) number)
-  named-given unit f =
-      let h : 1 ≤ letters = omega arith in
-      let w = wanted-given t (take letters s) unit (rw long h) in
-      let v : _≡_ {A = Wanted} (record { name = wordOf (take letters s); length = letters; unit = unit }) (wantedBy t (take letters s) (Given unit)) = rw long at w in
-      rw (e, f) v
-
-  pub named-absent : number ≡ Absent → _≡_ {A = Wanted} (record { name = word; length = letters; unit = 0 }) (wantedBy t (take letters s) number)
-  named-absent f =
-      let h : 1 ≤ letters = omega arith in
-      let w = wanted-absent t (take letters s) (rw long h) in
-      let v : _≡_ {A = Wanted} (record { name = wordOf (take letters s); length = letters; unit = 0 }) (wantedBy t (take letters s) Absent) = rw long at w in
-      rw (e, f) v
+pub wanted-named : (t : Tables) (s : List ℕ) (letters : ℕ) (number : UnitNumber) (word : List ℕ) (unit : ℕ) → (letters ≡ 0 → ⊥) → letters ≤ length s
+    → word ≡ wordOf (take letters s) → unit ≡ unitOr number 0
+    → _≡_ {A = Wanted} (record { name = word; length = letters; unit = unit }) (wantedBy t (take letters s) number)
+wanted-named t s letters number word unit some within e f =
+    let long : length (take letters s) ≡ letters = omega (arith, length-take letters s) in
+    let h : 1 ≤ letters = omega arith in
+    let w = wanted-some t (take letters s) number (rw long h) in
+    let v : _≡_ {A = Wanted} (record { name = wordOf (take letters s); length = letters; unit = unitOr number 0 }) (wantedBy t (take letters s) number) = rw long at w in
+    rw (e, f) v
 
 -- the row appended
 module _ (t : Tables) (c : Channel) (total size long held more : ℕ) (b : total ≡ totalOf t) (d : size ≡ c .n)

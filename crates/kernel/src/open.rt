@@ -8,7 +8,7 @@ ghost use Rattle.names.specs.Definition.Read.{reading};
 ghost use Rattle.kernel.specs.Definition.Tables.{ramSize, channelAt};
 ghost use Rattle.kernel.specs.Definition.Good.{Good};
 ghost use Rattle.kernel.specs.Definition.Line.{totalOf, opening};
-ghost use Rattle.kernel.specs.Definition.Names.{wantedBy};
+ghost use Rattle.kernel.specs.Definition.Names.{unitOr, wantedBy};
 ghost use Rattle.kernel.specs.Definition.Calls.{onOpen, onOpenNamed, onOpenTo};
 ghost use Rattle.kernel.specs.Definition.Calls as calls;
 ghost use Rattle.kernel.specs.Definition.Step.{step, completed, result};
@@ -32,6 +32,16 @@ use rows::numbers::wide;
 use rows::numbers::wide16;
 use rows::sizes::chain_length;
 
+// The unit that a string gives, or `other` where it gives none.
+fn unit_or(unit: UnitNumber, other: u8) -> u8
+    ensures { λ r. ⌜ r ≡ unitOr unit other ⌝ }
+{
+    match unit {
+        UnitNumber::Given(u) => u,
+        UnitNumber::Absent => other,
+    }
+}
+
 impl Tables {
     fn is_open(self, channel: u8) -> bool
         requires { ⌜ self .opened ≤ 32 ⌝ }
@@ -51,32 +61,18 @@ impl Tables {
     {
         if letters == 0 {
             let name = self.name;
-            return match unit {
-                UnitNumber::Given(u) => Wanted {
-                    name,
-                    length: self.length,
-                    unit: u,
-                },
-                UnitNumber::Absent => Wanted {
-                    name,
-                    length: self.length,
-                    unit: self.unit,
-                },
+            return Wanted {
+                name,
+                length: self.length,
+                unit: unit_or(unit, self.unit),
             };
         }
         let name = word(name, letters);
         let length = letters as u8;
-        match unit {
-            UnitNumber::Given(u) => Wanted {
-                name,
-                length,
-                unit: u,
-            },
-            UnitNumber::Absent => Wanted {
-                name,
-                length,
-                unit: 0,
-            },
+        Wanted {
+            name,
+            length,
+            unit: unit_or(unit, 0),
         }
     }
 

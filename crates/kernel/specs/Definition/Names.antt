@@ -11,12 +11,15 @@ use Rattle.rows.specs.Definition.Devices.{deviceIn}
 use Rattle.kernel.specs.declared.Tables.{Tables}
 use Rattle.kernel.specs.declared.Wanted.{Wanted}
 
+-- the unit that a string gives, or another where it gives none
+abbrev pub unitOr : UnitNumber → (other : ℕ) → ℕ
+unitOr (Given u) other = u
+unitOr Absent other = other
+
 -- "Device: up to 28 letters, upper-cased." "Name without unit means unit 0; unit without name means the default name; neither means the default name and unit."
 abbrev pub wantedBy : Tables → (letters : List ℕ) → UnitNumber → Wanted
-wantedBy t [] Absent = record { name = t .name; length = t .length; unit = t .unit }
-wantedBy t [] (Given u) = record { name = t .name; length = t .length; unit = u }
-wantedBy t (x ∷ xs) Absent = record { name = wordOf (x ∷ xs); length = length (x ∷ xs); unit = 0 }
-wantedBy t (x ∷ xs) (Given u) = record { name = wordOf (x ∷ xs); length = length (x ∷ xs); unit = u }
+wantedBy t [] u = record { name = t .name; length = t .length; unit = unitOr u (t .unit) }
+wantedBy t (x ∷ xs) u = record { name = wordOf (x ∷ xs); length = length (x ∷ xs); unit = unitOr u 0 }
 
 abbrev pub wanted : Tables → Reading → Wanted
 wanted t r = wantedBy t (device r) (unit r)
