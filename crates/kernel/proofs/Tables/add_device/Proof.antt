@@ -1,8 +1,8 @@
 -- `Tables::add_device` meets its contract.
 use borrow.Author.Needs.{needs}
 use Rattle.kernel.proofs.NoChange.{grown-none}
-use Rattle.kernel.proofs.GrowCalls.{total-most}
-use Rattle.kernel.proofs.LinkCalls.{device-held, device-made}
+use Rattle.kernel.proofs.Growing.{total-most}
+use Rattle.kernel.proofs.Linking.{device-held, device-made}
 use Rattle.kernel.proofs.Tables.add_device.Statement.{statement}
 use Rattle.kernel.proofs.Tables.add_device.Tie as tie
 

@@ -1,7 +1,6 @@
 -- `Tables::allocate_good` meets its contract.
-use Rattle.kernel.proofs.SegmentCalls.{last-below}
 use mathlib.Core.Path.{_∙_}
-use Rattle.kernel.proofs.SegmentCalls.{allocate-caller, allocate-free, allocate-device, allocate-shared, allocate-edge, allocate-share, last-of}
+use Rattle.kernel.proofs.Allocating.{allocate-caller, allocate-free, allocate-device, allocate-shared, allocate-edge, allocate-share, last-of, last-below}
 use borrow.Author.Needs.{needs}
 use Rattle.kernel.proofs.Tables.allocate_good.Statement.{statement}
 use Rattle.kernel.proofs.Tables.allocate_good.Tie as tie

@@ -2,8 +2,8 @@
 use Prim.Native.Nat.{_≤_}
 use borrow.Author.Needs.{needs}
 use Rattle.kernel.proofs.NoChange.{grown-none}
-use Rattle.kernel.proofs.GrowCalls.{total-most}
-use Rattle.kernel.proofs.OpenCalls.{append-held, append-made}
+use Rattle.kernel.proofs.Growing.{total-most}
+use Rattle.kernel.proofs.Opening.{append-held, append-made}
 use Rattle.kernel.proofs.Tables.append.Statement.{statement}
 use Rattle.kernel.proofs.Tables.append.Tie as tie
 

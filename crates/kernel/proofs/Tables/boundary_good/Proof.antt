@@ -1,6 +1,5 @@
 -- `Tables::boundary_good` meets its contract.
-use Rattle.kernel.proofs.SegmentCalls.{last-of, last-below, boundary-done}
-use Rattle.kernel.proofs.SegmentCalls.{last-of}
+use Rattle.kernel.proofs.Allocating.{last-of, last-below, boundary-done}
 use borrow.Author.Needs.{needs}
 use Rattle.kernel.proofs.Tables.boundary_good.Statement.{statement}
 use Rattle.kernel.proofs.Tables.boundary_good.Tie as tie

@@ -1,5 +1,5 @@
 -- `Tables::counts` meets its contract.
-use Rattle.kernel.proofs.SegmentCalls.{count-byte}
+use Rattle.kernel.proofs.Allocating.{count-byte}
 use borrow.Author.Needs.{needs}
 use Rattle.kernel.proofs.Tables.counts.Statement.{statement}
 use Rattle.kernel.proofs.Tables.counts.Tie as tie

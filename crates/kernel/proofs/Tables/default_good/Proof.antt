@@ -1,6 +1,6 @@
 -- `Tables::default_good` meets its contract.
 use mathlib.Core.Path.{_∙_}
-use Rattle.kernel.proofs.StartCalls.{default-refused, default-done}
+use Rattle.kernel.proofs.Defaulting.{default-refused, default-done}
 use borrow.Author.Needs.{needs}
 use Rattle.kernel.proofs.Tables.default_good.Statement.{statement}
 use Rattle.kernel.proofs.Tables.default_good.Tie as tie

@@ -1,5 +1,5 @@
 -- `Tables::exos_boundary` meets its contract.
-use Rattle.kernel.proofs.SegmentCalls.{edge-of}
+use Rattle.kernel.proofs.Growing.{edge-of}
 use borrow.Author.Needs.{needs}
 use Rattle.kernel.proofs.Tables.exos_boundary.Statement.{statement}
 use Rattle.kernel.proofs.Tables.exos_boundary.Tie as tie

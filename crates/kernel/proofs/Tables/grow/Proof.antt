@@ -4,7 +4,7 @@ use Prim.Native.Nat.{_≤_, _-_, _+_}
 use native.Mathlib.Omega.{arith}
 use borrow.Author.Needs.{needs}
 use Rattle.kernel.specs.Definition.Line.{grown}
-use Rattle.kernel.proofs.GrowCalls.{more-held, grown-step, grown-none}
+use Rattle.kernel.proofs.Growing.{more-held, grown-step, grown-none}
 use Rattle.kernel.proofs.Tables.grow.Statement.{statement}
 use Rattle.kernel.proofs.Tables.grow.Tie as tie
 

@@ -1,6 +1,6 @@
 -- `Tables::is_open` meets its contract.
 use borrow.Author.Needs.{needs}
-use Rattle.kernel.proofs.OpenCalls.{open-yes, open-no}
+use Rattle.kernel.proofs.Opening.{open-yes, open-no}
 use Rattle.kernel.proofs.Tables.is_open.Statement.{statement}
 use Rattle.kernel.proofs.Tables.is_open.Tie as tie
 

@@ -2,7 +2,7 @@
 use mathlib.Core.Path.{sym, _∙_}
 use borrow.Author.Tests.{not-true, not-false}
 use Rattle.kernel.proofs.Calls.{accepted-good, accepted-size}
-use Rattle.kernel.proofs.ByteCalls.{part-refused, part-accepted}
+use Rattle.kernel.proofs.Accessing.{part-refused, part-accepted}
 use borrow.Author.Needs.{needs}
 use Rattle.kernel.proofs.Tables.lend.Statement.{statement}
 use Rattle.kernel.proofs.Tables.lend.Tie as tie

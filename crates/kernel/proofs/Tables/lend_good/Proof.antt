@@ -1,7 +1,7 @@
 -- `lend_good` meets its contract: an open channel's buffer lies inside the line, and nothing is lent of another.
 use native.Mathlib.Omega.{arith}
 use Rattle.kernel.proofs.Spans.{Open, open-at, open-none, buffer-chain}
-use Rattle.kernel.proofs.ByteCalls.{part-closed, part-open}
+use Rattle.kernel.proofs.Accessing.{part-closed, part-open}
 use borrow.Author.Needs.{needs}
 use Rattle.kernel.proofs.Tables.lend_good.Statement.{statement}
 use Rattle.kernel.proofs.Tables.lend_good.Tie as tie

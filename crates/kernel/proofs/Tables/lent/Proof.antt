@@ -2,7 +2,7 @@
 use mathlib.Core.Path.{sym, _∙_}
 use borrow.Author.Tests.{not-true, not-false}
 use Rattle.kernel.proofs.Calls.{accepted-good}
-use Rattle.kernel.proofs.ByteCalls.{lent-refused, lent-accepted}
+use Rattle.kernel.proofs.Accessing.{lent-refused, lent-accepted}
 use borrow.Author.Needs.{needs}
 use Rattle.kernel.proofs.Tables.lent.Statement.{statement}
 use Rattle.kernel.proofs.Tables.lent.Tie as tie

@@ -1,7 +1,7 @@
 -- `lent_good` meets its contract: an open channel's buffer lies inside the line, and nothing is lent of another.
 use native.Mathlib.Omega.{arith}
 use Rattle.kernel.proofs.Spans.{Open, open-at, open-none, buffer-low}
-use Rattle.kernel.proofs.ByteCalls.{lent-closed, lent-open}
+use Rattle.kernel.proofs.Accessing.{lent-closed, lent-open}
 use borrow.Author.Needs.{needs}
 use Rattle.kernel.proofs.Tables.lent_good.Statement.{statement}
 use Rattle.kernel.proofs.Tables.lent_good.Tie as tie

@@ -4,8 +4,8 @@ use borrow.Author.Needs.{needs}
 use Rattle.kernel.specs.Definition.Line.{totalOf}
 use Rattle.kernel.specs.Laws.Links.{Links}
 use Rattle.kernel.proofs.Refusing.{refused}
-use Rattle.kernel.proofs.GrowCalls.{total-of}
-use Rattle.kernel.proofs.LinkCalls.{link-unnamed, link-full, link-none, link-answer, links-of, link-chain, link-done}
+use Rattle.kernel.proofs.Growing.{total-of}
+use Rattle.kernel.proofs.Linking.{link-unnamed, link-full, link-none, link-answer, links-of, link-chain, link-done}
 use Rattle.kernel.proofs.Tables.link_good.Statement.{statement}
 use Rattle.kernel.proofs.Tables.link_good.Tie as tie
 

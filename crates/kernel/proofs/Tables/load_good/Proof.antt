@@ -2,7 +2,7 @@
 use native.Mathlib.Omega.{arith}
 use borrow.Author.Tests.{ltb-false}
 use Rattle.kernel.proofs.Spans.{Reached, reached, reach-inside, or-left, or-right}
-use Rattle.kernel.proofs.ByteCalls.{load-other, load-beyond, load-done}
+use Rattle.kernel.proofs.Accessing.{load-other, load-beyond, load-done}
 use borrow.Author.Needs.{needs}
 use Rattle.kernel.proofs.Tables.load_good.Statement.{statement}
 use Rattle.kernel.proofs.Tables.load_good.Tie as tie

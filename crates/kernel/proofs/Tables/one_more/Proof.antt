@@ -1,6 +1,6 @@
 -- `Tables::one_more` meets its contract.
 use borrow.Author.Needs.{needs}
-use Rattle.kernel.proofs.GrowCalls.{more-made}
+use Rattle.kernel.proofs.Growing.{more-made}
 use Rattle.kernel.proofs.Tables.one_more.Statement.{statement}
 use Rattle.kernel.proofs.Tables.one_more.Tie as tie
 

@@ -3,7 +3,7 @@ use mathlib.Core.Path.{refl}
 use native.Mathlib.Omega.{arith}
 use borrow.Author.Needs.{needs}
 use Rattle.kernel.proofs.Refusing.{refused}
-use Rattle.kernel.proofs.OpenCalls.{onward, good-none, good-exists, good-named, absent}
+use Rattle.kernel.proofs.Opening.{onward, good-none, good-exists, good-named, absent}
 use Rattle.kernel.proofs.Tables.open_good.Statement.{statement}
 use Rattle.kernel.proofs.Tables.open_good.Tie as tie
 

@@ -2,7 +2,7 @@
 use mathlib.Core.Path.{refl}
 use borrow.Author.Needs.{needs}
 use Rattle.kernel.proofs.Refusing.{refused}
-use Rattle.kernel.proofs.OpenCalls.{onward, named-none, letters-few, named-to}
+use Rattle.kernel.proofs.Opening.{onward, named-none, letters-few, named-to}
 use Rattle.kernel.proofs.Tables.open_named.Statement.{statement}
 use Rattle.kernel.proofs.Tables.open_named.Tie as tie
 

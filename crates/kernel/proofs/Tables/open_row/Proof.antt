@@ -4,8 +4,8 @@ use borrow.Author.Needs.{needs}
 use Rattle.kernel.specs.Definition.Line.{totalOf}
 use Rattle.kernel.specs.Laws.Opens.{Fits}
 use Rattle.kernel.proofs.Refusing.{refused}
-use Rattle.kernel.proofs.GrowCalls.{total-of}
-use Rattle.kernel.proofs.OpenCalls.{row-full, row-none, row-fits, row-chain, row-done}
+use Rattle.kernel.proofs.Growing.{total-of}
+use Rattle.kernel.proofs.Opening.{row-full, row-none, row-fits, row-chain, row-done}
 use Rattle.kernel.proofs.Tables.open_row.Statement.{statement}
 use Rattle.kernel.proofs.Tables.open_row.Tie as tie
 

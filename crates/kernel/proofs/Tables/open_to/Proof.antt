@@ -2,7 +2,7 @@
 use mathlib.Core.Path.{refl}
 use borrow.Author.Needs.{needs}
 use Rattle.kernel.proofs.Refusing.{refused}
-use Rattle.kernel.proofs.OpenCalls.{onward, to-none, to-driver, to-row, to-new}
+use Rattle.kernel.proofs.Opening.{onward, to-none, to-driver, to-row, to-new}
 use Rattle.kernel.proofs.Tables.open_to.Statement.{statement}
 use Rattle.kernel.proofs.Tables.open_to.Tie as tie
 

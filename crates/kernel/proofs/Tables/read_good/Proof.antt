@@ -2,7 +2,7 @@
 use native.Mathlib.Omega.{arith}
 use borrow.Author.Tests.{ltb-false}
 use Rattle.kernel.proofs.Spans.{Open, open-at, open-none, or-left, or-right, bytes-chain}
-use Rattle.kernel.proofs.ByteCalls.{read-closed, read-beyond, read-done}
+use Rattle.kernel.proofs.Accessing.{read-closed, read-beyond, read-done}
 use borrow.Author.Needs.{needs}
 use Rattle.kernel.proofs.Tables.read_good.Statement.{statement}
 use Rattle.kernel.proofs.Tables.read_good.Tie as tie

@@ -1,6 +1,6 @@
 -- `Tables::room_for` meets its contract.
 use borrow.Author.Needs.{needs}
-use Rattle.kernel.proofs.GrowCalls.{room-shared, room-apart}
+use Rattle.kernel.proofs.Growing.{room-shared, room-apart}
 use Rattle.kernel.proofs.Tables.room_for.Statement.{statement}
 use Rattle.kernel.proofs.Tables.room_for.Tie as tie
 

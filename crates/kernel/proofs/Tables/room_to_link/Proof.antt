@@ -1,7 +1,7 @@
 -- `Tables::room_to_link` meets its contract.
 use borrow.Author.Needs.{needs}
-use Rattle.kernel.proofs.GrowCalls.{total-most}
-use Rattle.kernel.proofs.LinkCalls.{room-low, room-left}
+use Rattle.kernel.proofs.Growing.{total-most}
+use Rattle.kernel.proofs.Linking.{room-low, room-left}
 use Rattle.kernel.proofs.Tables.room_to_link.Statement.{statement}
 use Rattle.kernel.proofs.Tables.room_to_link.Tie as tie
 

@@ -1,7 +1,7 @@
 -- `Tables::start` meets its contract.
 use denote.Ref.{now}
 use lib.ListN.{length}
-use Rattle.kernel.proofs.StartCalls.{start-sizes, start-refused, start-done}
+use Rattle.kernel.proofs.Starting.{start-sizes, start-refused, start-done}
 use borrow.Author.Needs.{needs}
 use Rattle.kernel.proofs.Tables.start.Statement.{statement}
 use Rattle.kernel.proofs.Tables.start.Tie as tie

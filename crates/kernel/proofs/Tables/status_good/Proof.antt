@@ -1,5 +1,5 @@
 -- `Tables::status_good` meets its contract.
-use Rattle.kernel.proofs.SegmentCalls.{status-short, status-done}
+use Rattle.kernel.proofs.Allocating.{status-short, status-done}
 use borrow.Author.Needs.{needs}
 use Rattle.kernel.proofs.Tables.status_good.Statement.{statement}
 use Rattle.kernel.proofs.Tables.status_good.Tie as tie

@@ -2,7 +2,7 @@
 use native.Mathlib.Omega.{arith}
 use denote.Ref.{now}
 use Rattle.kernel.proofs.Spans.{Reached, reached, reach-inside}
-use Rattle.kernel.proofs.ByteCalls.{store-other, store-beyond, store-guarded, store-done}
+use Rattle.kernel.proofs.Accessing.{store-other, store-beyond, store-guarded, store-done}
 use borrow.Author.Needs.{needs}
 use Rattle.kernel.proofs.Tables.store_good.Statement.{statement}
 use Rattle.kernel.proofs.Tables.store_good.Tie as tie

@@ -1,6 +1,6 @@
 -- `Tables::wanted` meets its contract.
 use borrow.Author.Needs.{needs}
-use Rattle.kernel.proofs.OpenCalls.{wanted-default, wanted-named}
+use Rattle.kernel.proofs.Opening.{wanted-default, wanted-named}
 use Rattle.kernel.proofs.Tables.wanted.Statement.{statement}
 use Rattle.kernel.proofs.Tables.wanted.Tie as tie
 

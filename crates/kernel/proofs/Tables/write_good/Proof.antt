@@ -3,7 +3,7 @@ use native.Mathlib.Omega.{arith}
 use denote.Ref.{now}
 use lib.ListN.{length}
 use Rattle.kernel.proofs.Spans.{Open, open-at, open-none, within, bytes-chain}
-use Rattle.kernel.proofs.ByteCalls.{write-closed, write-beyond, write-done}
+use Rattle.kernel.proofs.Accessing.{write-closed, write-beyond, write-done}
 use borrow.Author.Needs.{needs}
 use Rattle.kernel.proofs.Tables.write_good.Statement.{statement}
 use Rattle.kernel.proofs.Tables.write_good.Tie as tie

@@ -1,6 +1,6 @@
 -- `open::unit_or` meets its contract.
 use borrow.Author.Needs.{needs}
-use Rattle.kernel.proofs.OpenCalls.{unit-given, unit-absent}
+use Rattle.kernel.proofs.Opening.{unit-given, unit-absent}
 use Rattle.kernel.proofs.open.unit_or.Statement.{statement}
 use Rattle.kernel.proofs.open.unit_or.Tie as tie
 

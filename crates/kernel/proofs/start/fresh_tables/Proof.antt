@@ -1,6 +1,6 @@
 -- `start::fresh_tables` meets its contract.
 use denote.Ref.{now}
-use Rattle.kernel.proofs.StartCalls.{start-tables}
+use Rattle.kernel.proofs.Starting.{start-tables}
 use borrow.Author.Needs.{needs}
 use Rattle.kernel.proofs.start.fresh_tables.Statement.{statement}
 use Rattle.kernel.proofs.start.fresh_tables.Tie as tie

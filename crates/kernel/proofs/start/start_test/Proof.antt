@@ -1,6 +1,6 @@
 -- `start::start_test` meets its contract.
 use denote.Ref.{now}
-use Rattle.kernel.proofs.StartCalls.{start-long, start-tested}
+use Rattle.kernel.proofs.Starting.{start-long, start-tested}
 use borrow.Author.Needs.{needs}
 use Rattle.kernel.proofs.start.start_test.Statement.{statement}
 use Rattle.kernel.proofs.start.start_test.Tie as tie

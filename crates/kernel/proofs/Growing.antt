@@ -1,4 +1,4 @@
--- How the chain grows, and the room rule, as the code takes them.
+-- How the chain grows, the EXOS boundary, and the room rule, as the code takes them.
 use mathlib.Core.Path.{_≡_, refl}
 use mathlib.Core.Bool.{_&&_}
 use Prim.Native.Nat.{ℕ, suc, _+_, _-_, _*_, _%_, _≤_, _<_}
@@ -12,7 +12,7 @@ use Rattle.rows.specs.Definition.Channels.{sumOf}
 use Rattle.rows.specs.Definition.Sizes.{chainLength, boundaryAt}
 use Rattle.kernel.specs.Definition.Tables.{SEGMENT, withSegments}
 use Rattle.kernel.specs.Definition.Good.{Good}
-use Rattle.kernel.specs.Definition.Line.{totalOf, oneMore, grown, roomFor}
+use Rattle.kernel.specs.Definition.Line.{totalOf, boundaryOf, oneMore, grown, roomFor}
 use Rattle.kernel.specs.Laws.Chains.{line-fits}
 use Rattle.kernel.specs.declared.Tables.{Tables}
 
@@ -36,6 +36,10 @@ grown-none k t = let e : k - k ≡ 0 = omega arith in rw e
 -- T, as the code sums it
 pub total-of : (t : Tables) (count total : ℕ) → count ≡ t .opened → total ≡ sumOf (take count (t .channels)) → total ≡ totalOf t
 total-of t count total e f = rw (f, e)
+
+-- the EXOS boundary, from T as the code sums it
+pub edge-of : (t : Tables) (count total edge : ℕ) → count ≡ t .opened → total ≡ sumOf (take count (t .channels)) → edge ≡ boundaryAt (t .room) total → edge ≡ boundaryOf t
+edge-of t count total edge e f g = rw (g, f, e)
 
 -- T is no more than 32 segments hold under the highest room
 pub total-most : (t : Tables) → Good t → (total : ℕ) → total ≡ totalOf t → total ≤ 524032

@@ -11,8 +11,6 @@ use lib.Dec.{eqb}
 use Rattle.rows.specs.Definition.Lists.{at, firstOf, tally}
 use Rattle.rows.specs.Laws.Lists.{and-left, and-right}
 use Rattle.rows.specs.Definition.Classes.{FREE, USER, SYSTEM, DEVICE, SHARED}
-use Rattle.rows.specs.Definition.Channels.{sumOf}
-use Rattle.rows.specs.Definition.Sizes.{boundaryAt}
 use Rattle.kernel.specs.Definition.Tables.{SEGMENT, numberAt, rowOf, lastRow, countOf, withSegments}
 use Rattle.kernel.specs.Definition.Good.{Good}
 use Rattle.kernel.specs.Definition.Line.{boundaryOf}
@@ -22,10 +20,6 @@ use Rattle.kernel.specs.Definition.Calls.{onBoundary, onSetUserBoundary,
 use Rattle.kernel.specs.Definition.Step.{completed, result, countsOf}
 use Rattle.kernel.specs.declared.Tables.{Tables}
 use Rattle.kernel.specs.declared.Answer.the-variants.{Done, BadCall, NoSegment, NotOwner, BadBoundary, BadRange, Shared}
-
--- the EXOS boundary, from T as the code sums it
-pub edge-of : (t : Tables) (n line edge : ℕ) → n ≡ t .opened → line ≡ sumOf (take n (t .channels)) → edge ≡ boundaryAt (t .room) line → edge ≡ boundaryOf t
-edge-of t n line edge e f g = rw (g, f, e)
 
 -- the chain's last row, from the count as the code widens it
 pub last-of : (t : Tables) (n last : ℕ) → n ≡ t .held → last ≡ at (t .chain) (n - 1) → last ≡ lastRow t

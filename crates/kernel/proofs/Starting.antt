@@ -1,6 +1,6 @@
--- Start and default, as the code takes them.
+-- The branches of start, as the code takes them.
 use mathlib.Core.Path.{_≡_, sym, _∙_}
-use mathlib.Core.Bool.{Bool, true, false, _&&_}
+use mathlib.Core.Bool.{Bool, true, false, not, _&&_}
 use mathlib.Core.List.{List}
 use Prim.Native.Nat.{ℕ, _-_, _*_, _%_, _≤_, _<_}
 use native.Mathlib.Omega.{arith}
@@ -8,9 +8,6 @@ use borrow.Author.Tests.{le-leb, lt-leb, not-true, not-false}
 use lib.Dec.{leb, eqb}
 use lib.ListN.{length, take, set, replicate}
 use lib.Seq.{take-all}
-use Rattle.names.specs.Definition.Words.{wordOf}
-use Rattle.names.specs.Definition.Tests.{defaultNameTest}
-use Rattle.names.specs.Laws.Runs.{default-right}
 use Rattle.rows.specs.Definition.Lists.{padded}
 use Rattle.rows.specs.Laws.Lists.{and-left}
 use Rattle.rows.specs.Definition.Classes.{startClasses}
@@ -19,30 +16,12 @@ use Rattle.rows.specs.Definition.Devices.{builtIn}
 use Rattle.rows.specs.Definition.Tests.{listTest}
 use Rattle.rows.specs.Laws.Good.{list-says}
 use Rattle.rows.specs.declared.Device.{Device}
-use Rattle.kernel.specs.Definition.Tables.{withDefault}
 use Rattle.kernel.specs.Definition.Start.{startTest, started}
 use Rattle.kernel.specs.Definition.Answers.{gives}
-use Rattle.kernel.specs.Definition.Calls.{start, onDefault, onStart}
+use Rattle.kernel.specs.Definition.Calls.{start, onStart}
 use Rattle.kernel.specs.Definition.Step.{heard, decided, ramAfter, outputAfter, completed, result, step}
 use Rattle.kernel.specs.declared.Tables.{Tables}
-use Rattle.kernel.specs.declared.Answer.the-variants.{Done, BadName, BadStart}
-
--- all of a list that is no longer
-whole : (n : ℕ) (xs : List ℕ) → length xs ≤ n → take n xs ≡ xs
-whole n xs h = take-all n xs h
-
-module _ (t : Tables) (unit : ℕ) (name : List ℕ) (fine : Bool) (e : fine ≡ defaultNameTest name) where
-  pub default-refused : mathlib.Core.Bool.not fine ≡ true → gives BadName t ≡ onDefault t unit name
-  unfolding onDefault
-  default-refused n = let f : defaultNameTest name ≡ false = sym e ∙ not-true fine n in rw f
-
-  pub default-done : mathlib.Core.Bool.not fine ≡ false → (capitals : List ℕ) → capitals ≡ wordOf (take (length name) name)
-      → gives (Done 0 0) (withDefault t capitals (length name % 256) unit) ≡ onDefault t unit name
-  unfolding onDefault
-  default-done n capitals w =
-      let f : defaultNameTest name ≡ true = sym e ∙ not-false fine n in
-      let z : length name % 256 ≡ length name = omega (arith, default-right name f .1) in
-      rw (w, whole (length name) name (omega arith), z, f)
+use Rattle.kernel.specs.declared.Answer.the-variants.{Done, BadStart}
 
 module _ (ram room : ℕ) (list : List ℕ) where
   pub start-long : 32 < length list → false ≡ startTest ram room list
@@ -50,10 +29,10 @@ module _ (ram room : ℕ) (list : List ℕ) where
 
   pub start-tested : length list ≤ 32 → (laid : List ℕ) (fine : Bool) → laid ≡ padded 32 (take 32 list) → fine ≡ listTest laid (length list)
       → fine && leb 256 room && leb room 16128 && eqb ram (16384 * length list) ≡ startTest ram room list
-  start-tested h laid fine l f = rw (f, l, whole 32 list h)
+  start-tested h laid fine l f = rw (f, l, take-all 32 list h)
 
   -- a start that passes has a list of 2 to 32 segments
-  pub start-sizes : (fine : Bool) → fine ≡ startTest ram room list → mathlib.Core.Bool.not fine ≡ false → (2 ≤ length list) × (length list ≤ 32)
+  pub start-sizes : (fine : Bool) → fine ≡ startTest ram room list → not fine ≡ false → (2 ≤ length list) × (length list ≤ 32)
   start-sizes fine e n =
       let a = and-left (listTest (padded 32 list) (length list) && leb 256 room && leb room 16128) (eqb ram (16384 * length list)) (sym e ∙ not-false fine n) in
       let b = and-left (listTest (padded 32 list) (length list) && leb 256 room) (leb room 16128) a in
@@ -83,14 +62,14 @@ unfolding started
 start-tables room list laid classes devices h k l c d =
     let y : length list % 256 ≡ length list = omega arith in
     let z : (length list - 1) % 256 ≡ length list - 1 = omega arith in
-    rw (l, c, d, whole 32 list k, z, y)
+    rw (l, c, d, take-all 32 list k, z, y)
 
 module _ (t : Tables) (ram : List ℕ) (room : ℕ) (list out : List ℕ) (fine : Bool) (e : fine ≡ startTest (length ram) room list) where
-  pub start-refused : mathlib.Core.Bool.not fine ≡ true → result (gives BadStart t) ram out ≡ step t ram (start room list) out
+  pub start-refused : not fine ≡ true → result (gives BadStart t) ram out ≡ step t ram (start room list) out
   unfolding step decided heard onStart completed
   start-refused n = let f : startTest (length ram) room list ≡ false = sym e ∙ not-true fine n in rw f
 
-  pub start-done : mathlib.Core.Bool.not fine ≡ false → (next : Tables) (zeros : List ℕ) → next ≡ started room list → zeros ≡ replicate (length ram) 0
+  pub start-done : not fine ≡ false → (next : Tables) (zeros : List ℕ) → next ≡ started room list → zeros ≡ replicate (length ram) 0
       → result (gives (Done (next .segments) room) next) zeros out ≡ step t ram (start room list) out
   unfolding step decided heard onStart completed ramAfter outputAfter started
   start-done n next zeros p q = let f : startTest (length ram) room list ≡ true = sym e ∙ not-false fine n in rw (p, q, f)
