@@ -14,7 +14,8 @@ use Rattle.rows.specs.Laws.Lists.{and-left, and-right}
 use Rattle.kernel.specs.Definition.Tables.{rowOf, sharing, channelAt}
 use Rattle.kernel.specs.Definition.Line.{totalOf, sizeAt, boundaryOf, roomFor}
 use Rattle.kernel.specs.Definition.Segments.{someFree, mayShare, mayFree, mayReach, reachOf, guarded}
-use Rattle.kernel.specs.Definition.Reset.{otherBits, startTest}
+use Rattle.kernel.specs.Definition.Reset.{otherBits}
+use Rattle.kernel.specs.Definition.Start.{startTest}
 use Rattle.kernel.specs.Definition.Names.{wanted, deviceFor}
 use Rattle.kernel.specs.Definition.Answers.{numberOf, aOf, bOf, granted, gives}
 use Rattle.kernel.specs.Definition.Calls.{Call, start, reset, «open», close, read, write, default, status, link, boundary, set-user-boundary, allocate, free, store, load, no-call, short-start, isStart, onStart, onReset, onOpenTo, onOpenNamed, onOpen, onClose, onRead, onWrite, onDefault, onStatus, onLink, onBoundary, onSetUserBoundary, onAllocate, onFree, onStore, onLoad}
