@@ -1,8 +1,8 @@
 -- Where the bytes of a call lie: in the buffer of an open channel, or in a segment that the user reaches.
 use mathlib.Core.Path.{_≡_, refl, sym, _∙_}
-use mathlib.Core.Bool.{Bool, true, false, cond, _||_, not}
+use mathlib.Core.Bool.{Bool, true, false, _||_, not}
 use Prim.Native.Nat.{ℕ, _+_, _-_, _*_, _≤_, _<_}
-use native.Mathlib.Decide.{decLe, decLt}
+use native.Mathlib.Decide.{decLt}
 use native.Mathlib.Omega.{arith}
 use borrow.Author.Tests.{lt-ltb, le-ltb, lt-leb, ne-eqb, ltb-true, ltb-false, not-false}
 use lib.Dec.{eqb, ltb, leb}
@@ -14,8 +14,6 @@ use Rattle.rows.specs.Laws.Lists.{and-left}
 use Rattle.rows.specs.Definition.Classes.{USER, SHARED}
 use Rattle.rows.specs.Definition.Channels.{rowIn, foundAt}
 use Rattle.rows.specs.Laws.Channels.{found-at, found-nowhere}
-use Rattle.rows.specs.Definition.Sizes.{boundaryAt}
-use Rattle.rows.specs.Laws.Sizes.{edge-low, edge-high}
 use Rattle.rows.specs.declared.Lookup.{Lookup}
 use Rattle.rows.specs.declared.Lookup.the-variants.{At, Nowhere}
 use Rattle.kernel.specs.Definition.Tables.{SEGMENT, ramSize, classAt, rowOf, channelAt}
@@ -23,6 +21,7 @@ use Rattle.kernel.specs.Definition.Good.{Good}
 use Rattle.kernel.specs.Definition.Line.{totalOf, sizeAt, bufferAt}
 use Rattle.kernel.specs.Definition.Segments.{mayReach, reachOf}
 use Rattle.kernel.specs.Laws.Chains.{good-chain}
+use Rattle.kernel.specs.Laws.Facts.{reach-small}
 use Rattle.kernel.specs.Laws.Records.{record-within}
 use Rattle.kernel.specs.declared.Tables.{Tables}
 
@@ -40,14 +39,6 @@ beyond-is n from count rest e =
 -- the bytes end within n, once the test has failed
 pub within : (n from count : ℕ) (far : Bool) → far ≡ ltb n (from + count) → far ≡ false → from + count ≤ n
 within n from count far e f = ltb-false n (from + count) (sym e ∙ f)
-
-pub or-left : (a b : Bool) → a || b ≡ false → a ≡ false
-or-left false b e = refl
-or-left true b e = e
-
-pub or-right : (a b : Bool) → a || b ≡ false → b ≡ false
-or-right false b e = e
-or-right true b e = absurd (let z : _≡_ {A = ℕ} 0 1 = cc in omega arith)
 
 -- what the lookup of a channel found
 
@@ -115,22 +106,10 @@ reached t n segment row may g e f m h =
     let less : row < t .segments = ltb-true row (t .segments) (and-left (ltb row (t .segments)) (eqb row 0 || eqb (classAt t row) USER || eqb (classAt t row) SHARED) yes-may) in
     record { here = sym (rw e at f); may = yes-may; among = less; below = omega (arith, g .list .most) }
 
-edge-most : (r n : ℕ) → r ≤ 16384 → boundaryAt r n ≤ 16384
-edge-most r n h = elim (decLe n r) [ yes a ↦ omega (arith, edge-low r n a) | no a ↦ omega (arith, edge-high r n (omega arith)) ]
-
-cond-most : (b : Bool) (x y m : ℕ) → x ≤ m → y ≤ m → cond b x y ≤ m
-cond-most true x y m h k = h
-cond-most false x y m h k = k
-
-reach-most : (t : Tables) (row : ℕ) → Good t → reachOf t row ≤ 16384
-reach-most t row g =
-    cond-most (eqb (classAt t row) SHARED) (t .user) SEGMENT 16384
-    (omega (arith, g .user .most, edge-most (t .room) (totalOf t) (omega (arith, g .room .most, g .room .top)))) (omega arith)
-
 -- what `store` and `load` ask
 pub reach-inside : (t : Tables) (segment row reach from count size : ℕ) (far : Bool) → Good t → Reached t segment row → reach ≡ reachOf t row → far ≡ ltb reach (from + count)
     → far ≡ false → size ≡ ramSize t → (16384 * row + from + count ≤ size) × (from + count ≤ 16384)
 reach-inside t segment row reach from count size far g x k b f e =
     let w = within reach from count far b f in
-    let m : reach ≤ 16384 = rw k (reach-most t row g) in
+    let m : reach ≤ 16384 = rw k (reach-small t g row) in
     (omega (arith, x .among), omega arith)

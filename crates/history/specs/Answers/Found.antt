@@ -12,7 +12,7 @@ use lib.Dec.{leb, ltb, eqb}
 use lib.ListN.{length, getD, take, length-take}
 use lib.Seq.{getD-take}
 use Rattle.rows.specs.Definition.Lists.{at, firstWhere}
-use Rattle.rows.specs.Laws.Lists.{where-found, where-absent}
+use Rattle.rows.specs.Laws.Lists.{where-found, where-absent, neither-below}
 use Rattle.rows.specs.Definition.Channels.{zeroChannel}
 use Rattle.rows.specs.Definition.Devices.{beyondDevices, hasName}
 use Rattle.rows.specs.Definition.Good.{ListGood, Same}
@@ -71,13 +71,9 @@ module _ (t : Tables) (g : Good t) where
   open-one channel i o =
       let h = ltb-true _ _ (open-says channel .make (i, o)) in
       let p = open-at channel h in
-      elim (decLt (channelAt t channel) i) [
-        | yes q ↦ absurd (g .channels .differ (channelAt t channel) i q (o .row) (p .number ∙ sym (o .number)))
-        | no q ↦ elim (decLt i (channelAt t channel)) [
-          | yes r ↦ absurd (g .channels .differ i (channelAt t channel) r h (o .number ∙ sym (p .number)))
-          | no r ↦ omega arith
-        ]
-      ]
+      neither-below (channelAt t channel) i
+      (λ q. g .channels .differ (channelAt t channel) i q (o .row) (p .number ∙ sym (o .number)))
+      (λ q. g .channels .differ i (channelAt t channel) q h (o .number ∙ sym (p .number)))
 
   -- "255, or not open"
   pub not-open-says : (channel : ℕ) → Says (leb (t .opened) (channelAt t channel)) (NotOpen t channel)
@@ -103,13 +99,9 @@ module _ (t : Tables) (g : Good t) where
       let h = ltb-true _ _ (search-says (λ (x : ℕ). eqb x segment) (t .list) 0 (t .segments) (omega (arith, g .sized .list, g .list .most)) .make (row, o .within, eq-eqb _ _ (o .number))) in
       let p = in-list segment h in
       let far = rises-far (t .list) (t .segments) (g .list) in
-      elim (decLt (rowOf t segment) row) [
-        | yes q ↦ absurd (omega (arith, far (rowOf t segment) row q (o .within), p .number, o .number))
-        | no q ↦ elim (decLt row (rowOf t segment)) [
-          | yes r ↦ absurd (omega (arith, far row (rowOf t segment) r h, p .number, o .number))
-          | no r ↦ omega arith
-        ]
-      ]
+      neither-below (rowOf t segment) row
+      (λ q. omega (arith, far (rowOf t segment) row q (o .within), p .number, o .number))
+      (λ q. omega (arith, far row (rowOf t segment) q h, p .number, o .number))
 
   pub some-says : (class : ℕ) → Says (ltb (firstWhere (λ (x : ℕ). eqb x class) (take (t .segments) (t .classes))) (t .segments)) (Some t class)
   some-says class =

@@ -2,18 +2,18 @@
 use mathlib.Core.Path.{_≡_, sym, ap, _∙_}
 use mathlib.Core.Bool.{Bool, true, false, cond, _||_}
 use mathlib.Core.List.{List, [], _∷_, _++_}
-use Prim.Native.Nat.{ℕ, zero, suc, _+_, _-_, _≤_, _<_}
-use native.Mathlib.Nat.{not-suc-le-zero, le-of-suc-le-suc}
+use Prim.Native.Nat.{ℕ, suc, _+_, _-_, _≤_, _<_}
+use native.Mathlib.Nat.{not-suc-le-zero}
 use native.Mathlib.Decide.{decLe, decLt, ℕ-discrete}
 use native.Mathlib.Omega.{arith}
-use borrow.Author.Tests.{eq-eqb, ne-eqb, eqb-true, ltb-true, le-leb, lt-leb, lt-ltb, le-ltb}
+use borrow.Author.Tests.{eq-eqb, ne-eqb, ltb-true, le-leb, lt-leb, lt-ltb, le-ltb}
 use lib.Dec.{eqb, ltb}
 use lib.ListN.{length, getD, take, drop, replicate, length-take, length-append, List·getD-append}
 use lib.Seq.{take-append-le, take-take, take-set-le, getD-take, getD-drop, getD-append-add, getD-set-other}
 use Rattle.rows.specs.Definition.Lists.{at, without}
-use Rattle.rows.specs.Laws.Lists.{and-left, where-found}
+use Rattle.rows.specs.Laws.Lists.{and-left, neither-below}
 use Rattle.rows.specs.Definition.Channels.{zeroChannel, sumOf}
-use Rattle.rows.specs.Laws.ChannelRows.{from, from-low, from-high, without-at, sum-without, sum-more}
+use Rattle.rows.specs.Laws.ChannelRows.{from, from-low, from-high, without-at, sum-without}
 use Rattle.rows.specs.declared.Channel.{Channel}
 use Rattle.line.specs.Laws.Chains.{Chain}
 use Rattle.line.specs.Definition.Line.{chainIndexOf, placeOf, putLine, afterLink}
@@ -28,15 +28,16 @@ use Rattle.kernel.specs.Definition.Tables.{channelAt}
 use Rattle.kernel.specs.Definition.Line.{totalOf, recordAt, sizeAt, bufferAt}
 use Rattle.kernel.specs.Definition.Segments.{mayReach, reachOf}
 use Rattle.kernel.specs.Definition.Reset.{bit4, bit5, bit6, emptying, restoring, releasing, resetting}
-use Rattle.kernel.specs.Definition.Good.{Good}
 use Rattle.kernel.specs.Definition.Step.{ramOpened, ramClosed, ramReset, segmentAt}
 use Rattle.kernel.specs.Laws.Chains.{good-chain, chain-shift}
-use Rattle.kernel.specs.Laws.Records.{record-within}
+use Rattle.kernel.specs.Laws.Facts.{room-small, reach-small}
+use Rattle.kernel.specs.Laws.Records.{record-before, record-within}
 use Rattle.kernel.specs.Laws.KeptReset.{emptying-opened}
 use Rattle.kernel.specs.Laws.Ready.{Ready}
 use Rattle.kernel.specs.declared.Tables.{Tables}
 use Rattle.history.specs.Definition.Runs.{patched}
-use Rattle.history.specs.Bytes.Places.{place-same, index-short, reach-users, off-line, reach-small}
+use Rattle.history.specs.Answers.Found.{open-at}
+use Rattle.history.specs.Bytes.Places.{place-same, index-short, reach-users, off-line}
 use Rattle.history.specs.Bytes.Changes.{Opens, opens-row, opens-total, Closes, Links}
 
 -- the number of the channel in row i, and byte k of its buffer where it lies
@@ -51,17 +52,6 @@ abbrev pub Holds : (ℕ → ℕ → ℕ) → Tables → List ℕ → Type 0
 Holds f t ram = (i : ℕ) → i < t .opened → (k : ℕ) → k < sizeAt t i → byteAt t ram i k ≡ f (channelIn t i) k
 
 -- ---- records end to end
-
-sum-rises : (xs : List Channel) (i n : ℕ) → i ≤ n → sumOf (take i xs) ≤ sumOf (take n xs)
-sum-rises xs zero n h = omega arith
-sum-rises xs (suc i) zero h = absurd (not-suc-le-zero h)
-sum-rises [] (suc i) (suc n) h = omega arith
-sum-rises (x ∷ xs) (suc i) (suc n) h = omega (arith, sum-rises xs i n (le-of-suc-le-suc h))
-
--- a record ends before a later one starts
-record-before : (t : Tables) (i j : ℕ) → Good t → i < j → j ≤ t .opened → recordAt t i + (16 + sizeAt t i) ≤ recordAt t j
-record-before t i j g h l =
-    omega (arith, sum-more (t .channels) i zeroChannel (omega (arith, g .sized .channels, g .channels .most)), sum-rises (t .channels) (i + 1) j (omega arith))
 
 -- the rows before one that is taken out
 take-less : (xs : List Channel) (i j : ℕ) → i ≤ j → j ≤ length xs → take i (without j xs zeroChannel) ≡ take i xs
@@ -120,28 +110,14 @@ module _ (t : Tables) (ram : List ℕ) (r : Ready t (length ram)) (f : ℕ → �
   link-held : (p : ℕ) → p < totalOf t → chainIndexOf (t .room) p < t .held
   link-held p h = rw (r .good .line) (index-short (t .room) (totalOf t) p h)
 
-  -- the row that a channel is found in has its number
-  pub found : (channel : ℕ) → channelAt t channel < t .opened → channelIn t (channelAt t channel) ≡ channel
-  found channel h =
-      let cs = take (t .opened) (t .channels) in
-      let n : length cs ≡ t .opened = omega (arith, length-take (t .opened) (t .channels), r .good .sized .channels, r .good .channels .most) in
-      eqb-true _ _ (rw (getD-take (t .opened) (t .channels) (channelAt t channel) zeroChannel h) at (where-found (λ (c : Channel). eqb (c .number) channel) cs zeroChannel (omega arith)))
-
   -- two rows have two numbers
   one-row : (i j : ℕ) → i < t .opened → j < t .opened → channelIn t i ≡ channelIn t j → i ≡ j
-  one-row i j h l e =
-      elim (decLt i j) [
-        | yes a ↦ absurd (r .good .channels .differ i j a l e)
-        | no a ↦ elim (decLt j i) [ yes b ↦ absurd (r .good .channels .differ j i b h (sym e)) | no b ↦ omega arith ]
-      ]
+  one-row i j h l e = neither-below i j (λ a. r .good .channels .differ i j a l e) (λ a. r .good .channels .differ j i a h (sym e))
 
   -- bytes of two buffers are at two positions
   two-rows : (i j k m : ℕ) → i < t .opened → j < t .opened → k < sizeAt t i → m < sizeAt t j → bufferAt t i + k ≡ bufferAt t j + m → i ≡ j
   two-rows i j k m h l a b e =
-      elim (decLt i j) [
-        | yes p ↦ absurd (omega (arith, record-before t i j (r .good) p (omega arith)))
-        | no p ↦ elim (decLt j i) [ yes q ↦ absurd (omega (arith, record-before t j i (r .good) q (omega arith))) | no q ↦ omega arith ]
-      ]
+      neither-below i j (λ p. omega (arith, record-before t i j (r .good) p (omega arith))) (λ q. omega (arith, record-before t j i (r .good) q (omega arith)))
 
   -- write changes the bytes of one channel
   module _ (channel offset : ℕ) (bytes : List ℕ) (h : channelAt t channel < t .opened) (fits : offset + length bytes ≤ sizeAt t (channelAt t channel)) where
@@ -174,7 +150,7 @@ module _ (t : Tables) (ram : List ℕ) (r : Ready t (length ram)) (f : ℕ → �
     pub write-law : Holds (λ c k. cond (eqb channel c) (patched offset bytes k (f c k)) (f c k)) t written-ram
     write-law i a k b =
         let j = channelAt t channel in
-        let number : channelIn t j ≡ channel = found channel h in
+        let number : channelIn t j ≡ channel = open-at t (r .good) channel h .number in
         elim (ℕ-discrete i j) [
           | yes q ↦ rw (q, eq-eqb channel (channelIn t j) (sym number)) (write-here k (rw q at b) ∙ ap (patched offset bytes k) (holds j h k (rw q at b)))
           | no q ↦
@@ -286,9 +262,8 @@ module _ (t : Tables) (ram : List ℕ) (r : Ready t (length ram)) (f : ℕ → �
       let buffer : bufferAt u i ≡ bufferAt t i = rw (o .channels) in
       let p = bufferAt t i + k in
       let within : p < totalOf t = inside i k few (omega arith) in
-      let small : t .room ≤ 16384 = omega (arith, r .good .room .most, r .good .room .top) in
       let chain : Chain (u .chain) (t .room) (totalOf t + m) (length ram) =
-      chain-shift (u .chain) (t .room) m (totalOf t) (length ram) le small (rw (total, o .room) at (good-chain u (length ram) (s .good) (s .size))) in
+      chain-shift (u .chain) (t .room) m (totalOf t) (length ram) le (room-small t (r .good)) (rw (total, o .room) at (good-chain u (length ram) (s .good) (s .size))) in
       rw (number, buffer, o .room)
       (linked-points (u .chain) (t .room) m ram (totalOf t) chain le .moved p within
       ∙ ap (λ (x : ℕ). getD ram x 0) (place-same (u .chain) (t .chain) (t .room) p (o .chain (chainIndexOf (t .room) p) (link-held p within)))

@@ -28,9 +28,10 @@ use Rattle.kernel.specs.Laws.Ready.{Ready, ready-heard}
 use Rattle.kernel.specs.declared.Tables.{Tables}
 use Rattle.kernel.specs.declared.Outcome.{Outcome}
 use Rattle.history.specs.Definition.Runs.{State, History, after, event, Started, NotAccepted, Runs, stay, then, Run, written, lastWritten, ReadsRight}
+use Rattle.history.specs.Answers.Found.{open-at}
 use Rattle.history.specs.Bytes.Done.{Done, resets, opens, closes, reads, writes, names, counts, links, tells, bounds, grants, shares, frees, stores, loads, heard-done}
 use Rattle.history.specs.Bytes.Changes.{opening-opens, closing-closes, linking-links}
-use Rattle.history.specs.Bytes.Buffers.{Holds, found, write-law, open-law, close-law, link-law, store-law, reset-law}
+use Rattle.history.specs.Bytes.Buffers.{Holds, write-law, open-law, close-law, link-law, store-law, reset-law}
 use Rattle.history.specs.Bytes.Steps.{Sound, done-length, Stepped, refused, done, stepped, step-sound, start-sound}
 
 freeing-law : (t : Tables) (row : ℕ) (ram : List ℕ) (f : ℕ → ℕ → ℕ) → Holds f t ram → Holds f (freeing t row) ram
@@ -113,7 +114,7 @@ module _ (t : State) (f : ℕ → ℕ → ℕ) (r : Sound t) (holds : Holds f (t
       ∙ bytes-at walk (t .ram) p size i h
       ∙ ap (λ (x : ℕ). getD (t .ram) (walk x) 0) at
       ∙ holds j (known .0) (offset + i) (omega (arith, known .1))
-      ∙ ap (λ (x : ℕ). f x (offset + i)) (found u (t .ram) r f holds channel (known .0))
+      ∙ ap (λ (x : ℕ). f x (offset + i)) (open-at u (r .good) channel (known .0) .number)
 
 -- A read that is done after any sequence of calls since an accepted start, with no second start: each byte that it gives is the one last written
 -- there through that channel since its opening, or zero if none was.

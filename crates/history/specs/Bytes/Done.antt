@@ -11,6 +11,7 @@ use Rattle.names.specs.Definition.Grammar.{Reading}
 use Rattle.names.specs.Definition.Read.{reading}
 use Rattle.names.specs.Definition.Tests.{linkNameTest, defaultNameTest}
 use Rattle.names.specs.Definition.Words.{wordOf}
+use Rattle.rows.specs.Laws.Lists.{or-left}
 use Rattle.rows.specs.declared.Channel.{Channel}
 use Rattle.kernel.specs.Definition.Tables.{rowOf, sharing, channelAt, withDefault}
 use Rattle.kernel.specs.Definition.Line.{totalOf, sizeAt, boundaryOf, roomFor, opening, closing}
@@ -46,10 +47,6 @@ pub data Done (t : Tables) (output : ℕ) : Call → Tables → Type 0 where
       → Done t output (store segment offset bytes) t
   loads : {segment offset size : ℕ} → mayReach t (rowOf t segment) ≡ true → offset + size ≤ reachOf t (rowOf t segment)
       → Done t output (load segment offset size) t
-
-or-no-left : (a b : Bool) → a || b ≡ false → a ≡ false
-or-no-left true b e = e
-or-no-left false b e = refl
 
 -- a call whose outcome this is, if it is done
 abbrev Leaves : Tables → ℕ → Call → Outcome → Type 0
@@ -99,7 +96,7 @@ module _ (t : Tables) (output : ℕ) where
       let c = read channel offset size in
       past c (leb (t .opened) (channelAt t channel)) _ _ refl (λ e.
       past c (ltb (sizeAt t (channelAt t channel)) (offset + size) || ltb output size) _ _ refl (λ f _.
-      reads (leb-false _ _ e) (ltb-false _ _ (or-no-left _ (ltb output size) f))))
+      reads (leb-false _ _ e) (ltb-false _ _ (or-left _ (ltb output size) f))))
 
   write-done : (channel offset : ℕ) (bytes : List ℕ) → Leaves t output (write channel offset bytes) (onWrite t channel offset (length bytes))
   unfolding onWrite
@@ -123,7 +120,7 @@ module _ (t : Tables) (output : ℕ) where
       past c (not (linkNameTest name)) _ _ refl (λ _.
       past c (leb 16 (t .known)) _ _ refl (λ _.
       past c (ltb (t .room) (256 + m) || not (roomFor t (t .room - m) (totalOf t))) _ _ refl (λ e _.
-      links (ltb-false _ _ (or-no-left _ (not (roomFor t (t .room - m) (totalOf t))) e)))))
+      links (ltb-false _ _ (or-left _ (not (roomFor t (t .room - m) (totalOf t))) e)))))
 
   boundary-done : Leaves t output boundary (onBoundary t)
   unfolding onBoundary
@@ -165,7 +162,7 @@ module _ (t : Tables) (output : ℕ) where
       let c = load segment offset size in
       past c (not (mayReach t (rowOf t segment))) _ _ refl (λ e.
       past c (ltb (reachOf t (rowOf t segment)) (offset + size) || ltb output size) _ _ refl (λ f _.
-      loads (not-false _ e) (ltb-false _ _ (or-no-left _ (ltb output size) f))))
+      loads (not-false _ e) (ltb-false _ _ (or-left _ (ltb output size) f))))
 
   pub heard-done : (ram : ℕ) (c : Call) → isStart c ≡ false → granted (heard t ram output c .answer) ≡ true → Done t output c (heard t ram output c .tables)
   unfolding heard

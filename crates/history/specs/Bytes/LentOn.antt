@@ -23,7 +23,8 @@ use Rattle.kernel.specs.Laws.Ready.{Ready, ready-accepted}
 use Rattle.kernel.specs.declared.Tables.{Tables}
 use Rattle.history.specs.Definition.Runs.{State, History, Run, lastWritten}
 use Rattle.history.specs.Definition.Lent.{bufferOf, sizeOf, OneSegment}
-use Rattle.history.specs.Bytes.Buffers.{Holds, found}
+use Rattle.history.specs.Answers.Found.{open-at}
+use Rattle.history.specs.Bytes.Buffers.{Holds}
 use Rattle.history.specs.Bytes.BytesRead.{run-holds}
 
 module _ (t : Tables) (ram : List ℕ) (r : Ready t (length ram)) (channel : ℕ) where
@@ -83,7 +84,7 @@ module _ (t : Tables) (ram : List ℕ) (r : Ready t (length ram)) (channel : ℕ
         part ∙ byte
         ∙ bytes-at (placeOf (t .chain) (t .room)) ram (bufferOf t channel) n k h
         ∙ holds (channelAt t channel) known k h
-        ∙ ap (λ (x : ℕ). f x k) (found t ram r f holds channel known)
+        ∙ ap (λ (x : ℕ). f x k) (open-at t (r .good) channel known .number)
 
   none-lent : ¬ OneSegment t channel → partOn t ram channel ≡ []
   unfolding partOf

@@ -20,7 +20,7 @@ use Rattle.kernel.specs.Definition.Line.{totalOf, oneMore, grown, oneLess, shru
 use Rattle.kernel.specs.Definition.Segments.{mayReach, reachOf}
 use Rattle.kernel.specs.Definition.Good.{Good}
 use Rattle.kernel.specs.Definition.Step.{segmentAt}
-use Rattle.kernel.specs.Laws.Facts.{chain-exactly}
+use Rattle.kernel.specs.Laws.Facts.{chain-exactly, chain-once, room-small, user-small}
 use Rattle.kernel.specs.declared.Tables.{Tables}
 use Rattle.history.specs.Definition.Users.{Users, page-zero, own, shared}
 
@@ -62,13 +62,6 @@ edge-under room total p h e =
           omega (arith, index-high room p g, offset-high room p g, x .sum)
     ]
 
-edge-small : (room total : ℕ) → room < 16384 → boundaryAt room total < 16384
-edge-small room total h =
-    elim (decLe total room) [
-      | yes q ↦ omega (arith, edge-low room total q)
-      | no q ↦ let x : Ends room total (chainLength room total - 1) (boundaryAt room total) = ends room total (omega arith) in x .top
-    ]
-
 -- what a store or load may reach is the user's
 pub reach-users : (t : Tables) (row offset : ℕ) → mayReach t row ≡ true → offset < reachOf t row → Users t row offset
 reach-users t row offset m h =
@@ -90,32 +83,14 @@ reach-users t row offset m h =
     ]
 
 module _ (t : Tables) (g : Good t) where
-  small : t .room < 16384
-  small = omega (arith, g .room .most, g .room .top)
-
   -- a place of the chain's segment i that is in a row of another class than system and shared
   held-not : (i row : ℕ) → i < t .held → at (t .chain) i ≡ row → timesHeld (classAt t row) ≡ 0 → ⊥
   held-not i row h e z = omega (arith, (rw e at (chain-exactly t g .only i h)))
 
-  once : (i j : ℕ) → i < t .held → j < t .held → at (t .chain) i ≡ at (t .chain) j → i ≡ j
-  once i j h k e =
-      elim (decLt i j) [
-        | yes a ↦ absurd (chain-exactly t g .once i j a k e)
-        | no a ↦ elim (decLt j i) [ yes b ↦ absurd (chain-exactly t g .once j i b h (sym e)) | no b ↦ omega arith ]
-      ]
-
   pub users-small : (row offset : ℕ) → Users t row offset → offset < 16384
   users-small row offset (page-zero z h) = h
   users-small row offset (own k c h) = h
-  users-small row offset (shared k c h) = omega (arith, g .user .most, edge-small (t .room) (totalOf t) small)
-
-  -- a store or load reaches no further than its segment
-  pub reach-small : (row : ℕ) → reachOf t row ≤ 16384
-  reach-small row =
-      elim (ℕ-discrete (classAt t row) SHARED) [
-        | yes q ↦ rw (eq-eqb _ _ q) (omega (arith, g .user .most, edge-small (t .room) (totalOf t) small))
-        | no q ↦ rw (ne-eqb _ _ q) (omega arith)
-      ]
+  users-small row offset (shared k c h) = omega (arith, user-small t g)
 
   -- a chain's segment that has a place of the user's is the last, and shared
   users-last : (row offset i : ℕ) → Users t row offset → i < t .held → at (t .chain) i ≡ row → (i + 1 ≡ t .held) × (offset < t .user)
@@ -123,7 +98,7 @@ module _ (t : Tables) (g : Good t) where
   users-last row offset i (own k c h) l e = absurd (held-not i row l e (rw c))
   users-last row offset i (shared k c h) l e =
       let m = g .chain .holds in
-      let last : i ≡ t .held - 1 = once i (t .held - 1) l (omega arith) (e ∙ sym (g .chain .last row k c)) in
+      let last : i ≡ t .held - 1 = chain-once t g i (t .held - 1) l (omega arith) (e ∙ sym (g .chain .last row k c)) in
       (omega arith, h)
 
   -- no place of the line is the user's
@@ -131,7 +106,7 @@ module _ (t : Tables) (g : Good t) where
   unfolding placeOf
   off-line row offset u p h e =
       let so = users-small row offset u in
-      let sp = offset-lt (t .room) p (omega (arith, small)) in
+      let sp = offset-lt (t .room) p (room-small t g) in
       let same : at (t .chain) (chainIndexOf (t .room) p) ≡ row = omega arith in
       let l : chainIndexOf (t .room) p < t .held = rw (g .line) (index-short (t .room) (totalOf t) p h) in
       let last = users-last row offset (chainIndexOf (t .room) p) u l same in

@@ -19,12 +19,12 @@ use Rattle.kernel.specs.Definition.Answers.{granted}
 use Rattle.kernel.specs.Definition.Calls.{Call, isStart}
 use Rattle.kernel.specs.Definition.Step.{segmentAt, ramAfter, Result, completed, step}
 use Rattle.kernel.specs.Definition.Fields.{Fields}
+use Rattle.kernel.specs.Laws.Facts.{reach-small}
 use Rattle.kernel.specs.Laws.Ready.{Ready, ready-heard, decided-ready, start-ready}
 use Rattle.kernel.specs.declared.Tables.{Tables}
 use Rattle.history.specs.Definition.Runs.{State, after, event, Started, NotAccepted}
 use Rattle.history.specs.Bytes.Done.{Done, resets, opens, closes, reads, writes, names, counts, links, tells, bounds, grants, shares, frees, stores, loads, heard-done}
 use Rattle.history.specs.Answers.Refused.{refused-changes-nothing}
-use Rattle.history.specs.Bytes.Places.{reach-small}
 
 -- a state with good tables, and RAM of their size
 abbrev pub Sound : State → Type 0

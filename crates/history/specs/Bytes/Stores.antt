@@ -29,13 +29,14 @@ use Rattle.kernel.specs.Definition.Reset.{bit4, bit5}
 use Rattle.kernel.specs.Definition.Calls.{Call}
 use Rattle.kernel.specs.Definition.Step.{ramOpened, ramClosed, segmentAt, ramAfter}
 use Rattle.kernel.specs.Laws.Chains.{good-chain, chain-shift}
+use Rattle.kernel.specs.Laws.Facts.{reach-small}
 use Rattle.kernel.specs.Laws.Records.{record-within}
 use Rattle.kernel.specs.Laws.Ready.{Ready}
 use Rattle.kernel.specs.declared.Tables.{Tables}
 use Rattle.history.specs.Definition.Runs.{patched, stored}
 use Rattle.history.specs.Bytes.Done.{Done, resets, opens, closes, reads, writes, names, counts, links, tells, bounds, grants, shares, frees, stores, loads}
 use Rattle.history.specs.Definition.Users.{Users}
-use Rattle.history.specs.Bytes.Places.{off-line, off-room, users-small, reach-small}
+use Rattle.history.specs.Bytes.Places.{off-line, off-room, users-small}
 use Rattle.history.specs.Bytes.Changes.{Opens, opens-total, opening-opens, Links, linking-links}
 use Rattle.history.specs.Bytes.Buffers.{patched-in, patched-low, patched-high, put-at-is}
 use Rattle.history.specs.Bytes.Steps.{store-fits}

@@ -1,4 +1,4 @@
--- What good tables say of the chain's length, the user boundary and the segment 255, as the counts of places need it.
+-- What good tables say of the chain's length and the segment 255, as the counts of places need it.
 use mathlib.Core.Path.{_≡_, sym, _∙_}
 use mathlib.Core.Bool.{Bool, true, false, cond}
 use Prim.Native.Nat.{ℕ, _+_, _-_, _*_, _≤_}
@@ -6,7 +6,7 @@ use native.Mathlib.Decide.{decLe}
 use native.Mathlib.Omega.{arith}
 use Rattle.rows.specs.Definition.Classes.{SHARED}
 use Rattle.rows.specs.Definition.Sizes.{chainLength, boundaryAt}
-use Rattle.rows.specs.Laws.Sizes.{length-low, edge-low, ends, Ends}
+use Rattle.rows.specs.Laws.Sizes.{length-low, edge-low, ends}
 use Rattle.kernel.specs.Definition.Tables.{classAt}
 use Rattle.kernel.specs.Definition.Line.{totalOf}
 use Rattle.kernel.specs.Definition.Good.{Good}
@@ -21,19 +21,7 @@ line-sum r n = elim (decLe n r) [
   | no h ↦ ends r n (omega arith) .sum
 ]
 
-pub edge-small : (r n : ℕ) → r ≤ 16384 → boundaryAt r n ≤ 16384
-edge-small r n h = elim (decLe n r) [
-  | yes g ↦ omega (arith, edge-low r n g)
-  | no g ↦ let e : Ends r n _ _ = ends r n (omega arith) in omega (arith, e .top)
-]
-
 module _ (t : Tables) (g : Good t) where
-  pub room-small : t .room ≤ 16384
-  room-small = omega (arith, g .room .most, g .room .top)
-
-  pub user-small : t .user ≤ 16384
-  user-small = omega (arith, g .user .most, edge-small (t .room) (totalOf t) room-small)
-
   -- "255 is always held."
   pub top-in : inSystem t (t .segments - 1) ≡ true
   top-in = go (inSystem t (t .segments - 1)) (top-held t g)

@@ -6,21 +6,17 @@ use mathlib.Core.Option.{Option, none, some}
 use Prim.Native.Nat.{ℕ, _+_, _-_, _≤_, _<_}
 use native.Mathlib.Decide.{ℕ-discrete}
 use native.Mathlib.Omega.{arith}
-use borrow.Author.Tests.{ltb-true, ltb-false, leb-true, eqb-true, ne-eqb, eq-eqb, lt-ltb}
+use borrow.Author.Tests.{ltb-true, ltb-false, leb-true, ne-eqb, eq-eqb}
 use lib.Dec.{eqb, ltb, leb}
-use lib.ListN.{length, getD, take, length-take}
-use lib.Seq.{getD-take}
+use lib.ListN.{length}
 use Rattle.names.specs.Definition.Grammar.{Reading}
 use Rattle.names.specs.Definition.Read.{reading}
 use Rattle.names.specs.Definition.Tests.{linkNameTest}
 use Rattle.names.specs.Laws.Right.{reading-right, unread-right}
 use Rattle.names.specs.Laws.Runs.{link-finds}
 use Rattle.names.specs.Definition.Words.{wordOf}
-use Rattle.rows.specs.Laws.Lists.{where-found, where-absent}
-use Rattle.rows.specs.Definition.Channels.{zeroChannel}
-use Rattle.rows.specs.Definition.Devices.{beyondDevices, hasName}
-use Rattle.rows.specs.Laws.Good.{same-yes}
-use Rattle.rows.specs.declared.Channel.{Channel}
+use Rattle.rows.specs.Laws.Lists.{is-false}
+use Rattle.rows.specs.Laws.Good.{says-no}
 use Rattle.kernel.specs.Definition.Tables.{ramSize, channelAt}
 use Rattle.kernel.specs.Definition.Line.{totalOf, roomFor}
 use Rattle.kernel.specs.Definition.Devices.{linking}
@@ -29,17 +25,14 @@ use Rattle.kernel.specs.declared.Wanted.{Wanted}
 use Rattle.kernel.specs.Definition.Answers.{numberOf, gives}
 use Rattle.kernel.specs.Definition.Good.{Sized, Good, goodTest}
 use Rattle.kernel.specs.Definition.Calls.{Call, «open», link, onOpen, onOpenNamed, onOpenTo, onLink}
-use Rattle.kernel.specs.Definition.Refusals.{OpenAt, Enabled, NotStart, tables-bad, ram-wrong, open-channel, open-exists, open-name, open-device, open-driver, open-full, link-name, link-full}
+use Rattle.kernel.specs.Definition.Refusals.{Enabled, NotStart, tables-bad, ram-wrong, open-channel, open-exists, open-name, open-device, open-driver, open-full, link-name, link-full}
 use Rattle.kernel.specs.Definition.Step.{heard, decided}
 use Rattle.kernel.specs.Laws.Good.{good-says}
 use Rattle.kernel.specs.Laws.Ready.{Ready, ready-heard}
 use Rattle.kernel.specs.declared.Tables.{Tables}
 use Rattle.kernel.specs.declared.Answer.the-variants.{Done, NoRoom}
 use Rattle.history.specs.Definition.Room.{Passes, OnlyRoom}
-
-is-false : (b : Bool) → (b ≡ true → ⊥) → b ≡ false
-is-false true h = absurd (h refl)
-is-false false h = refl
+use Rattle.history.specs.Answers.Found.{open-says, enabled-says}
 
 is-true : (b : Bool) → (b ≡ false → ⊥) → b ≡ true
 is-true true h = refl
@@ -60,30 +53,14 @@ passes-ready t ram output c s n p =
 
 -- no device is enabled and so named where none is found
 none-enabled : (t : Tables) → Good t → (w : Wanted) → t .known ≤ deviceFor t w → (i : ℕ) → ¬ Enabled t w i
-none-enabled t g w h i e =
-    let ds = take (t .known) (t .devices) in
-    let l : length ds ≡ t .known = omega (arith, length-take (t .known) (t .devices), g .sized .devices, g .devices .most) in
-    let d = getD (t .devices) i beyondDevices in
-    let no : hasName (w .name) (w .length) d ≡ false =
-    rw (getD-take (t .known) (t .devices) i beyondDevices (e .known)) at (where-absent (hasName (w .name) (w .length)) ds beyondDevices (omega arith) i (omega (arith, e .known))) in
-    let is : hasName (w .name) (w .length) d ≡ true = rw (lt-ltb 0 (w .length) (e .named), e .enabled, same-yes (d .name) (d .length) (w .name) (w .length) (e .same)) in
-    false≢true (sym no ∙ is)
-
--- the channel found is open
-found-open : (t : Tables) → Good t → (channel : ℕ) → channelAt t channel < t .opened → OpenAt t channel (channelAt t channel)
-found-open t g channel h =
-    let cs = take (t .opened) (t .channels) in
-    let l : length cs ≡ t .opened = omega (arith, length-take (t .opened) (t .channels), g .sized .channels, g .channels .most) in
-    let f : eqb (getD cs (channelAt t channel) zeroChannel .number) channel ≡ true =
-    where-found (λ (c : Channel). eqb (c .number) channel) cs zeroChannel (omega arith) in
-    record { row = h; number = eqb-true _ _ (rw (getD-take (t .opened) (t .channels) (channelAt t channel) zeroChannel h) at f) }
+none-enabled t g w h i e = omega (arith, ltb-true (deviceFor t w) (t .known) (enabled-says t g w .make (i, e)))
 
 module _ (t : Tables) (ram output channel driver n : ℕ) (name : List ℕ) (s : Sized t) (p : Passes t ram output («open» channel driver n name)) where
   ready : Ready t ram
   ready = passes-ready t ram output («open» channel driver n name) s refl p
 
   new : ltb (channelAt t channel) (t .opened) ≡ false
-  new = is-false _ (λ e. p 4 (omega arith) (open-exists (found-open t (ready .good) channel (ltb-true _ _ e))))
+  new = says-no (open-says t (ready .good) channel) (λ (i, o). p 4 (omega arith) (open-exists o))
 
   differs : eqb channel 255 ≡ false
   differs = ne-eqb channel 255 (λ e. p 3 (omega arith) (rw e open-channel))

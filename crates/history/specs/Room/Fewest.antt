@@ -5,10 +5,11 @@ use lib.ListN.{take}
 use Rattle.rows.specs.Laws.Sizes.{chain-most}
 use Rattle.kernel.specs.Definition.Line.{totalOf}
 use Rattle.kernel.specs.Definition.Good.{Good}
+use Rattle.kernel.specs.Laws.Facts.{room-small, user-small}
 use Rattle.kernel.specs.declared.Tables.{Tables}
 use Rattle.history.specs.Definition.Places.{recordLengths, countIn, inSystem}
 use Rattle.history.specs.Room.Counts.{total-records, size-some, in-exists, outside-exists, held-size}
-use Rattle.history.specs.Room.Bounds.{line-sum, room-small, user-small, top-in, top-clear}
+use Rattle.history.specs.Room.Bounds.{line-sum, top-in, top-clear}
 use Rattle.history.specs.Definition.Room.{Fewest}
 
 pub fewest : (t : Tables) → Good t → Fewest t

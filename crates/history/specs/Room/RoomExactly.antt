@@ -13,14 +13,14 @@ use Rattle.kernel.specs.Definition.Line.{totalOf}
 use Rattle.kernel.specs.Definition.Good.{Sized, Good}
 use Rattle.kernel.specs.Definition.Calls.{«open», link}
 use Rattle.kernel.specs.Definition.Step.{decided}
-use Rattle.kernel.specs.Laws.Facts.{no-shorter}
+use Rattle.kernel.specs.Laws.Facts.{no-shorter, room-small}
 use Rattle.kernel.specs.declared.Tables.{Tables}
 use Rattle.kernel.specs.declared.Answer.{Answer}
 use Rattle.history.specs.Room.Sums.{total, total-append}
 use Rattle.history.specs.Definition.Layout.{Layout}
 use Rattle.history.specs.Definition.Places.{lengthsOf, recordLengths, offered, Outside}
 use Rattle.history.specs.Room.Counts.{total-records}
-use Rattle.history.specs.Room.Bounds.{room-small, top-clear}
+use Rattle.history.specs.Room.Bounds.{top-clear}
 use Rattle.history.specs.Room.RoomRule.{room-layout, layout-clear}
 use Rattle.history.specs.Definition.Room.{Passes, OnlyRoom, recordsAnd, LinkFits}
 use Rattle.history.specs.Room.Earlier.{passes-ready, open-left, link-left}

@@ -17,14 +17,14 @@ use Rattle.kernel.specs.Definition.Tables.{classAt, countOf, sharing}
 use Rattle.kernel.specs.Definition.Line.{roomFor}
 use Rattle.kernel.specs.Definition.Good.{Good}
 use Rattle.kernel.specs.Laws.Body.{body}
-use Rattle.kernel.specs.Laws.Facts.{chain-exactly}
+use Rattle.kernel.specs.Laws.Facts.{chain-exactly, user-small}
 use Rattle.kernel.specs.Laws.KeptLine.{shares-no}
 use Rattle.kernel.specs.declared.Tables.{Tables}
 use Rattle.history.specs.Room.Sums.{total}
 use Rattle.history.specs.Definition.Layout.{Layout}
 use Rattle.history.specs.Definition.Places.{countIn, offered, inSystem, Outside}
 use Rattle.history.specs.Room.Counts.{outside-exists, offered-shared, offered-apart}
-use Rattle.history.specs.Room.Bounds.{line-sum, user-small, top-in, top-alone}
+use Rattle.history.specs.Room.Bounds.{line-sum, top-in, top-alone}
 use Rattle.history.specs.Definition.Room.{Clear}
 
 -- with a segment shared: how far the line may reach, where it takes no fewer segments than the chain has

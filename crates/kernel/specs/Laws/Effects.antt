@@ -1,6 +1,6 @@
 -- The outcomes that a call can have, each with what is known of it: the refusals are read here once, for all laws on calls.
-use mathlib.Core.Path.{_≡_, refl, sym}
-use mathlib.Core.Bool.{Bool, true, false, not, cond, _&&_, _||_, false≢true}
+use mathlib.Core.Path.{_≡_, refl}
+use mathlib.Core.Bool.{Bool, true, false, not, cond, _&&_, _||_}
 use mathlib.Core.List.{List}
 use mathlib.Core.Option.{Option, none, some}
 use Prim.Native.Nat.{ℕ, _+_, _-_, _≤_, _<_}
@@ -13,7 +13,7 @@ use Rattle.names.specs.Definition.Read.{reading}
 use Rattle.names.specs.Definition.Tests.{linkNameTest, defaultNameTest}
 use Rattle.names.specs.Definition.Words.{wordOf, LinkName, DefaultName}
 use Rattle.names.specs.Laws.Runs.{link-right, default-right}
-use Rattle.rows.specs.Laws.Lists.{and-left, and-right}
+use Rattle.rows.specs.Laws.Lists.{and-left, and-right, or-left, or-right}
 use Rattle.rows.specs.Definition.Classes.{SHARED}
 use Rattle.rows.specs.declared.Channel.{Channel}
 use Rattle.kernel.specs.Definition.Tables.{classAt, rowOf, lowestFree, sharing, channelAt, withDefault}
@@ -58,15 +58,6 @@ pub data Effect (t : Tables) (ram : ℕ) : Outcome → Type 0 where
   -- the caller's own segment, and a shared one
   frees : (a b caller row : ℕ) → row < t .segments → classAt t row ≡ classFor caller → Effect t ram (gives (Done a b) (freeing t row))
   parts : (a b row : ℕ) → row < t .segments → classAt t row ≡ SHARED → Effect t ram (gives (Done a b) (freeing t row))
-
--- of two tests, neither holds
-or-no-left : (a b : Bool) → a || b ≡ false → a ≡ false
-or-no-left true b e = e
-or-no-left false b e = refl
-
-or-no-right : (a b : Bool) → a || b ≡ false → b ≡ false
-or-no-right true b e = absurd (false≢true (sym e))
-or-no-right false b e = e
 
 module _ (t : Tables) (ram : ℕ) where
   -- one row of `unless`: the refusal, or what follows where it does not hold
@@ -138,7 +129,7 @@ module _ (t : Tables) (ram : ℕ) where
       past (leb 16 (t .known)) _ _ refl (λ few.
       past (ltb (t .room) (256 + m) || not (roomFor t (t .room - m) (totalOf t))) _ _ refl (λ fits.
       links _ _ m name (link-right name (not-false _ e)) (leb-false _ _ few)
-      (ltb-false _ _ (or-no-left _ (not (roomFor t (t .room - m) (totalOf t))) fits)) (not-false _ (or-no-right (ltb (t .room) (256 + m)) _ fits)))))
+      (ltb-false _ _ (or-left _ (not (roomFor t (t .room - m) (totalOf t))) fits)) (not-false _ (or-right (ltb (t .room) (256 + m)) _ fits)))))
 
   boundary-effect : Effect t ram (onBoundary t)
   unfolding onBoundary
@@ -148,7 +139,7 @@ module _ (t : Tables) (ram : ℕ) where
   unfolding onSetUserBoundary
   bound-effect value =
       past (not (sharing t) || ltb (boundaryOf t) value) _ _ refl (λ e.
-      bounds _ _ value (not-false _ (or-no-left _ (ltb (boundaryOf t) value) e)) (ltb-false _ _ (or-no-right (not (sharing t)) _ e)))
+      bounds _ _ value (not-false _ (or-left _ (ltb (boundaryOf t) value) e)) (ltb-false _ _ (or-right (not (sharing t)) _ e)))
 
   allocated : (caller a b c d : ℕ) (free : Bool) → someFree t ≡ free → not free && not (mayShare t caller) ≡ false
       → Effect t ram (cond free (gives (Done a b) (granting t caller)) (gives (Shared c d) (sharingLast t)))

@@ -15,6 +15,7 @@ use Rattle.kernel.specs.Definition.Good.{Good}
 use Rattle.kernel.specs.Definition.Line.{totalOf, roomFor}
 use Rattle.kernel.specs.Definition.Devices.{linking}
 use Rattle.kernel.specs.Laws.Arrays.{link-default, word-good}
+use Rattle.kernel.specs.Laws.Facts.{room-small}
 use Rattle.kernel.specs.Laws.Grow.{Grown, grown-rest}
 use Rattle.kernel.specs.Laws.KeptNames.{linking-keeps}
 use Rattle.kernel.specs.Laws.Chains.{good-chain, chain-shift}
@@ -56,4 +57,4 @@ module _ (t : Tables) (m : ℕ) (name : List ℕ) (g : Good t) (l : Links t m na
       let u = linking t m (wordOf name) (length name) in
       let r = linking-rest in
       let k : Chain (u .chain) (u .room) (totalOf u) size = good-chain u size linking-good (rw (r .segments) e) in
-      chain-shift (u .chain) (t .room) m (totalOf t) size (omega (arith, l .least)) (omega (arith, g .room .most, g .room .top)) (rw (r .room, r .total) at k)
+      chain-shift (u .chain) (t .room) m (totalOf t) size (omega (arith, l .least)) (room-small t g) (rw (r .room, r .total) at k)

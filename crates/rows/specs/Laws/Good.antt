@@ -10,7 +10,7 @@ use lib.ListN.{length, getD, take}
 use lib.Dec.{leb, ltb, eqb}
 use borrow.Author.Tests.{leb-true, ltb-true, eqb-true, le-leb, lt-ltb, eq-eqb, not-true}
 use Rattle.rows.specs.Definition.Lists.{at, padded, tally, upTo}
-use Rattle.rows.specs.Laws.Lists.{upTo→all, all→upTo, and-left, and-right}
+use Rattle.rows.specs.Laws.Lists.{upTo→all, all→upTo, and-left, and-right, is-false}
 use Rattle.rows.specs.Definition.Classes.{FREE, SHARED, timesHeld}
 use Rattle.rows.specs.Definition.Channels.{zeroChannel}
 use Rattle.rows.specs.Definition.Devices.{beyondDevices, sameBytes, sameName, VIDEO, NET, KEYBOARD}
@@ -72,13 +72,9 @@ says-all n p P f = record {
   make = λ g. all→upTo n p (λ i h. f i h .make (g i h));
 }
 
-false-of : (b : Bool) → (b ≡ true → ⊥) → b ≡ false
-false-of true n = absurd (n refl)
-false-of false n = refl
-
 -- where what it says does not hold, the test fails
 pub says-no : {b : Bool} {P : Type 0} → Says b P → (P → ⊥) → b ≡ false
-says-no {b} f n = false-of b (λ e. n (f .yes e))
+says-no {b} f n = is-false b (λ e. n (f .yes e))
 
 pub says-not : {b : Bool} {P : Type 0} → Says b P → Says (not b) (P → ⊥)
 says-not {b} f = record {
@@ -316,7 +312,7 @@ device-says ds known =
         ((g .least, g .most), ((g .video, g .net), g .keyboard)),
         λ i h. (
           (g .some i h, g .names i h),
-          (g .on i h, λ n. false-of (d i .enabled) (λ t. n (λ j a b e. false≢true (sym (g .off i j a b e) ∙ t)))),
+          (g .on i h, λ n. is-false (d i .enabled) (λ t. n (λ j a b e. false≢true (sym (g .off i j a b e) ∙ t)))),
         ),
       ),
       λ i h a. g .rest i a h,

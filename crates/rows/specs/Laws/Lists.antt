@@ -20,6 +20,23 @@ pub and-right : (a b : Bool) → a && b ≡ true → b ≡ true
 and-right true b e = e
 and-right false b e = absurd (false≢true e)
 
+-- two tests of which neither passed
+pub or-left : (a b : Bool) → a || b ≡ false → a ≡ false
+or-left true b e = e
+or-left false b e = refl
+
+pub or-right : (a b : Bool) → a || b ≡ false → b ≡ false
+or-right true b e = absurd (false≢true (sym e))
+or-right false b e = e
+
+pub is-false : (b : Bool) → (b ≡ true → ⊥) → b ≡ false
+is-false true n = absurd (n refl)
+is-false false n = refl
+
+-- two numbers of which neither is below the other
+pub neither-below : (i j : ℕ) → (i < j → ⊥) → (j < i → ⊥) → i ≡ j
+neither-below i j p q = omega arith
+
 pub every-at : {A : Type 0} (p : A → Bool) (xs : List A) (d : A) → every p xs ≡ true → (k : ℕ) → k < length xs → p (getD xs k d) ≡ true
 every-at p [] d t k h = absurd (not-suc-le-zero h)
 every-at p (x ∷ xs) d t zero h = and-left (p x) (every p xs) t

@@ -41,6 +41,10 @@ ends r n h =
 pub length-some : (r n : ℕ) → 1 ≤ chainLength r n
 length-some r n = elim (decLe n r) [ yes h ↦ omega (arith, length-low r n h) | no h ↦ omega (arith, length-high r n (omega arith)) ]
 
+-- the EXOS boundary lies in a segment
+pub edge-small : (r n : ℕ) → r ≤ 16384 → boundaryAt r n ≤ 16384
+edge-small r n h = elim (decLe n r) [ yes a ↦ omega (arith, edge-low r n a) | no a ↦ omega (arith, edge-high r n (omega arith)) ]
+
 pub length-mono : (r s n m : ℕ) → s ≤ r → n ≤ m → chainLength r n ≤ chainLength s m
 length-mono r s n m h g =
     elim (decLe n r) [

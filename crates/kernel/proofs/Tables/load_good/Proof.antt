@@ -1,7 +1,8 @@
 -- `load_good` meets its contract: each refusal and the load are a branch of `onLoad`, and the bytes lie in their segment.
 use native.Mathlib.Omega.{arith}
 use borrow.Author.Tests.{ltb-false}
-use Rattle.kernel.proofs.Spans.{Reached, reached, reach-inside, or-left, or-right}
+use Rattle.rows.specs.Laws.Lists.{or-left, or-right}
+use Rattle.kernel.proofs.Spans.{Reached, reached, reach-inside}
 use Rattle.kernel.proofs.Accessing.{load-other, load-beyond, load-done}
 use borrow.Author.Needs.{needs}
 use Rattle.kernel.proofs.Tables.load_good.Statement.{statement}

@@ -1,7 +1,8 @@
 -- `read_good` meets its contract: each refusal and the read are a branch of `onRead`, and the buffer lies inside the line.
 use native.Mathlib.Omega.{arith}
 use borrow.Author.Tests.{ltb-false}
-use Rattle.kernel.proofs.Spans.{Open, open-at, open-none, or-left, or-right, bytes-chain}
+use Rattle.rows.specs.Laws.Lists.{or-left, or-right}
+use Rattle.kernel.proofs.Spans.{Open, open-at, open-none, bytes-chain}
 use Rattle.kernel.proofs.Accessing.{read-closed, read-beyond, read-done}
 use borrow.Author.Needs.{needs}
 use Rattle.kernel.proofs.Tables.read_good.Statement.{statement}
