@@ -1,7 +1,6 @@
 -- A byte read or lent on is the one last written through that channel, and a user's byte changes only by the user's store.
-pub mod Done
 pub mod Places
-pub mod Changes
+pub mod Patched
 pub mod Buffers
 pub mod Steps
 pub mod BytesRead

@@ -19,7 +19,7 @@ good-state : {P : State → Type 0} {s t : State} {h : History} → Started s �
 unfolding step completed
 good-state {t = t} z r =
     let b = run-holds z r .0 in
-    record { good = b .good; size = b .size; heard = λ c output f. never-tables (t .tables) (length (t .ram)) (length output) c b f }
+    record { good = b .good; size = b .size; heard = λ c output _. never-tables (t .tables) (length (t .ram)) (length output) c b }
 
 all-heard : {P : State → Type 0} {s t : State} {h : History} → Started s → Runs P s h t → NeverTables h
 all-heard z (stay _) = tt

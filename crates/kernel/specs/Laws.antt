@@ -15,6 +15,7 @@ pub mod Wants
 pub mod Opens
 pub mod Links
 pub mod Effects
+pub mod Changes
 pub mod Refused
 pub mod Keeps
 pub mod Ready

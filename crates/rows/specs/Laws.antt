@@ -2,6 +2,7 @@
 pub mod Lists
 pub mod Channels
 pub mod Sizes
+pub mod Says
 pub mod Good
 pub mod Counts
 pub mod ChainRows

@@ -4,7 +4,7 @@ use mathlib.Core.Bool.{true, false, _||_, false≢true}
 use mathlib.Core.Logic.{_⊎_, inl, inr, ⊎-elim}
 use Prim.Native.Nat.{ℕ}
 use native.Mathlib.Omega.{arith}
-use Rattle.rows.specs.Laws.Good.{Says, says-eq, says-no, says-and, says-or, says-not, says-as}
+use Rattle.rows.specs.Laws.Says.{Says, says-eq, says-no, says-and, says-or, says-not, says-as}
 use Rattle.kernel.specs.Definition.Tables.{ramSize}
 use Rattle.kernel.specs.Definition.Good.{Sized, Good}
 use Rattle.kernel.specs.Definition.Answers.{gives}

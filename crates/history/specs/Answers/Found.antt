@@ -16,7 +16,8 @@ use Rattle.rows.specs.Laws.Lists.{where-found, where-absent, neither-below}
 use Rattle.rows.specs.Definition.Channels.{zeroChannel}
 use Rattle.rows.specs.Definition.Devices.{beyondDevices, hasName}
 use Rattle.rows.specs.Definition.Good.{ListGood, Same}
-use Rattle.rows.specs.Laws.Good.{Says, says-lt, says-and, says-as, same-says}
+use Rattle.rows.specs.Laws.Says.{Says, says-lt, says-and, says-as}
+use Rattle.rows.specs.Laws.Good.{same-says}
 use Rattle.rows.specs.declared.Channel.{Channel}
 use Rattle.rows.specs.declared.Device.{Device}
 use Rattle.kernel.specs.Definition.Tables.{rowOf, channelAt}

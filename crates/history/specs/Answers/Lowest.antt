@@ -9,7 +9,7 @@ use native.Mathlib.Omega.{arith}
 use borrow.Author.Tests.{not-true, leb-true, ltb-true}
 use lib.Dec.{leb, ltb}
 use Rattle.rows.specs.Laws.Lists.{and-left, and-right}
-use Rattle.rows.specs.Laws.Good.{Says}
+use Rattle.rows.specs.Laws.Says.{Says}
 use Rattle.kernel.specs.Definition.Answers.{numberOf, granted, gives, Refusal, _when_, unless}
 use Rattle.kernel.specs.declared.Tables.{Tables}
 use Rattle.kernel.specs.declared.Answer.{Answer}

@@ -7,7 +7,7 @@ use native.Mathlib.Decide.{decLt}
 use native.Mathlib.Omega.{arith}
 use borrow.Author.Tests.{ltb-true, lt-ltb, leb-true, le-leb}
 use lib.Dec.{leb, ltb}
-use Rattle.rows.specs.Laws.Good.{Says}
+use Rattle.rows.specs.Laws.Says.{Says}
 
 -- what a test says holds or not
 pub says-either : {b : Bool} {P : Type 0} → Says b P → P ⊎ (P → ⊥)

@@ -4,12 +4,12 @@ use mathlib.Core.Bool.{Bool, true, false, cond, _||_}
 use mathlib.Core.List.{List, [], _∷_, _++_}
 use Prim.Native.Nat.{ℕ, suc, _+_, _-_, _≤_, _<_}
 use native.Mathlib.Nat.{not-suc-le-zero}
-use native.Mathlib.Decide.{decLe, decLt, ℕ-discrete}
+use native.Mathlib.Decide.{decLt, ℕ-discrete}
 use native.Mathlib.Omega.{arith}
-use borrow.Author.Tests.{eq-eqb, ne-eqb, ltb-true, le-leb, lt-leb, lt-ltb, le-ltb}
+use borrow.Author.Tests.{eq-eqb, ne-eqb, ltb-true}
 use lib.Dec.{eqb, ltb}
-use lib.ListN.{length, getD, take, drop, replicate, length-take, length-append, List·getD-append}
-use lib.Seq.{take-append-le, take-take, take-set-le, getD-take, getD-drop, getD-append-add, getD-set-other}
+use lib.ListN.{length, getD, take, drop, replicate, length-take, length-append}
+use lib.Seq.{take-append-le, take-take, take-set-le, getD-set-other}
 use Rattle.rows.specs.Definition.Lists.{at, without}
 use Rattle.rows.specs.Laws.Lists.{and-left, neither-below}
 use Rattle.rows.specs.Definition.Channels.{zeroChannel, sumOf}
@@ -30,6 +30,7 @@ use Rattle.kernel.specs.Definition.Segments.{mayReach, reachOf}
 use Rattle.kernel.specs.Definition.Reset.{bit4, bit5, bit6, emptying, restoring, releasing, resetting}
 use Rattle.kernel.specs.Definition.Step.{ramOpened, ramClosed, ramReset, segmentAt}
 use Rattle.kernel.specs.Laws.Chains.{good-chain, chain-shift}
+use Rattle.kernel.specs.Laws.Changes.{Opened, opens-row, opens-total, Closed, Linked}
 use Rattle.kernel.specs.Laws.Facts.{room-small, reach-small}
 use Rattle.kernel.specs.Laws.Records.{record-before, record-within}
 use Rattle.kernel.specs.Laws.KeptReset.{emptying-opened}
@@ -37,8 +38,8 @@ use Rattle.kernel.specs.Laws.Ready.{Ready}
 use Rattle.kernel.specs.declared.Tables.{Tables}
 use Rattle.history.specs.Definition.Runs.{patched}
 use Rattle.history.specs.Answers.Found.{open-at}
+use Rattle.history.specs.Bytes.Patched.{patched-in, patched-low, patched-high, put-at-is}
 use Rattle.history.specs.Bytes.Places.{place-same, index-short, reach-users, off-line}
-use Rattle.history.specs.Bytes.Changes.{Opens, opens-row, opens-total, Closes, Links}
 
 -- the number of the channel in row i, and byte k of its buffer where it lies
 abbrev pub channelIn : Tables → ℕ → ℕ
@@ -61,42 +62,6 @@ take-less xs i j h l =
     take-append-le i (take j xs ++ drop (suc j) xs) (zeroChannel ∷ []) (omega arith)
     ∙ take-append-le i (take j xs) (drop (suc j) xs) (omega arith)
     ∙ take-take i j xs h
-
--- ---- bytes put side by side
-
-pub patched-in : (offset : ℕ) (bytes : List ℕ) (k old : ℕ) → offset ≤ k → k < offset + length bytes → patched offset bytes k old ≡ getD bytes (k - offset) 0
-unfolding patched
-patched-in offset bytes k old h l = rw (le-leb _ _ h, lt-ltb _ _ l)
-
-pub patched-low : (offset : ℕ) (bytes : List ℕ) (k old : ℕ) → k < offset → patched offset bytes k old ≡ old
-unfolding patched
-patched-low offset bytes k old h = rw (lt-leb _ _ h)
-
-pub patched-high : (offset : ℕ) (bytes : List ℕ) (k old : ℕ) → offset + length bytes ≤ k → patched offset bytes k old ≡ old
-unfolding patched
-patched-high offset bytes k old h =
-    elim (decLe offset k) [ yes l ↦ rw (le-leb _ _ l, le-ltb _ _ h) | no l ↦ rw (lt-leb offset k (omega arith)) ]
-
-pub put-at-is : (ram : List ℕ) (here : ℕ) (xs : List ℕ) (i : ℕ) → here + length xs ≤ length ram → getD (putAt ram here xs) i 0 ≡ patched here xs i (getD ram i 0)
-unfolding putAt
-put-at-is ram here xs i fits =
-    let rest = drop (here + length xs) ram in
-    let n : length (take here ram) ≡ here = omega (arith, length-take here ram) in
-    elim (decLt i here) [
-      | yes l ↦ List·getD-append (take here ram) (xs ++ rest) 0 i (omega arith) ∙ getD-take here ram i 0 l ∙ sym (patched-low here xs i (getD ram i 0) l)
-      | no l ↦
-          let e : length (take here ram) + (i - here) ≡ i = omega arith in
-          let past : getD (take here ram ++ (xs ++ rest)) i 0 ≡ getD (xs ++ rest) (i - here) 0 = rw e at (getD-append-add (take here ram) (xs ++ rest) (i - here) 0) in
-          elim (decLt i (here + length xs)) [
-            | yes q ↦ past ∙ List·getD-append xs rest 0 (i - here) (omega arith) ∙ sym (patched-in here xs i (getD ram i 0) (omega arith) q)
-            | no q ↦
-                let f : length xs + (i - here - length xs) ≡ i - here = omega arith in
-                let z : here + length xs + (i - here - length xs) ≡ i = omega arith in
-                past ∙ rw f at (getD-append-add xs rest (i - here - length xs) 0)
-                ∙ rw z at (getD-drop (here + length xs) ram (i - here - length xs) 0)
-                ∙ sym (patched-high here xs i (getD ram i 0) (omega arith))
-          ]
-    ]
 
 -- ---- one law a call
 
@@ -165,7 +130,7 @@ module _ (t : Tables) (ram : List ℕ) (r : Ready t (length ram)) (f : ℕ → �
         ]
 
   -- open appends a buffer of zeros and keeps the others
-  module _ (u : Tables) (c : Channel) (o : Opens t u c) (few : t .opened < 32) (s : Ready u (length ram)) where
+  module _ (u : Tables) (c : Channel) (o : Opened t u c) (few : t .opened < 32) (s : Ready u (length ram)) where
     new-row : getD (u .channels) (t .opened) zeroChannel ≡ c
     new-row = opens-row (r .good) o few
 
@@ -208,7 +173,7 @@ module _ (t : Tables) (ram : List ℕ) (r : Ready t (length ram)) (f : ℕ → �
         ]
 
   -- close drops one buffer and keeps the others
-  module _ (u : Tables) (j : ℕ) (o : Closes t u j) (have : j < t .opened) (s : Ready u (length ram)) where
+  module _ (u : Tables) (j : ℕ) (o : Closed t u j) (have : j < t .opened) (s : Ready u (length ram)) where
     pub close-law : Holds f u (ramClosed t ram j)
     close-law i a k b =
         let cs = t .channels in
@@ -253,7 +218,7 @@ module _ (t : Tables) (ram : List ℕ) (r : Ready t (length ram)) (f : ℕ → �
         ]
 
   -- link keeps all buffers
-  pub link-law : (u : Tables) (m : ℕ) → Links t u m → m ≤ t .room → Ready u (length ram) → Holds f u (afterLink (u .chain) (t .room) m ram (totalOf t))
+  pub link-law : (u : Tables) (m : ℕ) → Linked t u m → m ≤ t .room → Ready u (length ram) → Holds f u (afterLink (u .chain) (t .room) m ram (totalOf t))
   link-law u m o le s i a k b =
       let total : totalOf u ≡ totalOf t = rw (o .opened, o .channels) in
       let few : i < t .opened = rw (o .opened) at a in

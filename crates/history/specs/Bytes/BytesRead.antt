@@ -24,13 +24,13 @@ use Rattle.kernel.specs.Definition.Calls.{Call, read}
 use Rattle.kernel.specs.Definition.Step.{ramOpened, ramAfter, outputAfter, completed, step}
 use Rattle.kernel.specs.Definition.Fields.{Fields}
 use Rattle.kernel.specs.Laws.Keeps.{start-passed, start-is}
-use Rattle.kernel.specs.Laws.Ready.{Ready, ready-heard}
+use Rattle.kernel.specs.Laws.Effects.{Effect, resets, opens, closes, reads, writes, names, counts, links, tells, bounds, grants, shares, frees, stores, loads, effect}
+use Rattle.kernel.specs.Laws.Changes.{opening-opens, closing-closes, linking-links}
+use Rattle.kernel.specs.Laws.Ready.{Ready}
 use Rattle.kernel.specs.declared.Tables.{Tables}
 use Rattle.kernel.specs.declared.Outcome.{Outcome}
 use Rattle.history.specs.Definition.Runs.{State, History, after, event, Started, NotAccepted, Runs, stay, then, Run, written, lastWritten, ReadsRight}
 use Rattle.history.specs.Answers.Found.{open-at}
-use Rattle.history.specs.Bytes.Done.{Done, resets, opens, closes, reads, writes, names, counts, links, tells, bounds, grants, shares, frees, stores, loads, heard-done}
-use Rattle.history.specs.Bytes.Changes.{opening-opens, closing-closes, linking-links}
 use Rattle.history.specs.Bytes.Buffers.{Holds, write-law, open-law, close-law, link-law, store-law, reset-law}
 use Rattle.history.specs.Bytes.Steps.{Sound, done-length, Stepped, refused, done, stepped, step-sound, start-sound}
 
@@ -39,26 +39,26 @@ unfolding freeing
 freeing-law t row ram f holds = elim (ℕ-discrete (classAt t row) SHARED) [ yes q ↦ rw (eq-eqb _ _ q) holds | no q ↦ rw (ne-eqb _ _ q) holds ]
 
 -- every done call makes of every open channel's bytes what `written` says
-done-holds : {t u : Tables} {output : ℕ} {c : Call} (ram : List ℕ) (f : ℕ → ℕ → ℕ) → Ready t (length ram) → Ready u (length ram) → Holds f t ram
-    → Done t output c u → Holds (λ channel k. written c channel k (f channel k)) u (ramAfter t u ram c)
+done-holds : {t u : Tables} {c : Call} (ram : List ℕ) (f : ℕ → ℕ → ℕ) → Ready t (length ram) → Ready u (length ram) → Holds f t ram
+    → Effect t c u → Holds (λ channel k. written c channel k (f channel k)) u (ramAfter t u ram c)
 unfolding written ramAfter granting sharingLast bounding
 done-holds {t} ram f r s holds (resets {flags}) = reset-law t ram r f holds flags
-done-holds {t} ram f r s holds (opens c e few) =
+done-holds {t} ram f r s holds (opens c e differs new device few fits) =
     subst (λ (x : ℕ). Holds (λ d k. cond (eqb x d) 0 (f d k)) (opening t c) (ramOpened t (opening t c) ram)) e
     (open-law t ram r f holds (opening t c) c (opening-opens t c) few s)
 done-holds {t} ram f r s holds (closes {channel} h) =
     close-law t ram r f holds (closing t (channelAt t channel)) (channelAt t channel) (closing-closes t (channelAt t channel)) h s
 done-holds {t} ram f r s holds (reads h l) = holds
 done-holds {t} ram f r s holds (writes {channel} {offset} {bytes} h l) = write-law t ram r f holds channel offset bytes h l
-done-holds {t} ram f r s holds names = holds
+done-holds {t} ram f r s holds (names h) = holds
 done-holds {t} ram f r s holds counts = holds
-done-holds {t} ram f r s holds (links {m} {name} h) =
+done-holds {t} ram f r s holds (links {m} {name} w few h fits) =
     link-law t ram r f holds (linking t m (wordOf name) (length name)) m (linking-links t m (wordOf name) (length name)) (omega arith) s
 done-holds {t} ram f r s holds tells = holds
-done-holds {t} ram f r s holds bounds = holds
-done-holds {t} ram f r s holds grants = holds
-done-holds {t} ram f r s holds shares = holds
-done-holds {t} ram f r s holds (frees {caller} {segment}) = freeing-law t (rowOf t segment) ram f holds
+done-holds {t} ram f r s holds (bounds a h) = holds
+done-holds {t} ram f r s holds (grants h) = holds
+done-holds {t} ram f r s holds (shares a) = holds
+done-holds {t} ram f r s holds (frees {caller} {segment} h o) = freeing-law t (rowOf t segment) ram f holds
 done-holds {t} ram f r s holds (stores {segment} {offset} {bytes} m h) = store-law t ram r f holds (rowOf t segment) offset bytes m h
 done-holds {t} ram f r s holds (loads m h) = holds
 
@@ -74,7 +74,7 @@ start-none s z =
 step-holds : (s : State) (c : Call) (output : List ℕ) (h : History) → Sound s → Fields c → NotAccepted (event s c output) → Holds (lastWritten h) (s .tables) (s .ram)
     → Holds (lastWritten (event s c output ∷ h)) (after s c output .tables) (after s c output .ram)
 unfolding lastWritten
-step-holds s c output h r f n holds = go (stepped s c output r n)
+step-holds s c output h r f n holds = go (stepped s c output n)
   where
     go : Stepped s c output → Holds (lastWritten (event s c output ∷ h)) (after s c output .tables) (after s c output .ram)
     go (refused e q) =
@@ -92,7 +92,7 @@ run-holds z (then {h = h} {t = t} r c output f n _) =
     (step-sound t c output (b .0) f n, step-holds t c output h (b .0) f n (b .1))
 
 -- a done read gives the bytes of its channel
-read-known : {t u : Tables} {output channel offset size : ℕ} → Done t output (read channel offset size) u
+read-known : {t u : Tables} {channel offset size : ℕ} → Effect t (read channel offset size) u
     → (channelAt t channel < t .opened) × (offset + size ≤ sizeAt t (channelAt t channel))
 read-known (reads h l) = (h, l)
 
@@ -104,8 +104,7 @@ module _ (t : State) (f : ℕ → ℕ → ℕ) (r : Sound t) (holds : Holds f (t
       let u = t .tables in
       let j = channelAt u channel in
       let c = read channel offset size in
-      let heard-is = ready-heard u (length (t .ram)) (length output) c r in
-      let known = read-known (heard-done u (length output) (length (t .ram)) c refl (rw heard-is at e)) in
+      let known = read-known (effect u (length (t .ram)) (length output) c refl e) in
       let walk = placeOf (u .chain) (u .room) in
       let p = bufferAt u j + offset in
       let n : length (lineFrom (u .chain) (u .room) (t .ram) p size) ≡ size = length-bytes walk (t .ram) p size in

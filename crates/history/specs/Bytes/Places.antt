@@ -1,13 +1,12 @@
--- The line's places: the chain's first segments stay where it grows or shrinks, and no place of the line is the user's.
-use mathlib.Core.Path.{_≡_, refl, sym, _∙_}
+-- The line's places: no place of the line is the user's.
+use mathlib.Core.Path.{_≡_, sym, _∙_}
 use mathlib.Core.Bool.{true, _||_, false≢true}
 use mathlib.Core.List.{List}
-use Prim.Native.Nat.{ℕ, zero, suc, _+_, _-_, _*_, _≤_, _<_}
+use Prim.Native.Nat.{ℕ, _+_, _-_, _*_, _≤_, _<_}
 use native.Mathlib.Decide.{decLe, decLt, ℕ-discrete}
 use native.Mathlib.Omega.{arith}
 use borrow.Author.Tests.{eq-eqb, ne-eqb, ltb-true}
 use lib.Dec.{eqb, ltb}
-use lib.Seq.{getD-set-other}
 use Rattle.rows.specs.Definition.Lists.{at}
 use Rattle.rows.specs.Laws.Lists.{and-left, and-right}
 use Rattle.rows.specs.Definition.Classes.{USER, SHARED, timesHeld}
@@ -16,24 +15,13 @@ use Rattle.rows.specs.Laws.Sizes.{Ends, ends, length-high, length-some, edge-lo
 use Rattle.line.specs.Definition.Line.{chainIndexOf, offsetOf, placeOf}
 use Rattle.line.specs.Laws.Places.{index-low, index-high, offset-low, offset-high, offset-lt}
 use Rattle.kernel.specs.Definition.Tables.{SEGMENT, classAt}
-use Rattle.kernel.specs.Definition.Line.{totalOf, oneMore, grown, oneLess, shrunk}
+use Rattle.kernel.specs.Definition.Line.{totalOf}
 use Rattle.kernel.specs.Definition.Segments.{mayReach, reachOf}
 use Rattle.kernel.specs.Definition.Good.{Good}
 use Rattle.kernel.specs.Definition.Step.{segmentAt}
 use Rattle.kernel.specs.Laws.Facts.{chain-exactly, chain-once, room-small, user-small}
 use Rattle.kernel.specs.declared.Tables.{Tables}
 use Rattle.history.specs.Definition.Users.{Users, page-zero, own, shared}
-
--- a chain that grew, and one that shrank by k
-pub grown-chain : (k : ℕ) (t : Tables) (i : ℕ) → i < t .held → at (grown k t .chain) i ≡ at (t .chain) i
-unfolding grown oneMore
-grown-chain zero t i h = refl
-grown-chain (suc k) t i h = grown-chain k (oneMore t) i (omega arith) ∙ getD-set-other (t .chain) (t .held) i _ 0 (λ e. omega arith)
-
-pub shrunk-chain : (k : ℕ) (t : Tables) (i : ℕ) → i + k < t .held → at (shrunk k t .chain) i ≡ at (t .chain) i
-unfolding shrunk oneLess
-shrunk-chain zero t i h = refl
-shrunk-chain (suc k) t i h = shrunk-chain k (oneLess t) i (omega arith) ∙ getD-set-other (t .chain) (t .held - 1) i 0 0 (λ e. omega arith)
 
 -- a position lies at the same place of two chains that hold its segment alike
 pub place-same : (chain other : List ℕ) (room p : ℕ) → at chain (chainIndexOf room p) ≡ at other (chainIndexOf room p) → placeOf chain room p ≡ placeOf other room p

@@ -19,11 +19,11 @@ use Rattle.kernel.specs.Definition.Answers.{granted}
 use Rattle.kernel.specs.Definition.Calls.{Call, isStart}
 use Rattle.kernel.specs.Definition.Step.{segmentAt, ramAfter, Result, completed, step}
 use Rattle.kernel.specs.Definition.Fields.{Fields}
+use Rattle.kernel.specs.Laws.Effects.{Effect, resets, opens, closes, reads, writes, names, counts, links, tells, bounds, grants, shares, frees, stores, loads, effect}
 use Rattle.kernel.specs.Laws.Facts.{reach-small}
-use Rattle.kernel.specs.Laws.Ready.{Ready, ready-heard, decided-ready, start-ready}
+use Rattle.kernel.specs.Laws.Ready.{Ready, decided-ready, start-ready}
 use Rattle.kernel.specs.declared.Tables.{Tables}
 use Rattle.history.specs.Definition.Runs.{State, after, event, Started, NotAccepted}
-use Rattle.history.specs.Bytes.Done.{Done, resets, opens, closes, reads, writes, names, counts, links, tells, bounds, grants, shares, frees, stores, loads, heard-done}
 use Rattle.history.specs.Answers.Refused.{refused-changes-nothing}
 
 -- a state with good tables, and RAM of their size
@@ -56,21 +56,21 @@ length-reset t ram true false = length-put (placeOf (t .chain) (t .room)) _ ram 
 length-reset t ram false true = length-put (placeOf (t .chain) (t .cold)) _ _ 0 ∙ length-put (placeOf (t .chain) (t .room)) _ ram 0
 length-reset t ram false false = refl
 
-pub done-length : {t u : Tables} {output : ℕ} {c : Call} (ram : List ℕ) → Ready t (length ram) → Done t output c u → length (ramAfter t u ram c) ≡ length ram
+pub done-length : {t u : Tables} {c : Call} (ram : List ℕ) → Ready t (length ram) → Effect t c u → length (ramAfter t u ram c) ≡ length ram
 unfolding ramAfter afterOpen afterClose afterLink
 done-length {t} ram r (resets {flags}) = length-reset t ram (bit4 flags) (bit5 flags)
-done-length ram r (opens c e h) = length-put (placeOf _ _) _ ram _
+done-length ram r (opens c e differs new device few fits) = length-put (placeOf _ _) _ ram _
 done-length ram r (closes h) = length-put (placeOf _ _) _ ram _
 done-length ram r (reads h l) = refl
 done-length ram r (writes h l) = length-put (placeOf _ _) _ ram _
-done-length ram r names = refl
+done-length ram r (names h) = refl
 done-length ram r counts = refl
-done-length ram r (links h) = length-put (placeOf _ _) _ _ 0 ∙ length-put (placeOf _ _) _ ram 0
+done-length ram r (links w few h fits) = length-put (placeOf _ _) _ _ 0 ∙ length-put (placeOf _ _) _ ram 0
 done-length ram r tells = refl
-done-length ram r bounds = refl
-done-length ram r grants = refl
-done-length ram r shares = refl
-done-length ram r frees = refl
+done-length ram r (bounds s h) = refl
+done-length ram r (grants h) = refl
+done-length ram r (shares s) = refl
+done-length ram r (frees h o) = refl
 done-length {t} ram r (stores {segment} {offset} {bytes} m h) =
     length-put-at ram (segmentAt (rowOf t segment) + offset) bytes (store-fits t ram (rowOf t segment) offset (length bytes) r m h)
 done-length ram r (loads m h) = refl
@@ -82,7 +82,7 @@ tables-ready s c output r f = decided-ready (s .tables) (length (s .ram)) (lengt
 -- what is known of a call, no accepted start: it is refused and leaves all as it was, or it is done
 pub data Stepped (s : State) (c : Call) (output : List ℕ) : Type 0 where
   refused : granted (event s c output .answer) ≡ false → after s c output ≡ s → Stepped s c output
-  done : granted (event s c output .answer) ≡ true → Done (s .tables) (length output) c (after s c output .tables)
+  done : granted (event s c output .answer) ≡ true → Effect (s .tables) c (after s c output .tables)
       → after s c output .ram ≡ ramAfter (s .tables) (after s c output .tables) (s .ram) c → Stepped s c output
 
 no-start : (a b : Bool) → a && b ≡ false → b ≡ true → a ≡ false
@@ -93,22 +93,17 @@ no-start false b f e = refl
 abbrev leaves : Result → State
 leaves r = record { tables = r .tables; ram = r .ram }
 
-pub stepped : (s : State) (c : Call) (output : List ℕ) → Sound s → NotAccepted (event s c output) → Stepped s c output
+pub stepped : (s : State) (c : Call) (output : List ℕ) → NotAccepted (event s c output) → Stepped s c output
 unfolding step completed
-stepped s c output r n = go (granted (event s c output .answer)) refl
+stepped s c output n = go (granted (event s c output .answer)) refl
   where
     go : (b : Bool) → granted (event s c output .answer) ≡ b → Stepped s c output
     go false e = refused e (ap leaves (refused-changes-nothing (s .tables) (s .ram) c output e))
-    go true e =
-        let heard-is = ready-heard (s .tables) (length (s .ram)) (length output) c r in
-        done e
-        (rw heard-is
-        (heard-done (s .tables) (length output) (length (s .ram)) c (no-start (isStart c) _ n e) (rw heard-is at e)))
-        (rw e)
+    go true e = done e (effect (s .tables) (length (s .ram)) (length output) c (no-start (isStart c) _ n e) e) (rw e)
 
 -- "each made on the tables and RAM the last one left": they stay good, and of one size
 pub step-sound : (s : State) (c : Call) (output : List ℕ) → Sound s → Fields c → NotAccepted (event s c output) → Sound (after s c output)
-step-sound s c output r f n = go (stepped s c output r n)
+step-sound s c output r f n = go (stepped s c output n)
   where
     go : Stepped s c output → Sound (after s c output)
     go (refused e q) = subst Sound (sym q) r

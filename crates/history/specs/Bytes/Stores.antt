@@ -29,16 +29,16 @@ use Rattle.kernel.specs.Definition.Reset.{bit4, bit5}
 use Rattle.kernel.specs.Definition.Calls.{Call}
 use Rattle.kernel.specs.Definition.Step.{ramOpened, ramClosed, segmentAt, ramAfter}
 use Rattle.kernel.specs.Laws.Chains.{good-chain, chain-shift}
+use Rattle.kernel.specs.Laws.Effects.{Effect, resets, opens, closes, reads, writes, names, counts, links, tells, bounds, grants, shares, frees, stores, loads}
+use Rattle.kernel.specs.Laws.Changes.{Opened, opens-total, opening-opens, Linked, linking-links}
 use Rattle.kernel.specs.Laws.Facts.{reach-small}
 use Rattle.kernel.specs.Laws.Records.{record-within}
 use Rattle.kernel.specs.Laws.Ready.{Ready}
 use Rattle.kernel.specs.declared.Tables.{Tables}
 use Rattle.history.specs.Definition.Runs.{patched, stored}
-use Rattle.history.specs.Bytes.Done.{Done, resets, opens, closes, reads, writes, names, counts, links, tells, bounds, grants, shares, frees, stores, loads}
 use Rattle.history.specs.Definition.Users.{Users}
 use Rattle.history.specs.Bytes.Places.{off-line, off-room, users-small}
-use Rattle.history.specs.Bytes.Changes.{Opens, opens-total, opening-opens, Links, linking-links}
-use Rattle.history.specs.Bytes.Buffers.{patched-in, patched-low, patched-high, put-at-is}
+use Rattle.history.specs.Bytes.Patched.{patched-in, patched-low, patched-high, put-at-is}
 use Rattle.history.specs.Bytes.Steps.{store-fits}
 
 -- the offset taken with the segment's start or without
@@ -75,7 +75,7 @@ module _ (t u : Tables) (ram : List ℕ) (r : Ready t (length ram)) (s : Ready u
   write-user : (p : ℕ) (bytes : List ℕ) → p + length bytes ≤ totalOf t → getD (putLine (t .chain) (t .room) ram p bytes) x 0 ≡ old
   write-user p bytes h = put-elsewhere (placeOf (t .chain) (t .room)) bytes ram p x (λ k l e. off-line t (r .good) row offset before (p + k) (omega arith) e)
 
-  open-user : (c : Channel) → Opens t u c → t .opened < 32 → getD (ramOpened t u ram) x 0 ≡ old
+  open-user : (c : Channel) → Opened t u c → t .opened < 32 → getD (ramOpened t u ram) x 0 ≡ old
   unfolding afterOpen
   open-user c o few =
       let d = getD (u .channels) (t .opened) zeroChannel in
@@ -91,7 +91,7 @@ module _ (t u : Tables) (ram : List ℕ) (r : Ready t (length ram)) (s : Ready u
       closed-points (t .chain) (t .room) ram (recordAt t j) (16 + sizeAt t j) (totalOf t) (good-chain t (length ram) (r .good) (r .size)) (record-within t j (r .good) h) .kept x
       (λ p _ l e. off-line t (r .good) row offset before p l e)
 
-  link-user : (m : ℕ) → Links t u m → m ≤ t .room → getD (afterLink (u .chain) (t .room) m ram (totalOf t)) x 0 ≡ old
+  link-user : (m : ℕ) → Linked t u m → m ≤ t .room → getD (afterLink (u .chain) (t .room) m ram (totalOf t)) x 0 ≡ old
   link-user m o h =
       let total : totalOf u ≡ totalOf t = rw (o .opened, o .channels) in
       let small : t .room ≤ 16384 = omega (arith, r .good .room .most, r .good .room .top) in
@@ -147,24 +147,24 @@ store-user t ram r a segment o offset bytes user m h =
     ]
 
 -- every done call makes of the byte what `stored` says
-pub done-user : {t u : Tables} {output : ℕ} {c : Call} (ram : List ℕ) → Ready t (length ram) → Ready u (length ram) → (segment offset : ℕ)
-    → Users t (rowOf t segment) offset → Users u (rowOf t segment) offset → Done t output c u
+pub done-user : {t u : Tables} {c : Call} (ram : List ℕ) → Ready t (length ram) → Ready u (length ram) → (segment offset : ℕ)
+    → Users t (rowOf t segment) offset → Users u (rowOf t segment) offset → Effect t c u
     → getD (ramAfter t u ram c) (segmentAt (rowOf t segment) + offset) 0 ≡ stored c segment offset (getD ram (segmentAt (rowOf t segment) + offset) 0)
 unfolding ramAfter stored
 done-user {t} {u} ram r s segment offset b l (resets {flags}) = flags-user t _ ram r s (rowOf t segment) offset b l (bit4 flags) (bit5 flags)
-done-user {t} {u} ram r s segment offset b l (opens c e few) = open-user t (opening t c) ram r s (rowOf t segment) offset b l c (opening-opens t c) few
+done-user {t} {u} ram r s segment offset b l (opens c e differs new device few fits) = open-user t (opening t c) ram r s (rowOf t segment) offset b l c (opening-opens t c) few
 done-user {t} {u} ram r s segment offset b l (closes {channel} h) = close-user t _ ram r s (rowOf t segment) offset b l (channelAt t channel) h
 done-user ram r s segment offset b l (reads h k) = refl
 done-user {t} {u} ram r s segment offset b l (writes {channel} {offset = o} {bytes} h k) =
     write-user t t ram r s (rowOf t segment) offset b l (bufferAt t (channelAt t channel) + o) bytes (omega (arith, record-within t (channelAt t channel) (r .good) h))
-done-user ram r s segment offset b l names = refl
+done-user ram r s segment offset b l (names h) = refl
 done-user ram r s segment offset b l counts = refl
-done-user {t} {u} ram r s segment offset b l (links {m} {name} h) =
+done-user {t} {u} ram r s segment offset b l (links {m} {name} w few h fits) =
     link-user t _ ram r s (rowOf t segment) offset b l m (linking-links t m (wordOf name) (length name)) (omega arith)
 done-user ram r s segment offset b l tells = refl
-done-user ram r s segment offset b l bounds = refl
-done-user ram r s segment offset b l grants = refl
-done-user ram r s segment offset b l shares = refl
-done-user ram r s segment offset b l frees = refl
+done-user ram r s segment offset b l (bounds a h) = refl
+done-user ram r s segment offset b l (grants h) = refl
+done-user ram r s segment offset b l (shares a) = refl
+done-user ram r s segment offset b l (frees h o) = refl
 done-user {t} {u} ram r s segment offset b l (stores {segment = a} {offset = o} {bytes} m h) = store-user t ram r a segment o offset bytes b m h
 done-user ram r s segment offset b l (loads m h) = refl

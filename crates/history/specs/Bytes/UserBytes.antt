@@ -13,13 +13,13 @@ use Rattle.kernel.specs.Definition.Answers.{granted}
 use Rattle.kernel.specs.Definition.Calls.{Call, load}
 use Rattle.kernel.specs.Definition.Step.{segmentAt, outputAfter, completed, step}
 use Rattle.kernel.specs.Definition.Fields.{Fields}
-use Rattle.kernel.specs.Laws.Ready.{Ready, ready-heard}
+use Rattle.kernel.specs.Laws.Effects.{Effect, loads, effect}
+use Rattle.kernel.specs.Laws.Changes.{effect-listed}
+use Rattle.kernel.specs.Laws.Ready.{Ready}
 use Rattle.kernel.specs.declared.Tables.{Tables}
 use Rattle.history.specs.Definition.Runs.{State, History, after, event, NotAccepted, Runs, stay, then, Run, stored, lastStored}
-use Rattle.history.specs.Bytes.Done.{Done, loads, heard-done}
 use Rattle.history.specs.Definition.Users.{Users, UsersIn, userByte}
 use Rattle.history.specs.Bytes.Places.{reach-users}
-use Rattle.history.specs.Bytes.Changes.{done-listed}
 use Rattle.history.specs.Bytes.Steps.{Sound, store-fits, done-length, Stepped, refused, done, stepped, step-sound}
 use Rattle.history.specs.Bytes.BytesRead.{run-holds}
 use Rattle.history.specs.Bytes.Stores.{done-user}
@@ -29,13 +29,13 @@ module _ (segment offset : ℕ) where
       → UsersIn segment offset s → UsersIn segment offset (after s c output) → userByte s segment offset ≡ lastStored h segment offset first
       → userByte (after s c output) segment offset ≡ lastStored (event s c output ∷ h) segment offset first
   unfolding lastStored
-  step-user s c output h first r f n b l old = go (stepped s c output r n)
+  step-user s c output h first r f n b l old = go (stepped s c output n)
     where
       go : Stepped s c output → userByte (after s c output) segment offset ≡ lastStored (event s c output ∷ h) segment offset first
       go (refused e q) = rw e (ap (λ (x : State). userByte x segment offset) q ∙ old)
       go (done e d q) =
           let there : Ready (after s c output .tables) (length (s .ram)) = rw (q, done-length (s .ram) r d) at (step-sound s c output r f n) in
-          let kept = done-listed d in
+          let kept = effect-listed d in
           let row : rowOf (after s c output .tables) segment ≡ rowOf (s .tables) segment = rw (kept .segments, kept .list) in
           rw (e, row, q)
           (done-user (s .ram) r there segment offset b (subst (λ (x : ℕ). Users (after s c output .tables) x offset) row l) d
@@ -56,7 +56,7 @@ pub user-bytes : {h : History} {s : State} → Run h s → (segment offset : ℕ
 user-bytes r segment offset w = user-runs segment offset (run-holds (r .started) (r .runs) .0) w .2
 
 -- What a done load gives: bytes that are the user's, as they lie.
-load-known : {t u : Tables} {output segment offset size : ℕ} → Done t output (load segment offset size) u
+load-known : {t u : Tables} {segment offset size : ℕ} → Effect t (load segment offset size) u
     → (mayReach t (rowOf t segment) ≡ true) × (offset + size ≤ reachOf t (rowOf t segment))
 load-known (loads m h) = (m, h)
 
@@ -69,8 +69,7 @@ user-loads {s = s} run segment offset size output e i l =
     let t = s .tables in
     let row = rowOf t segment in
     let c = load segment offset size in
-    let heard-is = ready-heard t (length (s .ram)) (length output) c r in
-    let known = load-known (heard-done t (length output) (length (s .ram)) c refl (rw heard-is at e)) in
+    let known = load-known (effect t (length (s .ram)) (length output) c refl e) in
     let fits = store-fits t (s .ram) row offset size r (known .0) (known .1) in
     let xs = drop (segmentAt row + offset) (s .ram) in
     let n : length (take size xs) ≡ size = omega (arith, length-take size xs, length-drop (segmentAt row + offset) (s .ram)) in

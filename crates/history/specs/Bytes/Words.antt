@@ -1,23 +1,15 @@
 -- The byte last written and the byte last stored, in the words of the condition.
-use mathlib.Core.Path.{_≡_, refl, ap, _∙_}
+use mathlib.Core.Path.{_≡_, refl, sym, ap, _∙_}
 use mathlib.Core.Bool.{Bool, true, false, cond}
-use mathlib.Core.List.{List, [], _∷_, _++_}
+use mathlib.Core.List.{List, [], _∷_, _++_, append-nil}
 use Prim.Native.Nat.{ℕ, _+_, _-_, _≤_, _<_}
-use native.Mathlib.Decide.{decLt, ℕ-discrete}
-use native.Mathlib.Omega.{arith}
+use native.Mathlib.Decide.{ℕ-discrete}
 use borrow.Author.Tests.{eq-eqb, ne-eqb}
 use lib.ListN.{length, getD}
 use Rattle.kernel.specs.Definition.Answers.{granted}
 use Rattle.kernel.specs.Definition.Calls.{Call, start, reset, «open», close, read, write, default, status, link, boundary, set-user-boundary, allocate, free, store, load, no-call, short-start}
-use Rattle.history.specs.Definition.Runs.{Event, History, patched, written, lastWritten, Unwritten, stored, lastStored, Unstored}
-use Rattle.history.specs.Bytes.Buffers.{patched-in, patched-low, patched-high}
-
-patched-not : (offset : ℕ) (bytes : List ℕ) (k old : ℕ) → (offset ≤ k → k < offset + length bytes → ⊥) → patched offset bytes k old ≡ old
-patched-not offset bytes k old f =
-    elim (decLt k offset) [
-      | yes l ↦ patched-low offset bytes k old l
-      | no l ↦ elim (decLt k (offset + length bytes)) [ yes q ↦ absurd (f (omega arith) q) | no q ↦ patched-high offset bytes k old (omega arith) ]
-    ]
+use Rattle.history.specs.Definition.Runs.{Event, History, written, lastWritten, Unwritten, stored, lastStored, Unstored}
+use Rattle.history.specs.Bytes.Patched.{patched-in, patched-not}
 
 cond-same : (b : Bool) (x y : ℕ) → (b ≡ true → x ≡ y) → cond b x y ≡ y
 cond-same true x y f = f refl
@@ -119,8 +111,4 @@ last-store segment k offset first bytes later earlier e u d c h l =
 -- or the one that it was
 pub none-stored : (segment k first : ℕ) (h : History) → Unstored segment k h → lastStored h segment k first ≡ first
 unfolding lastStored
-none-stored segment k first [] u = refl
-none-stored segment k first (e ∷ h) u =
-    cond-same (granted (e .answer)) (stored (e .call) segment k (lastStored h segment k first)) (lastStored h segment k first)
-    (λ q. call-unstored segment k (lastStored h segment k first) (e .call) (λ offset bytes. u .0 offset bytes q))
-    ∙ none-stored segment k first h (u .1)
+none-stored segment k first h u = ap (λ (x : History). lastStored x segment k first) (sym (append-nil h)) ∙ unstored segment k first h [] u

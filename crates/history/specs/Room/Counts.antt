@@ -10,10 +10,9 @@ use borrow.Author.Tests.{eq-eqb, ne-eqb}
 use lib.Dec.{eqb}
 use lib.ListN.{length, take, length-take}
 use lib.Seq.{getD-take}
-use Rattle.rows.specs.Definition.Lists.{at, tally}
+use Rattle.rows.specs.Definition.Lists.{at, tally, sumTo}
 use Rattle.rows.specs.Definition.Classes.{FREE, SHARED, inChain, timesHeld}
 use Rattle.rows.specs.Definition.Channels.{sumOf}
-use Rattle.rows.specs.Definition.Lists.{sumTo}
 use Rattle.rows.specs.Laws.Counts.{one, sum-same, sum-plus, sum-tally, sum-zero, tally-sum}
 use Rattle.rows.specs.declared.Channel.{Channel}
 use Rattle.kernel.specs.Definition.Tables.{classAt, countOf, sharing, lastRow}

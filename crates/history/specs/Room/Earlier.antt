@@ -16,7 +16,7 @@ use Rattle.names.specs.Laws.Right.{reading-right, unread-right}
 use Rattle.names.specs.Laws.Runs.{link-finds}
 use Rattle.names.specs.Definition.Words.{wordOf}
 use Rattle.rows.specs.Laws.Lists.{is-false}
-use Rattle.rows.specs.Laws.Good.{says-no}
+use Rattle.rows.specs.Laws.Says.{says-no}
 use Rattle.kernel.specs.Definition.Tables.{ramSize, channelAt}
 use Rattle.kernel.specs.Definition.Line.{totalOf, roomFor}
 use Rattle.kernel.specs.Definition.Devices.{linking}

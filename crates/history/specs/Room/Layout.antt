@@ -6,8 +6,7 @@ use Prim.Native.Nat.{ℕ, _+_, _-_, _≤_, _<_}
 use native.Mathlib.Decide.{decLt}
 use native.Mathlib.Omega.{arith}
 use lib.ListN.{length}
-use Rattle.rows.specs.Definition.Lists.{at}
-use Rattle.rows.specs.Definition.Lists.{sumTo}
+use Rattle.rows.specs.Definition.Lists.{at, sumTo}
 use Rattle.history.specs.Definition.Layout.{Place, ByteOf, Layout}
 use Rattle.history.specs.Room.Sums.{number-below, number-apart, pair-at, pigeonhole-rel, total, total-sum}
 

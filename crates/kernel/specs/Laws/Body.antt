@@ -1,5 +1,5 @@
 -- Good but for the chain's length and the bound on the user boundary: what holds between two steps of a change of chain.
-use mathlib.Core.Path.{_≡_}
+use mathlib.Core.Path.{_≡_, refl}
 use mathlib.Core.List.{List}
 use Prim.Native.Nat.{ℕ, _+_, _≤_, _<_}
 use native.Mathlib.Omega.{arith}
@@ -106,3 +106,21 @@ body-devices t room known devices l r g c b = record {
   devices = g;
   default = b .default;
 }
+
+-- what a change of classes, chain and user boundary leaves
+pub record Keeps (t u : Tables) : Type 0 where
+  pub segments : u .segments ≡ t .segments
+  pub list : u .list ≡ t .list
+  pub room : u .room ≡ t .room
+  pub opened : u .opened ≡ t .opened
+  pub channels : u .channels ≡ t .channels
+
+pub keeps-all : (t : Tables) → Keeps t t
+keeps-all t = record { segments = refl; list = refl; room = refl; opened = refl; channels = refl }
+
+-- after a first such change
+pub keeps-on : {t u : Tables} (classes : List ℕ) (held : ℕ) (chain : List ℕ) (user : ℕ) → Keeps (withSegments t classes held chain user) u → Keeps t u
+keeps-on classes held chain user k = record { segments = k .segments; list = k .list; room = k .room; opened = k .opened; channels = k .channels }
+
+pub keeps-total : {t u : Tables} → Keeps t u → totalOf u ≡ totalOf t
+keeps-total k = rw (k .opened, k .channels)

@@ -1,10 +1,10 @@
--- The outcomes that a call can have, each with what is known of it: the refusals are read here once, for all laws on calls.
-use mathlib.Core.Path.{_≡_, refl}
-use mathlib.Core.Bool.{Bool, true, false, not, cond, _&&_, _||_}
+-- The outcomes that a call can have, each with the tests that it passed: the refusals are read here once, for all laws on calls.
+use mathlib.Core.Path.{_≡_, refl, sym, _∙_}
+use mathlib.Core.Bool.{Bool, true, false, not, cond, _&&_, _||_, false≢true}
 use mathlib.Core.List.{List}
+use mathlib.Core.Logic.{_⊎_, inl, inr}
 use mathlib.Core.Option.{Option, none, some}
 use Prim.Native.Nat.{ℕ, _+_, _-_, _≤_, _<_}
-use native.Mathlib.Omega.{arith}
 use borrow.Author.Tests.{ltb-true, ltb-false, leb-false, eqb-true, eqb-false, not-true, not-false}
 use lib.Dec.{eqb, ltb, leb}
 use lib.ListN.{length}
@@ -14,6 +14,7 @@ use Rattle.names.specs.Definition.Tests.{linkNameTest, defaultNameTest}
 use Rattle.names.specs.Definition.Words.{wordOf, LinkName, DefaultName}
 use Rattle.names.specs.Laws.Runs.{link-right, default-right}
 use Rattle.rows.specs.Laws.Lists.{and-left, and-right, or-left, or-right}
+use Rattle.rows.specs.Laws.Says.{says-lt, says-eq, says-and, says-not, says-false}
 use Rattle.rows.specs.Definition.Classes.{SHARED}
 use Rattle.rows.specs.declared.Channel.{Channel}
 use Rattle.kernel.specs.Definition.Tables.{classAt, rowOf, lowestFree, sharing, channelAt, withDefault}
@@ -24,189 +25,174 @@ use Rattle.kernel.specs.Definition.Reset.{otherBits, resetting}
 use Rattle.kernel.specs.Definition.Start.{startTest, started}
 use Rattle.kernel.specs.Definition.Names.{wanted, deviceFor}
 use Rattle.kernel.specs.declared.Wanted.{Wanted}
-use Rattle.kernel.specs.Definition.Answers.{numberOf, granted, gives}
+use Rattle.kernel.specs.Definition.Answers.{numberOf, aOf, bOf, granted, gives}
 use Rattle.kernel.specs.Definition.Calls.{Call, start, reset, «open», close, read, write, default, status, link, boundary, set-user-boundary, allocate, free, store, load, no-call, short-start, isStart, onStart, onReset, onOpenTo, onOpenNamed, onOpen, onClose, onRead, onWrite, onDefault, onStatus, onLink, onBoundary, onSetUserBoundary, onAllocate, onFree, onStore, onLoad}
 use Rattle.kernel.specs.Definition.Step.{accepted, heard, decided}
-use Rattle.kernel.specs.Definition.Fields.{Fields}
 use Rattle.kernel.specs.declared.Tables.{Tables}
 use Rattle.kernel.specs.declared.Answer.{Answer}
-use Rattle.kernel.specs.declared.Answer.the-variants.{Done, BadTables, BadCall, Shared}
+use Rattle.kernel.specs.declared.Answer.the-variants.{Done, BadTables, Driver, Shared}
 use Rattle.kernel.specs.declared.Outcome.{Outcome}
 
--- a refusal, and not for the tables
-abbrev pub other : Answer → Bool
-other answer = ltb 1 (numberOf answer) && not (granted answer)
+-- a refusal, not for the tables and not DRIVER: its values are 0
+pub record Plain (answer : Answer) : Type 0 where
+  pub high : 1 < numberOf answer
+  pub refused : granted answer ≡ false
+  pub other : numberOf answer ≡ 7 → ⊥
+  pub a : aOf answer ≡ 0
+  pub b : bOf answer ≡ 0
+
+abbrev plain : Answer → Bool
+plain answer = ltb 1 (numberOf answer) && not (granted answer) && not (eqb (numberOf answer) 7) && eqb (aOf answer) 0 && eqb (bOf answer) 0
+
+plain-is : (answer : Answer) → plain answer ≡ true → Plain answer
+plain-is answer e =
+    let n = numberOf answer in
+    let h = says-and (says-and (says-and (says-and (says-lt 1 n) (says-false (granted answer))) (says-not (says-eq n 7))) (says-eq (aOf answer) 0)) (says-eq (bOf answer) 0) .yes e in
+    record { high = h .0 .0 .0 .0; refused = h .0 .0 .0 .1; other = h .0 .0 .1; a = h .0 .1; b = h .1 }
+
+-- a call, no start, that was done on the tables t, and the tables that it left
+pub data Effect (t : Tables) : Call → Tables → Type 0 where
+  resets : {flags : ℕ} → Effect t (reset flags) (resetting t flags)
+  opens : {channel driver n : ℕ} {name : List ℕ} (c : Channel) → c .number ≡ channel → (channel ≡ 255 → ⊥) → t .opened ≤ channelAt t (c .number) → c .device < t .known
+      → t .opened < 32 → roomFor t (t .room) (totalOf t + (16 + c .n)) ≡ true → Effect t («open» channel driver n name) (opening t c)
+  closes : {channel : ℕ} → channelAt t channel < t .opened → Effect t (close channel) (closing t (channelAt t channel))
+  reads : {channel offset size : ℕ} → channelAt t channel < t .opened → offset + size ≤ sizeAt t (channelAt t channel) → Effect t (read channel offset size) t
+  writes : {channel offset : ℕ} {bytes : List ℕ} → channelAt t channel < t .opened → offset + length bytes ≤ sizeAt t (channelAt t channel)
+      → Effect t (write channel offset bytes) t
+  names : {unit : ℕ} {name : List ℕ} → DefaultName name → Effect t (default unit name) (withDefault t (wordOf name) (length name) unit)
+  counts : Effect t status t
+  links : {m : ℕ} {name : List ℕ} → LinkName name → t .known < 16 → 256 + m ≤ t .room → roomFor t (t .room - m) (totalOf t) ≡ true
+      → Effect t (link m name) (linking t m (wordOf name) (length name))
+  tells : Effect t boundary t
+  bounds : {value : ℕ} → sharing t ≡ true → value ≤ boundaryOf t → Effect t (set-user-boundary value) (bounding t value)
+  grants : {caller : ℕ} → lowestFree t < t .segments → Effect t (allocate caller) (granting t caller)
+  shares : {caller : ℕ} → sharing t ≡ false → Effect t (allocate caller) (sharingLast t)
+  -- the caller's own segment, or a shared one
+  frees : {caller segment : ℕ} → rowOf t segment < t .segments → (classAt t (rowOf t segment) ≡ classFor caller) ⊎ (classAt t (rowOf t segment) ≡ SHARED)
+      → Effect t (free caller segment) (freeing t (rowOf t segment))
+  stores : {segment offset : ℕ} {bytes : List ℕ} → mayReach t (rowOf t segment) ≡ true → offset + length bytes ≤ reachOf t (rowOf t segment)
+      → Effect t (store segment offset bytes) t
+  loads : {segment offset size : ℕ} → mayReach t (rowOf t segment) ≡ true → offset + size ≤ reachOf t (rowOf t segment)
+      → Effect t (load segment offset size) t
 
 -- of a call on the tables t with `ram` bytes lent
-pub data Effect (t : Tables) (ram : ℕ) : Outcome → Type 0 where
-  -- refused, for the tables or the RAM's length; and for any other reason
-  bars : accepted t ram ≡ false → Effect t ram (gives BadTables t)
-  refuses : (answer : Answer) → other answer ≡ true → Effect t ram (gives answer t)
-  -- done, and the tables stay
-  leaves : (a b : ℕ) → Effect t ram (gives (Done a b) t)
-  starts : (a b room : ℕ) (list : List ℕ) → startTest ram room list ≡ true → Effect t ram (gives (Done a b) (started room list))
-  resets : (a b flags : ℕ) → Effect t ram (gives (Done a b) (resetting t flags))
-  opens : (a b : ℕ) (c : Channel) → c .number < 255 → t .opened ≤ channelAt t (c .number) → c .device < t .known → t .opened < 32
-      → roomFor t (t .room) (totalOf t + (16 + c .n)) ≡ true → Effect t ram (gives (Done a b) (opening t c))
-  closes : (a b i : ℕ) → i < t .opened → Effect t ram (gives (Done a b) (closing t i))
-  names : (a b unit : ℕ) (name : List ℕ) → DefaultName name → Effect t ram (gives (Done a b) (withDefault t (wordOf name) (length name) unit))
-  links : (a b m : ℕ) (name : List ℕ) → LinkName name → t .known < 16 → 256 + m ≤ t .room → roomFor t (t .room - m) (totalOf t) ≡ true
-      → Effect t ram (gives (Done a b) (linking t m (wordOf name) (length name)))
-  bounds : (a b value : ℕ) → sharing t ≡ true → value ≤ boundaryOf t → Effect t ram (gives (Done a b) (bounding t value))
-  grants : (a b caller : ℕ) → lowestFree t < t .segments → Effect t ram (gives (Done a b) (granting t caller))
-  shares : (a b : ℕ) → sharing t ≡ false → Effect t ram (gives (Shared a b) (sharingLast t))
-  -- the caller's own segment, and a shared one
-  frees : (a b caller row : ℕ) → row < t .segments → classAt t row ≡ classFor caller → Effect t ram (gives (Done a b) (freeing t row))
-  parts : (a b row : ℕ) → row < t .segments → classAt t row ≡ SHARED → Effect t ram (gives (Done a b) (freeing t row))
+pub data Verdict (t : Tables) (ram : ℕ) : Call → Outcome → Type 0 where
+  -- refused: for the tables or the RAM's length, for the driver's status, and for any other reason
+  bars : {c : Call} → accepted t ram ≡ false → Verdict t ram c (gives BadTables t)
+  drives : {channel driver n : ℕ} {name : List ℕ} → (driver ≡ 0 → ⊥) → Verdict t ram («open» channel driver n name) (gives (Driver driver) t)
+  refuses : {c : Call} (answer : Answer) → Plain answer → Verdict t ram c (gives answer t)
+  -- done
+  starts : {room : ℕ} {list : List ℕ} → startTest ram room list ≡ true → Verdict t ram (start room list) (gives (Done (length list) room) (started room list))
+  does : {c : Call} {u : Tables} (answer : Answer) → granted answer ≡ true → Effect t c u → Verdict t ram c (gives answer u)
 
 module _ (t : Tables) (ram : ℕ) where
+  done : {c : Call} {u : Tables} {a b : ℕ} → Effect t c u → Verdict t ram c (gives (Done a b) u)
+  done e = does _ refl e
+
+  either : {c : Call} (b : Bool) {o p : Outcome} → (b ≡ true → Verdict t ram c o) → (b ≡ false → Verdict t ram c p) → Verdict t ram c (cond b o p)
+  either true f g = f refl
+  either false f g = g refl
+
   -- one row of `unless`: the refusal, or what follows where it does not hold
-  past : (holds : Bool) (answer : Answer) (else : Outcome) → other answer ≡ true → (holds ≡ false → Effect t ram else)
-      → Effect t ram (cond holds (gives answer t) else)
-  past true answer else o f = refuses answer o
-  past false answer else o f = f refl
-
-  start-effect : (room : ℕ) (list : List ℕ) → Effect t ram (onStart t ram room list)
-  unfolding onStart
-  start-effect room list = past (not (startTest ram room list)) _ _ refl (λ e. starts _ _ room list (not-false _ e))
-
-  reset-effect : (flags : ℕ) → Effect t ram (onReset t flags)
-  unfolding onReset
-  reset-effect flags = past (otherBits flags) _ _ refl (λ _. resets _ _ flags)
+  past : {c : Call} (holds : Bool) (answer : Answer) {else : Outcome} → plain answer ≡ true → (holds ≡ false → Verdict t ram c else)
+      → Verdict t ram c (cond holds (gives answer t) else)
+  past holds answer o f = either holds (λ _. refuses answer (plain-is answer o)) f
 
   -- open, with a channel that is not open
-  module _ (channel driver n : ℕ) (small : channel < 255) (new : t .opened ≤ channelAt t channel) where
-    open-to : (w : Wanted) → Effect t ram (onOpenTo t channel driver n w)
+  module _ (channel driver n : ℕ) (name : List ℕ) (differs : channel ≡ 255 → ⊥) (new : t .opened ≤ channelAt t channel) where
+    open-to : (w : Wanted) → Verdict t ram («open» channel driver n name) (onOpenTo t channel driver n w)
     unfolding onOpenTo
     open-to w =
-        past (leb (t .known) (deviceFor t w)) _ _ refl (λ device.
-        past (not (eqb driver 0)) _ _ refl (λ _.
-        past (leb 32 (t .opened)) _ _ refl (λ few.
-        past (not (roomFor t (t .room) (totalOf t + (16 + n)))) _ _ refl (λ fits.
-        opens _ _ (record { number = channel; device = deviceFor t w; unit = w .unit; n = n }) small new (leb-false _ _ device) (leb-false _ _ few) (not-false _ fits)))))
+        past (leb (t .known) (deviceFor t w)) _ refl (λ device.
+        either (not (eqb driver 0)) (λ e. drives (eqb-false driver 0 (not-true _ e))) (λ _.
+        past (leb 32 (t .opened)) _ refl (λ few.
+        past (not (roomFor t (t .room) (totalOf t + (16 + n)))) _ refl (λ fits.
+        done (opens (record { number = channel; device = deviceFor t w; unit = w .unit; n = n }) refl differs new (leb-false _ _ device) (leb-false _ _ few) (not-false _ fits))))))
 
-    open-named : (r : Option Reading) → Effect t ram (onOpenNamed t channel driver n r)
+    open-named : (r : Option Reading) → Verdict t ram («open» channel driver n name) (onOpenNamed t channel driver n r)
     unfolding onOpenNamed
-    open-named none = refuses _ refl
+    open-named none = refuses _ (plain-is _ refl)
     open-named (some r) = open-to (wanted t r)
 
-  open-effect : (channel driver n : ℕ) (name : List ℕ) → channel < 256 → Effect t ram (onOpen t channel driver n name)
-  unfolding onOpen
-  open-effect channel driver n name h =
-      past (eqb channel 255) _ _ refl (λ differs.
-      past (ltb (channelAt t channel) (t .opened)) _ _ refl (λ new.
-      let apart : channel ≡ 255 → ⊥ = eqb-false channel 255 differs in
-      open-named channel driver n (omega arith) (ltb-false _ _ new) (reading name)))
-
-  close-effect : (channel : ℕ) → Effect t ram (onClose t channel)
-  unfolding onClose
-  close-effect channel = past (leb (t .opened) (channelAt t channel)) _ _ refl (λ e. closes _ _ (channelAt t channel) (leb-false _ _ e))
-
-  read-effect : (output channel offset size : ℕ) → Effect t ram (onRead t output channel offset size)
-  unfolding onRead
-  read-effect output channel offset size =
-      past (leb (t .opened) (channelAt t channel)) _ _ refl (λ _.
-      past (ltb (sizeAt t (channelAt t channel)) (offset + size) || ltb output size) _ _ refl (λ _. leaves _ _))
-
-  write-effect : (channel offset size : ℕ) → Effect t ram (onWrite t channel offset size)
-  unfolding onWrite
-  write-effect channel offset size =
-      past (leb (t .opened) (channelAt t channel)) _ _ refl (λ _.
-      past (ltb (sizeAt t (channelAt t channel)) (offset + size)) _ _ refl (λ _. leaves _ _))
-
-  default-effect : (unit : ℕ) (name : List ℕ) → Effect t ram (onDefault t unit name)
-  unfolding onDefault
-  default-effect unit name = past (not (defaultNameTest name)) _ _ refl (λ e. names _ _ unit name (default-right name (not-false _ e)))
-
-  status-effect : (output : ℕ) → Effect t ram (onStatus t output)
-  unfolding onStatus
-  status-effect output = past (ltb output 5) _ _ refl (λ _. leaves _ _)
-
-  link-effect : (m : ℕ) (name : List ℕ) → Effect t ram (onLink t m name)
-  unfolding onLink
-  link-effect m name =
-      past (not (linkNameTest name)) _ _ refl (λ e.
-      past (leb 16 (t .known)) _ _ refl (λ few.
-      past (ltb (t .room) (256 + m) || not (roomFor t (t .room - m) (totalOf t))) _ _ refl (λ fits.
-      links _ _ m name (link-right name (not-false _ e)) (leb-false _ _ few)
-      (ltb-false _ _ (or-left _ (not (roomFor t (t .room - m) (totalOf t))) fits)) (not-false _ (or-right (ltb (t .room) (256 + m)) _ fits)))))
-
-  boundary-effect : Effect t ram (onBoundary t)
-  unfolding onBoundary
-  boundary-effect = leaves _ _
-
-  bound-effect : (value : ℕ) → Effect t ram (onSetUserBoundary t value)
-  unfolding onSetUserBoundary
-  bound-effect value =
-      past (not (sharing t) || ltb (boundaryOf t) value) _ _ refl (λ e.
-      bounds _ _ value (not-false _ (or-left _ (ltb (boundaryOf t) value) e)) (ltb-false _ _ (or-right (not (sharing t)) _ e)))
-
-  allocated : (caller a b c d : ℕ) (free : Bool) → someFree t ≡ free → not free && not (mayShare t caller) ≡ false
-      → Effect t ram (cond free (gives (Done a b) (granting t caller)) (gives (Shared c d) (sharingLast t)))
-  allocated caller a b c d true e n = grants a b caller (ltb-true _ _ e)
+  allocated : (caller a b c d : ℕ) (some-free : Bool) → someFree t ≡ some-free → not some-free && not (mayShare t caller) ≡ false
+      → Verdict t ram (allocate caller) (cond some-free (gives (Done a b) (granting t caller)) (gives (Shared c d) (sharingLast t)))
+  allocated caller a b c d true e n = done (grants (ltb-true _ _ e))
   allocated caller a b c d false e n =
       let may : eqb caller 0 && not (sharing t) ≡ true = and-left _ (ltb 0 (boundaryOf t)) (not-false (mayShare t caller) n) in
-      shares c d (not-true (sharing t) (and-right (eqb caller 0) _ may))
+      does _ refl (shares (not-true (sharing t) (and-right (eqb caller 0) _ may)))
 
-  allocate-effect : (caller : ℕ) → Effect t ram (onAllocate t caller)
-  unfolding onAllocate
-  allocate-effect caller =
-      past (ltb 1 caller) _ _ refl (λ _.
-      past (not (someFree t) && not (mayShare t caller)) _ _ refl (λ e. allocated caller _ _ _ _ (someFree t) refl e))
+  freed : (caller row : ℕ) (own : Bool) → eqb (classAt t row) (classFor caller) ≡ own → own || (eqb caller 0 && eqb (classAt t row) SHARED) ≡ true
+      → (classAt t row ≡ classFor caller) ⊎ (classAt t row ≡ SHARED)
+  freed caller row true e m = inl (eqb-true _ _ e)
+  freed caller row false e m = inr (eqb-true _ _ (and-right (eqb caller 0) _ m))
 
-  freed : (caller row : ℕ) → row < t .segments → (own : Bool) → eqb (classAt t row) (classFor caller) ≡ own
-      → own || (eqb caller 0 && eqb (classAt t row) SHARED) ≡ true → Effect t ram (gives (Done 0 0) (freeing t row))
-  freed caller row h true e m = frees 0 0 caller row h (eqb-true _ _ e)
-  freed caller row h false e m = parts 0 0 row h (eqb-true _ _ (and-right (eqb caller 0) _ m))
-
-  free-effect : (caller segment : ℕ) → Effect t ram (onFree t caller segment)
-  unfolding onFree
-  free-effect caller segment =
+  heard-verdict : (output : ℕ) (c : Call) → Verdict t ram c (heard t ram output c)
+  unfolding heard onStart onReset onOpen onClose onRead onWrite onDefault onStatus onLink onBoundary onSetUserBoundary onAllocate onFree onStore onLoad
+  heard-verdict output (start room list) = past (not (startTest ram room list)) _ refl (λ e. starts (not-false _ e))
+  heard-verdict output (reset flags) = past (otherBits flags) _ refl (λ _. done resets)
+  heard-verdict output («open» channel driver n name) =
+      past (eqb channel 255) _ refl (λ differs.
+      past (ltb (channelAt t channel) (t .opened)) _ refl (λ new.
+      open-named channel driver n name (eqb-false channel 255 differs) (ltb-false _ _ new) (reading name)))
+  heard-verdict output (close channel) = past (leb (t .opened) (channelAt t channel)) _ refl (λ e. done (closes (leb-false _ _ e)))
+  heard-verdict output (read channel offset size) =
+      past (leb (t .opened) (channelAt t channel)) _ refl (λ e.
+      past (ltb (sizeAt t (channelAt t channel)) (offset + size) || ltb output size) _ refl (λ f.
+      done (reads (leb-false _ _ e) (ltb-false _ _ (or-left _ (ltb output size) f)))))
+  heard-verdict output (write channel offset bytes) =
+      past (leb (t .opened) (channelAt t channel)) _ refl (λ e.
+      past (ltb (sizeAt t (channelAt t channel)) (offset + length bytes)) _ refl (λ f. done (writes (leb-false _ _ e) (ltb-false _ _ f))))
+  heard-verdict output (default unit name) = past (not (defaultNameTest name)) _ refl (λ e. done (names (default-right name (not-false _ e))))
+  heard-verdict output status = past (ltb output 5) _ refl (λ _. done counts)
+  heard-verdict output (link m name) =
+      past (not (linkNameTest name)) _ refl (λ e.
+      past (leb 16 (t .known)) _ refl (λ few.
+      past (ltb (t .room) (256 + m) || not (roomFor t (t .room - m) (totalOf t))) _ refl (λ fits.
+      done (links (link-right name (not-false _ e)) (leb-false _ _ few)
+      (ltb-false _ _ (or-left _ (not (roomFor t (t .room - m) (totalOf t))) fits)) (not-false _ (or-right (ltb (t .room) (256 + m)) _ fits))))))
+  heard-verdict output boundary = done tells
+  heard-verdict output (set-user-boundary value) =
+      past (not (sharing t) || ltb (boundaryOf t) value) _ refl (λ e.
+      done (bounds (not-false _ (or-left _ (ltb (boundaryOf t) value) e)) (ltb-false _ _ (or-right (not (sharing t)) _ e))))
+  heard-verdict output (allocate caller) =
+      past (ltb 1 caller) _ refl (λ _.
+      past (not (someFree t) && not (mayShare t caller)) _ refl (λ e. allocated caller _ _ _ _ (someFree t) refl e))
+  heard-verdict output (free caller segment) =
       let row = rowOf t segment in
-      past (ltb 1 caller) _ _ refl (λ _.
-      past (not (mayFree t caller row)) _ _ refl (λ e.
+      past (ltb 1 caller) _ refl (λ _.
+      past (not (mayFree t caller row)) _ refl (λ e.
       let may = not-false (mayFree t caller row) e in
-      freed caller row (ltb-true _ _ (and-left (ltb row (t .segments)) _ may)) (eqb (classAt t row) (classFor caller)) refl (and-right (ltb row (t .segments)) _ may)))
+      done (frees (ltb-true _ _ (and-left (ltb row (t .segments)) _ may))
+      (freed caller row (eqb (classAt t row) (classFor caller)) refl (and-right (ltb row (t .segments)) _ may)))))
+  heard-verdict output (store segment offset bytes) =
+      past (not (mayReach t (rowOf t segment))) _ refl (λ e.
+      past (ltb (reachOf t (rowOf t segment)) (offset + length bytes)) _ refl (λ f.
+      past (guarded (rowOf t segment) offset (length bytes)) _ refl (λ _. done (stores (not-false _ e) (ltb-false _ _ f)))))
+  heard-verdict output (load segment offset size) =
+      past (not (mayReach t (rowOf t segment))) _ refl (λ e.
+      past (ltb (reachOf t (rowOf t segment)) (offset + size) || ltb output size) _ refl (λ f.
+      done (loads (not-false _ e) (ltb-false _ _ (or-left _ (ltb output size) f)))))
+  heard-verdict output no-call = refuses _ (plain-is _ refl)
+  heard-verdict output short-start = refuses _ (plain-is _ refl)
 
-  store-effect : (segment offset size : ℕ) → Effect t ram (onStore t segment offset size)
-  unfolding onStore
-  store-effect segment offset size =
-      past (not (mayReach t (rowOf t segment))) _ _ refl (λ _.
-      past (ltb (reachOf t (rowOf t segment)) (offset + size)) _ _ refl (λ _.
-      past (guarded (rowOf t segment) offset size) _ _ refl (λ _. leaves _ _)))
-
-  load-effect : (output segment offset size : ℕ) → Effect t ram (onLoad t output segment offset size)
-  unfolding onLoad
-  load-effect output segment offset size =
-      past (not (mayReach t (rowOf t segment))) _ _ refl (λ _.
-      past (ltb (reachOf t (rowOf t segment)) (offset + size) || ltb output size) _ _ refl (λ _. leaves _ _))
-
-  heard-effect : (output : ℕ) (c : Call) → Fields c → Effect t ram (heard t ram output c)
-  unfolding heard
-  heard-effect output (start room list) f = start-effect room list
-  heard-effect output (reset flags) f = reset-effect flags
-  heard-effect output («open» channel driver n name) f = open-effect channel driver n name (f .0)
-  heard-effect output (close channel) f = close-effect channel
-  heard-effect output (read channel offset size) f = read-effect output channel offset size
-  heard-effect output (write channel offset bytes) f = write-effect channel offset (length bytes)
-  heard-effect output (default unit name) f = default-effect unit name
-  heard-effect output status f = status-effect output
-  heard-effect output (link m name) f = link-effect m name
-  heard-effect output boundary f = boundary-effect
-  heard-effect output (set-user-boundary value) f = bound-effect value
-  heard-effect output (allocate caller) f = allocate-effect caller
-  heard-effect output (free caller segment) f = free-effect caller segment
-  heard-effect output (store segment offset bytes) f = store-effect segment offset (length bytes)
-  heard-effect output (load segment offset size) f = load-effect output segment offset size
-  heard-effect output no-call f = refuses BadCall refl
-  heard-effect output short-start f = refuses BadCall refl
-
-  barred : (starting right : Bool) (o : Outcome) → accepted t ram ≡ right → Effect t ram o → Effect t ram (cond (not (starting || right)) (gives BadTables t) o)
+  barred : {c : Call} (starting right : Bool) (o : Outcome) → accepted t ram ≡ right → Verdict t ram c o
+      → Verdict t ram c (cond (not (starting || right)) (gives BadTables t) o)
   barred true right o e f = f
   barred false true o e f = f
   barred false false o e f = bars e
 
   -- every call has one of these outcomes
-  pub decided-effect : (output : ℕ) (c : Call) → Fields c → Effect t ram (decided t ram output c)
+  pub verdict : (output : ℕ) (c : Call) → Verdict t ram c (decided t ram output c)
   unfolding decided
-  decided-effect output c f = barred (isStart c) (accepted t ram) (heard t ram output c) refl (heard-effect output c f)
+  verdict output c = barred (isStart c) (accepted t ram) (heard t ram output c) refl (heard-verdict output c)
+
+-- of a call that is no start and is done
+effect-of : {t : Tables} {ram : ℕ} {c : Call} {o : Outcome} → isStart c ≡ false → granted (o .answer) ≡ true → Verdict t ram c o → Effect t c (o .tables)
+effect-of s g (bars e) = absurd (false≢true g)
+effect-of s g (drives h) = absurd (false≢true g)
+effect-of s g (refuses answer p) = absurd (false≢true (sym (p .refused) ∙ g))
+effect-of s g (starts e) = absurd (false≢true (sym s))
+effect-of s g (does answer d e) = e
+
+pub effect : (t : Tables) (ram output : ℕ) (c : Call) → isStart c ≡ false → granted (decided t ram output c .answer) ≡ true → Effect t c (decided t ram output c .tables)
+effect t ram output c s g = effect-of s g (verdict t ram output c)

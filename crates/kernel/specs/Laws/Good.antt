@@ -9,7 +9,8 @@ use Rattle.rows.specs.Definition.Lists.{at}
 use Rattle.rows.specs.Definition.Channels.{sumOf}
 use Rattle.rows.specs.Definition.Sizes.{chainLength, boundaryAt}
 use Rattle.rows.specs.Definition.Tests.{listTest, classTest, chainTest, roomTest, channelTest, userTest, deviceTest, defaultTest}
-use Rattle.rows.specs.Laws.Good.{Says, says-le, says-eq, says-no, says-and, says-then, says-as, list-says, class-says, room-says, chain-says, channel-says, user-says, device-says, default-says}
+use Rattle.rows.specs.Laws.Says.{Says, says-le, says-eq, says-no, says-and, says-then, says-as}
+use Rattle.rows.specs.Laws.Good.{list-says, class-says, room-says, chain-says, channel-says, user-says, device-says, default-says}
 use Rattle.kernel.specs.Definition.Tables.{lastRow}
 use Rattle.kernel.specs.Definition.Line.{totalOf, boundaryOf}
 use Rattle.kernel.specs.Definition.Good.{Sized, Good, goodTest}

@@ -4,15 +4,15 @@ use Prim.Native.Nat.{ℕ, zero, suc, _+_, _-_, _≤_, _<_}
 use native.Mathlib.Decide.{decLt}
 use native.Mathlib.Omega.{arith}
 use lib.ListN.{getD, take, set, length-set, length-take}
-use lib.Seq.{take-set-lt, getD-set-same, getD-take}
+use lib.Seq.{take-set-lt, getD-set-same, getD-set-other, getD-take}
 use Rattle.rows.specs.Definition.Lists.{at, lastOf, tally}
 use Rattle.rows.specs.Definition.Classes.{FREE, SYSTEM}
 use Rattle.rows.specs.Definition.Good.{ClassesGood, ChainGood}
 use Rattle.rows.specs.Laws.Counts.{one-yes, tally-part, tally-set, Found, last-found}
 use Rattle.rows.specs.Laws.ChainRows.{more-classes, more-chain}
 use Rattle.kernel.specs.Definition.Tables.{countOf}
-use Rattle.kernel.specs.Definition.Line.{totalOf, oneMore, grown}
-use Rattle.kernel.specs.Laws.Body.{Shares, Body, body-counted, body-segments}
+use Rattle.kernel.specs.Definition.Line.{oneMore, grown}
+use Rattle.kernel.specs.Laws.Body.{Shares, Body, body-counted, body-segments, Keeps, keeps-all, keeps-on}
 use Rattle.kernel.specs.declared.Tables.{Tables}
 
 -- the tables u have one further segment in the chain than t
@@ -61,15 +61,19 @@ grown-body (suc k) t b a h = let m = more t b a (omega arith) in grown-body k (o
 
 -- what else the tables have when the chain has grown by k
 pub record Grown (k : ℕ) (t u : Tables) : Type 0 where
-  pub total : totalOf u ≡ totalOf t
-  pub room : u .room ≡ t .room
+  pub keeps : Keeps t u
   pub held : u .held ≡ t .held + k
   pub user : u .user ≡ t .user
-  pub segments : u .segments ≡ t .segments
+  pub chain : (i : ℕ) → i < t .held → at (u .chain) i ≡ at (t .chain) i
 
 pub grown-rest : (k : ℕ) (t : Tables) → Grown k t (grown k t)
 unfolding grown oneMore
-grown-rest zero t = record { total = refl; room = refl; held = omega arith; user = refl; segments = refl }
+grown-rest zero t = record { keeps = keeps-all t; held = omega arith; user = refl; chain = λ i h. refl }
 grown-rest (suc k) t =
     let r = grown-rest k (oneMore t) in
-    record { total = r .total; room = r .room; held = omega (arith, r .held); user = r .user; segments = r .segments }
+    record {
+      keeps = keeps-on _ _ _ _ (r .keeps);
+      held = omega (arith, r .held);
+      user = r .user;
+      chain = λ i h. r .chain i (omega arith) ∙ getD-set-other (t .chain) (t .held) i _ 0 (λ e. omega arith);
+    }

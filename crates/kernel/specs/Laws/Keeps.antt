@@ -2,11 +2,13 @@
 use mathlib.Core.Path.{_≡_, refl}
 use mathlib.Core.Bool.{Bool, true, false, cond, not}
 use mathlib.Core.List.{List, [], _∷_}
+use mathlib.Core.Logic.{inl, inr}
 use Prim.Native.Nat.{ℕ}
 use native.Mathlib.Omega.{arith}
 use lib.ListN.{length}
 use Rattle.names.specs.Definition.Words.{wordOf}
 use Rattle.rows.specs.Definition.Lists.{upTo}
+use Rattle.kernel.specs.Definition.Tables.{rowOf, channelAt}
 use Rattle.kernel.specs.Definition.Start.{startTest, started}
 use Rattle.kernel.specs.Definition.Answers.{granted, gives}
 use Rattle.kernel.specs.Definition.Calls.{Call, start, onStart}
@@ -20,32 +22,42 @@ use Rattle.kernel.specs.Laws.KeptSegments.{class-outside, granting-keeps
 use Rattle.kernel.specs.Laws.KeptNames.{linking-keeps, naming-keeps}
 use Rattle.kernel.specs.Laws.KeptReset.{resetting-keeps, start-good}
 use Rattle.kernel.specs.Definition.Fields.{Fields}
-use Rattle.kernel.specs.Laws.Effects.{Effect, bars, refuses, leaves, starts, resets, opens, closes, names, links, bounds, grants, shares, frees, parts, decided-effect}
+use Rattle.kernel.specs.Laws.Effects.{Effect, resets, opens, closes, reads, writes, names, counts, links, tells, bounds, grants, shares, frees, stores, loads, Verdict, bars, drives, refuses, starts, does, verdict}
 use Rattle.kernel.specs.declared.Tables.{Tables}
 use Rattle.kernel.specs.declared.Answer.the-variants.{Done, BadStart}
 use Rattle.kernel.specs.declared.Outcome.{Outcome}
 
-effect-keeps : {t : Tables} {ram : ℕ} {o : Outcome} → Good t → Effect t ram o → Good (o .tables)
-effect-keeps g (bars e) = g
-effect-keeps g (refuses answer e) = g
-effect-keeps g (leaves a b) = g
-effect-keeps {t} {ram} g (starts a b room list e) = start-good ram room list e
-effect-keeps {t} g (resets a b flags) = resetting-keeps t flags g
-effect-keeps {t} g (opens a b c small new device few fits) =
-    opening-keeps t c g few small device (place-none (t .channels) (c .number) (t .opened) (omega (arith, g .sized .channels, g .channels .most)) new) fits
-effect-keeps {t} g (closes a b i h) = closing-keeps t i g h
-effect-keeps {t} g (names a b unit name h) = naming-keeps t (wordOf name) (length name) unit g (word-good name h) (h .0)
-effect-keeps {t} g (links a b m name h few r fits) =
+effect-keeps : {t u : Tables} {c : Call} → Good t → Fields c → Effect t c u → Good u
+effect-keeps {t} g f (resets {flags}) = resetting-keeps t flags g
+effect-keeps {t} g f (opens c e differs new device few fits) =
+    opening-keeps t c g few (omega (arith, f .0)) device
+    (place-none (t .channels) (c .number) (t .opened) (omega (arith, g .sized .channels, g .channels .most)) new) fits
+effect-keeps {t} g f (closes {channel} h) = closing-keeps t (channelAt t channel) g h
+effect-keeps g f (reads h l) = g
+effect-keeps g f (writes h l) = g
+effect-keeps {t} g f (names {unit} {name} h) = naming-keeps t (wordOf name) (length name) unit g (word-good name h) (h .0)
+effect-keeps g f counts = g
+effect-keeps {t} g f (links {m} {name} h few r fits) =
     linking-keeps t m (wordOf name) (length name) g few (word-good name (link-default name h)) (h .0) r fits
-effect-keeps {t} g (bounds a b value s h) = bounding-keeps t value g (shares-yes t (body t g) s) h
-effect-keeps {t} g (grants a b caller h) = granting-keeps t caller g h
-effect-keeps {t} g (shares a b s) = sharing-keeps t g (shares-no t (body t g) s)
-effect-keeps {t} g (frees a b caller row h e) = freeing-outside t row g h (rw e (class-outside caller))
-effect-keeps {t} g (parts a b row h e) = freeing-shared t row g h e
+effect-keeps g f tells = g
+effect-keeps {t} g f (bounds {value} s h) = bounding-keeps t value g (shares-yes t (body t g) s) h
+effect-keeps {t} g f (grants {caller} h) = granting-keeps t caller g h
+effect-keeps {t} g f (shares s) = sharing-keeps t g (shares-no t (body t g) s)
+effect-keeps {t} g f (frees {caller} {segment} h (inl e)) = freeing-outside t (rowOf t segment) g h (rw e (class-outside caller))
+effect-keeps {t} g f (frees {caller} {segment} h (inr e)) = freeing-shared t (rowOf t segment) g h e
+effect-keeps g f (stores m h) = g
+effect-keeps g f (loads m h) = g
+
+verdict-keeps : {t : Tables} {ram : ℕ} {c : Call} {o : Outcome} → Good t → Fields c → Verdict t ram c o → Good (o .tables)
+verdict-keeps g f (bars e) = g
+verdict-keeps g f (drives h) = g
+verdict-keeps g f (refuses answer p) = g
+verdict-keeps {ram = ram} g f (starts {room} {list} e) = start-good ram room list e
+verdict-keeps g f (does answer d e) = effect-keeps g f e
 
 -- a call on good tables leaves good tables
 pub decided-keeps : (t : Tables) (ram output : ℕ) (c : Call) → Good t → Fields c → Good (decided t ram output c .tables)
-decided-keeps t ram output c g f = effect-keeps g (decided-effect t ram output c f)
+decided-keeps t ram output c g f = verdict-keeps g f (verdict t ram output c)
 
 pub step-keeps : (t : Tables) (ram : List ℕ) (c : Call) (output : List ℕ) → Good t → Fields c → Good (step t ram c output .tables)
 unfolding step completed

@@ -19,7 +19,7 @@ use Rattle.rows.specs.declared.Channel.{Channel}
 use Rattle.kernel.specs.Definition.Tables.{SEGMENT, classAt, countOf, sharing, lastRow, withChannels}
 use Rattle.kernel.specs.Definition.Line.{totalOf, grown, roomFor, opening, closing}
 use Rattle.kernel.specs.Definition.Good.{Good}
-use Rattle.kernel.specs.Laws.Body.{Shares, Body, body, whole, body-channels}
+use Rattle.kernel.specs.Laws.Body.{Shares, Body, body, whole, body-channels, keeps-total}
 use Rattle.kernel.specs.Laws.Facts.{no-shorter}
 use Rattle.kernel.specs.Laws.Grow.{grown-body, grown-rest}
 use Rattle.kernel.specs.Laws.Shrink.{cut}
@@ -65,7 +65,7 @@ fill-by t k b l e false s =
     let a = shares-no t b s in
     let m = chain-most (t .room) (totalOf t) (t .held - 1 + countOf FREE t) (room-apart t (t .room) (totalOf t) s e) in
     let r = grown-rest k t in
-    whole (grown k t) (grown-body k t b a (omega (arith, b .chain .holds))) (rw (r .room, r .total, r .held) l) (omega (arith, r .user, b .none a))
+    whole (grown k t) (grown-body k t b a (omega (arith, b .chain .holds))) (rw (r .keeps .room, keeps-total (r .keeps), r .held) l) (omega (arith, r .user, b .none a))
 
 -- the chain grown to what the line takes, where the room rule lets it
 pub fill : (t : Tables) → Body t → t .held ≤ chainLength (t .room) (totalOf t) → roomFor t (t .room) (totalOf t) ≡ true

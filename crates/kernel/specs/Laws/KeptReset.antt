@@ -13,7 +13,8 @@ use Rattle.rows.specs.Definition.Devices.{builtIn}
 use Rattle.rows.specs.Definition.Sizes.{chainLength}
 use Rattle.rows.specs.Laws.Sizes.{length-mono, length-low, edge-low, edge-falls}
 use Rattle.rows.specs.Definition.Good.{ListGood, ChannelsGood, RoomGood, DefaultGood}
-use Rattle.rows.specs.Laws.Good.{says-and, says-le, says-eq, list-says}
+use Rattle.rows.specs.Laws.Says.{says-and, says-le, says-eq}
+use Rattle.rows.specs.Laws.Good.{list-says}
 use Rattle.rows.specs.Laws.ClassRows.{released-classes, released-chain, fresh-classes, fresh-chain, fresh-length, zeros-at}
 use Rattle.rows.specs.Laws.ChannelRows.{channels-none, no-channels}
 use Rattle.rows.specs.Laws.DeviceRows.{built}
@@ -40,7 +41,7 @@ emptying-keeps t g =
 
 pub emptying-opened : (t : Tables) → emptying t .opened ≡ 0
 unfolding emptying
-emptying-opened t = shrunk-rest (t .held - 1) (withChannels t 0 (replicate 32 zeroChannel)) .opened
+emptying-opened t = shrunk-rest (t .held - 1) (withChannels t 0 (replicate 32 zeroChannel)) .keeps .opened
 
 -- bit 5, once the channels are closed
 pub restoring-keeps : (t : Tables) → Good t → t .opened ≡ 0 → Good (restoring t)

@@ -15,6 +15,7 @@ use Rattle.kernel.specs.Definition.Good.{Good}
 use Rattle.kernel.specs.Definition.Line.{totalOf, roomFor}
 use Rattle.kernel.specs.Definition.Devices.{linking}
 use Rattle.kernel.specs.Laws.Arrays.{link-default, word-good}
+use Rattle.kernel.specs.Laws.Body.{keeps-total}
 use Rattle.kernel.specs.Laws.Facts.{room-small}
 use Rattle.kernel.specs.Laws.Grow.{Grown, grown-rest}
 use Rattle.kernel.specs.Laws.KeptNames.{linking-keeps}
@@ -46,7 +47,7 @@ module _ (t : Tables) (m : ℕ) (name : List ℕ) (g : Good t) (l : Links t m na
       (withDevices t (t .room - m) (t .known + 1) (added (t .devices) (t .known) (wordOf name) (length name)))
 
   pub linking-room : linking t m (wordOf name) (length name) .room ≡ t .room - m
-  linking-room = linking-rest .room
+  linking-room = linking-rest .keeps .room
 
   -- there are as many segments as the chain grows by
   pub linking-held : t .held + (chainLength (t .room - m) (totalOf t) - t .held) ≤ 32
@@ -56,5 +57,5 @@ module _ (t : Tables) (m : ℕ) (name : List ℕ) (g : Good t) (l : Links t m na
   linking-chain size e =
       let u = linking t m (wordOf name) (length name) in
       let r = linking-rest in
-      let k : Chain (u .chain) (u .room) (totalOf u) size = good-chain u size linking-good (rw (r .segments) e) in
-      chain-shift (u .chain) (t .room) m (totalOf t) size (omega (arith, l .least)) (room-small t g) (rw (r .room, r .total) at k)
+      let k : Chain (u .chain) (u .room) (totalOf u) size = good-chain u size linking-good (rw (r .keeps .segments) e) in
+      chain-shift (u .chain) (t .room) m (totalOf t) size (omega (arith, l .least)) (room-small t g) (rw (r .keeps .room, keeps-total (r .keeps)) at k)

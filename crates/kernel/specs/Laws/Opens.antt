@@ -1,22 +1,22 @@
 -- When a record may be appended, and what the code of open needs of the next tables.
-use mathlib.Core.Path.{_≡_, refl, _∙_}
+use mathlib.Core.Path.{_≡_, _∙_}
 use mathlib.Core.Bool.{true, not}
 use mathlib.Core.List.{[], _∷_}
-use Prim.Native.Nat.{ℕ, zero, suc, _+_, _-_, _≤_, _<_}
+use Prim.Native.Nat.{ℕ, _+_, _-_, _≤_, _<_}
 use native.Mathlib.Omega.{arith}
 use lib.Dec.{leb}
 use lib.ListN.{getD, set}
 use lib.Seq.{getD-set-same}
 use Rattle.rows.specs.Definition.Channels.{zeroChannel}
-use Rattle.rows.specs.Laws.ChannelRows.{sum-set}
+use Rattle.rows.specs.Laws.ChannelRows.{sum-set, place-none}
 use Rattle.rows.specs.Definition.Sizes.{chainLength}
 use Rattle.rows.specs.declared.Channel.{Channel}
 use Rattle.line.specs.Laws.Chains.{Chain}
 use Rattle.kernel.specs.Definition.Tables.{ramSize, channelAt, withChannels}
 use Rattle.kernel.specs.Definition.Good.{Good}
-use Rattle.kernel.specs.Definition.Line.{totalOf, oneMore, grown, roomFor, opening}
+use Rattle.kernel.specs.Definition.Line.{totalOf, roomFor, opening}
 use Rattle.kernel.specs.Definition.Answers.{gives, unless, _when_}
-use Rattle.rows.specs.Laws.ChannelRows.{place-none}
+use Rattle.kernel.specs.Laws.Body.{keeps-total}
 use Rattle.kernel.specs.Laws.Grow.{Grown, grown-rest}
 use Rattle.kernel.specs.Laws.KeptLine.{opening-keeps}
 use Rattle.kernel.specs.Laws.Chains.{good-chain}
@@ -42,12 +42,6 @@ onOpenRow t c =
     unless (Full when leb 32 (t .opened) ∷ NoRoom when not (roomFor t (t .room) (totalOf t + (16 + c .n))) ∷ []) t
     (gives (Done (c .device) (c .unit)) (opening t c))
 
--- the chain grows with the channels as they are
-grown-channels : (k : ℕ) (t : Tables) → grown k t .channels ≡ t .channels
-unfolding grown oneMore
-grown-channels zero t = refl
-grown-channels (suc k) t = grown-channels k (oneMore t)
-
 module _ (t : Tables) (c : Channel) (g : Good t) (new : New t c) (fits : Fits t c) where
   pub opening-good : Good (opening t c)
   opening-good =
@@ -64,15 +58,11 @@ module _ (t : Tables) (c : Channel) (g : Good t) (new : New t c) (fits : Fits t 
   opening-held = omega (arith, opening-good .chain .most, opening-rest .held)
 
   pub opening-row : getD (opening t c .channels) (t .opened) zeroChannel ≡ c
-  unfolding opening
-  opening-row =
-      let k = chainLength (t .room) (totalOf t + (16 + c .n)) - t .held in
-      let u = withChannels t (t .opened + 1) (set (t .channels) (t .opened) c) in
-      rw (grown-channels k u) (getD-set-same (t .channels) (t .opened) c zeroChannel (omega (arith, g .sized .channels, fits .few)))
+  opening-row = rw (opening-rest .keeps .channels) (getD-set-same (t .channels) (t .opened) c zeroChannel (omega (arith, g .sized .channels, fits .few)))
 
   pub opening-chain : (size : ℕ) → size ≡ ramSize t → Chain (opening t c .chain) (t .room) (totalOf t + (16 + c .n)) size
   opening-chain size e =
       let r = opening-rest in
-      let s : totalOf (opening t c) ≡ totalOf t + (16 + c .n) = r .total ∙ sum-set (t .channels) (t .opened) c (omega (arith, g .sized .channels, fits .few)) in
-      let k : Chain (opening t c .chain) (opening t c .room) (totalOf (opening t c)) size = good-chain (opening t c) size opening-good (rw (r .segments) e) in
-      rw (s, r .room) at k
+      let s : totalOf (opening t c) ≡ totalOf t + (16 + c .n) = keeps-total (r .keeps) ∙ sum-set (t .channels) (t .opened) c (omega (arith, g .sized .channels, fits .few)) in
+      let k : Chain (opening t c .chain) (opening t c .room) (totalOf (opening t c)) size = good-chain (opening t c) size opening-good (rw (r .keeps .segments) e) in
+      rw (s, r .keeps .room) at k

@@ -6,6 +6,8 @@ use native.Mathlib.Decide.{ℕ-discrete}
 use native.Mathlib.Omega.{arith}
 use borrow.Author.Tests.{eq-eqb, ne-eqb}
 use lib.ListN.{set, length-set}
+use lib.Seq.{getD-set-other}
+use Rattle.rows.specs.Definition.Lists.{at}
 use Rattle.rows.specs.Definition.Classes.{FREE, USER, SYSTEM, SHARED, timesHeld}
 use Rattle.rows.specs.Definition.Sizes.{chainLength}
 use Rattle.rows.specs.Laws.Sizes.{length-some}
@@ -13,7 +15,7 @@ use Rattle.rows.specs.Laws.ChainRows.{less-classes, less-chain}
 use Rattle.kernel.specs.Definition.Tables.{classAt, lastRow, withSegments}
 use Rattle.kernel.specs.Definition.Line.{totalOf, boundaryOf, oneLess, shrunk}
 use Rattle.kernel.specs.Definition.Good.{Good}
-use Rattle.kernel.specs.Laws.Body.{Body, whole, body-counted, body-segments}
+use Rattle.kernel.specs.Laws.Body.{Body, whole, body-counted, body-segments, Keeps, keeps-all, keeps-on, keeps-total}
 use Rattle.kernel.specs.declared.Tables.{Tables}
 
 -- a body whose user boundary is 0
@@ -61,18 +63,20 @@ shrunk-body (suc k) t b h =
 
 -- what else the tables have when the chain has shrunk by k
 pub record Rest (k : ℕ) (t u : Tables) : Type 0 where
-  pub total : totalOf u ≡ totalOf t
-  pub room : u .room ≡ t .room
+  pub keeps : Keeps t u
   pub held : u .held ≡ t .held - k
-  pub opened : u .opened ≡ t .opened
-  pub segments : u .segments ≡ t .segments
+  pub chain : (i : ℕ) → i < u .held → at (u .chain) i ≡ at (t .chain) i
 
 pub shrunk-rest : (k : ℕ) (t : Tables) → Rest k t (shrunk k t)
 unfolding shrunk oneLess
-shrunk-rest zero t = record { total = refl; room = refl; held = omega arith; opened = refl; segments = refl }
+shrunk-rest zero t = record { keeps = keeps-all t; held = omega arith; chain = λ i h. refl }
 shrunk-rest (suc k) t =
     let r = shrunk-rest k (oneLess t) in
-    record { total = r .total; room = r .room; held = omega (arith, r .held); opened = r .opened; segments = r .segments }
+    record {
+      keeps = keeps-on _ _ _ _ (r .keeps);
+      held = omega (arith, r .held);
+      chain = λ i h. r .chain i h ∙ getD-set-other (t .chain) (t .held - 1) i 0 0 (λ e. omega (arith, r .held));
+    }
 
 -- the chain cut to what the line takes, where the line got no longer
 pub cut : (t : Tables) → Body t → chainLength (t .room) (totalOf t) ≤ t .held
@@ -83,8 +87,9 @@ cut t b h u =
     let some : 1 ≤ c = length-some (t .room) (totalOf t) in
     let s = shrunk-body k t b (omega arith) in
     let r = shrunk-rest k t in
-    whole (shrunk k t) (s .body) (rw (r .room, r .total, r .held) (omega arith))
-    (rw (r .room, r .total) (elim (ℕ-discrete c (t .held)) [
+    let total = keeps-total (r .keeps) in
+    whole (shrunk k t) (s .body) (rw (r .keeps .room, total, r .held) (omega arith))
+    (rw (r .keeps .room, total) (elim (ℕ-discrete c (t .held)) [
       | yes q ↦ omega (arith, s .user, u q)
       | no q ↦ omega (arith, s .zero (omega arith))
     ]))

@@ -8,9 +8,8 @@ use native.Mathlib.Omega.{arith}
 use borrow.Author.Tests.{ne-eqb}
 use lib.ListN.{length, take, set, length-take}
 use lib.Seq.{take-suc-set, take-set-le, getD-set-same, getD-set-other, getD-take}
-use Rattle.rows.specs.Definition.Lists.{at, tally}
+use Rattle.rows.specs.Definition.Lists.{at, tally, sumTo}
 use Rattle.rows.specs.Definition.Classes.{FREE, SYSTEM, SHARED, inChain, timesHeld}
-use Rattle.rows.specs.Definition.Lists.{sumTo}
 use Rattle.rows.specs.Laws.Counts.{one, one-yes, one-no, tally-append, tally-suc, cond-most, sum-tally, sum-same, tally-sum, sum-plus, sum-most}
 use Rattle.rows.specs.Definition.Good.{ClassesGood, ChainGood}
 

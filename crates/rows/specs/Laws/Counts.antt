@@ -129,18 +129,6 @@ tally-two k (x ∷ xs) i zero h l a b = absurd (not-suc-le-zero h)
 tally-two k (x ∷ xs) zero (suc j) h l a b = omega (arith, one-yes k x a, tally-some k xs j (le-of-suc-le-suc l) b)
 tally-two k (x ∷ xs) (suc i) (suc j) h l a b = omega (arith, tally-two k xs i j (le-of-suc-le-suc h) (le-of-suc-le-suc l) a b)
 
--- no two places of k: at most one
-pub tally-most : (k : ℕ) (xs : List ℕ) → ((i j : ℕ) → i < j → j < length xs → getD xs i 0 ≡ k → getD xs j 0 ≡ k → ⊥) → tally k xs ≤ 1
-tally-most k [] n = omega arith
-tally-most k (x ∷ xs) n =
-    elim (ℕ-discrete x k) [
-      | yes q ↦ elim (decLe 1 (tally k xs)) [
-        | yes w ↦ let f = last-found k xs w in absurd (n 0 (suc (f .place)) (omega arith) (suc-le-suc (f .within)) q (f .here))
-        | no w ↦ omega (arith, one-yes k x q)
-      ]
-      | no q ↦ omega (arith, one-no k x q, tally-most k xs (λ i j h l. n (suc i) (suc j) (suc-le-suc h) (suc-le-suc l)))
-    ]
-
 -- firstOf: what stands there, and where there is none
 pub first-found : (k : ℕ) (xs : List ℕ) → firstOf k xs < length xs → getD xs (firstOf k xs) 0 ≡ k
 first-found k xs h = eqb-true (getD xs (firstOf k xs) 0) k (where-found (λ (x : ℕ). eqb x k) xs 0 h)

@@ -1,14 +1,13 @@
--- "exactly the system and shared segments without a repeat" as counts and as a reader would say it.
+-- "exactly the system and shared segments without a repeat": from the counts, as a reader would say it.
 use mathlib.Core.Path.{_≡_, sym, _∙_}
 use mathlib.Core.List.{List}
 use Prim.Native.Nat.{ℕ, _-_, _≤_, _<_}
-use native.Mathlib.Decide.{decLe}
 use native.Mathlib.Omega.{arith}
 use lib.ListN.{length, getD, take, length-take}
 use lib.Seq.{getD-take}
 use Rattle.rows.specs.Definition.Lists.{at, tally}
 use Rattle.rows.specs.Definition.Classes.{SHARED, inChain, timesHeld}
-use Rattle.rows.specs.Laws.Counts.{tally-some, tally-two, tally-most, last-found, cond-most}
+use Rattle.rows.specs.Laws.Counts.{tally-some, tally-two, last-found, cond-most}
 use Rattle.rows.specs.Definition.Good.{ChainGood}
 
 -- the reader's form of "exactly the system and shared segments without a repeat"
@@ -31,21 +30,6 @@ module _ (n : ℕ) (cs chain : List ℕ) (held : ℕ) (l : length chain ≡ 32) 
         let w : f .place < held = omega (arith, f .within, long) in (f .place, w, sym (place (f .place) w) ∙ f .here);
     once = λ i j h k e. omega (arith, tally-two (at chain j) (take held chain) i j h (omega (arith, long)) (place i (omega arith) ∙ e) (place j k), x (at chain j) (rows j k), cond-most (inChain (at cs (at chain j))));
   }
-
-  pub exactly-back : Exactly n cs chain held → (row : ℕ) → row < n → tally row (take held chain) ≡ timesHeld (at cs row)
-  exactly-back e row h =
-      let m : tally row (take held chain) ≤ 1 = tally-most row (take held chain) (λ i j a b p q.
-      e .once i j a (omega (arith, long)) (sym (place i (omega (arith, long))) ∙ p ∙ sym q ∙ place j (omega (arith, long)))) in
-      elim (decLe 1 (timesHeld (at cs row))) [
-        | yes c ↦ let s = e .all row h c in
-            omega (arith, tally-some row (take held chain) (s .0) (omega (arith, long, s .1)) (place (s .0) (s .1) ∙ s .2), cond-most (inChain (at cs row)))
-        | no c ↦ elim (decLe 1 (tally row (take held chain))) [
-          | yes w ↦ let f = last-found row (take held chain) w in
-              let g : f .place < held = omega (arith, f .within, long) in
-              absurd (c (rw (sym (place (f .place) g) ∙ f .here) at (e .only (f .place) g)))
-          | no w ↦ omega arith
-        ]
-      ]
 
 -- "at most one segment is shared"
 pub one-shared : (n : ℕ) (cs chain : List ℕ) (held : ℕ) → ChainGood n cs chain held

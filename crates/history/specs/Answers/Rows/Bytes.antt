@@ -8,7 +8,7 @@ use native.Mathlib.Omega.{arith}
 use lib.Dec.{ltb}
 use lib.ListN.{length}
 use Rattle.rows.specs.Definition.Classes.{USER, SHARED}
-use Rattle.rows.specs.Laws.Good.{Says, says-lt, says-eq, says-and, says-or, says-not, says-as}
+use Rattle.rows.specs.Laws.Says.{Says, says-lt, says-eq, says-and, says-or, says-not, says-as}
 use Rattle.kernel.specs.Definition.Tables.{classAt, rowOf}
 use Rattle.kernel.specs.Definition.Good.{Good}
 use Rattle.kernel.specs.Definition.Segments.{mayReach, reachOf, guarded}

@@ -7,7 +7,7 @@ use native.Mathlib.Omega.{arith}
 use borrow.Author.Tests.{leb-false}
 use lib.Dec.{ltb}
 use lib.ListN.{length}
-use Rattle.rows.specs.Laws.Good.{Says, says-lt, says-no, says-or, says-as}
+use Rattle.rows.specs.Laws.Says.{Says, says-lt, says-no, says-or, says-as}
 use Rattle.kernel.specs.Definition.Tables.{channelAt}
 use Rattle.kernel.specs.Definition.Good.{Good}
 use Rattle.kernel.specs.Definition.Line.{sizeAt}

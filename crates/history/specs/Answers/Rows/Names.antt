@@ -12,7 +12,7 @@ use Rattle.names.specs.Definition.Read.{reading}
 use Rattle.names.specs.Laws.Right.{reading-right, reads-one, unread-right}
 use Rattle.names.specs.Laws.Runs.{link-right, link-finds, default-right, default-finds}
 use Rattle.names.specs.Definition.Words.{LinkName, DefaultName}
-use Rattle.rows.specs.Laws.Good.{Says, says-le, says-lt, says-eq, says-or, says-not, says-as}
+use Rattle.rows.specs.Laws.Says.{Says, says-le, says-lt, says-eq, says-or, says-not, says-as}
 use Rattle.kernel.specs.Definition.Good.{Good}
 use Rattle.kernel.specs.Definition.Line.{totalOf}
 use Rattle.kernel.specs.Definition.Names.{wanted, deviceFor}

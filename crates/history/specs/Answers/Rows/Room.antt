@@ -2,7 +2,7 @@
 use Prim.Native.Nat.{ℕ, _+_, _-_, _*_}
 use Rattle.rows.specs.Definition.Classes.{FREE, SHARED}
 use Rattle.rows.specs.Definition.Sizes.{chainLength, boundaryAt}
-use Rattle.rows.specs.Laws.Good.{Says, says-le, says-eq, says-and, says-as, says-cond}
+use Rattle.rows.specs.Laws.Says.{Says, says-le, says-eq, says-and, says-as, says-cond}
 use Rattle.kernel.specs.Definition.Tables.{SEGMENT, countOf}
 use Rattle.kernel.specs.Definition.Good.{Good}
 use Rattle.kernel.specs.Definition.Line.{roomFor}

@@ -6,7 +6,7 @@ use Prim.Native.Nat.{ℕ, zero, suc, _≤_, _<_}
 use native.Mathlib.Decide.{decLe, ℕ-discrete}
 use native.Mathlib.Omega.{arith}
 use Rattle.rows.specs.Definition.Classes.{FREE, SHARED}
-use Rattle.rows.specs.Laws.Good.{Says, says-lt, says-eq, says-and, says-or, says-not, says-as}
+use Rattle.rows.specs.Laws.Says.{Says, says-lt, says-eq, says-and, says-or, says-not, says-as}
 use Rattle.kernel.specs.Definition.Tables.{classAt, rowOf}
 use Rattle.kernel.specs.Definition.Good.{Good}
 use Rattle.kernel.specs.Definition.Line.{boundaryOf}

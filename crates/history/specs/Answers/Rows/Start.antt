@@ -8,7 +8,8 @@ use native.Mathlib.Omega.{arith}
 use lib.ListN.{length}
 use Rattle.rows.specs.Definition.Lists.{padded}
 use Rattle.rows.specs.Definition.Good.{ListGood}
-use Rattle.rows.specs.Laws.Good.{says-le, says-lt, says-eq, says-and, says-or, says-not, says-as, list-says}
+use Rattle.rows.specs.Laws.Says.{says-le, says-lt, says-eq, says-and, says-or, says-not, says-as}
+use Rattle.rows.specs.Laws.Good.{list-says}
 use Rattle.kernel.specs.Definition.Tables.{SEGMENT}
 use Rattle.kernel.specs.Definition.Calls.{start, reset, status, onStart, onReset, onStatus}
 use Rattle.kernel.specs.Definition.Refusals.{Row, OtherBit, reset-flags, start-list, start-low, start-high, start-ram, status-output}

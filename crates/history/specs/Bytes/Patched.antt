@@ -1,0 +1,52 @@
+-- Bytes put at a place: those there are new, those before and behind stay.
+use mathlib.Core.Path.{_≡_, sym, _∙_}
+use mathlib.Core.List.{List, _++_}
+use Prim.Native.Nat.{ℕ, _+_, _-_, _≤_, _<_}
+use native.Mathlib.Decide.{decLe, decLt}
+use native.Mathlib.Omega.{arith}
+use borrow.Author.Tests.{le-leb, lt-leb, lt-ltb, le-ltb}
+use lib.ListN.{length, getD, take, drop, length-take, List·getD-append}
+use lib.Seq.{getD-take, getD-drop, getD-append-add}
+use Rattle.line.specs.Definition.Ram.{putAt}
+use Rattle.history.specs.Definition.Runs.{patched}
+
+pub patched-in : (offset : ℕ) (bytes : List ℕ) (k old : ℕ) → offset ≤ k → k < offset + length bytes → patched offset bytes k old ≡ getD bytes (k - offset) 0
+unfolding patched
+patched-in offset bytes k old h l = rw (le-leb _ _ h, lt-ltb _ _ l)
+
+pub patched-low : (offset : ℕ) (bytes : List ℕ) (k old : ℕ) → k < offset → patched offset bytes k old ≡ old
+unfolding patched
+patched-low offset bytes k old h = rw (lt-leb _ _ h)
+
+pub patched-high : (offset : ℕ) (bytes : List ℕ) (k old : ℕ) → offset + length bytes ≤ k → patched offset bytes k old ≡ old
+unfolding patched
+patched-high offset bytes k old h =
+    elim (decLe offset k) [ yes l ↦ rw (le-leb _ _ l, le-ltb _ _ h) | no l ↦ rw (lt-leb offset k (omega arith)) ]
+
+pub patched-not : (offset : ℕ) (bytes : List ℕ) (k old : ℕ) → (offset ≤ k → k < offset + length bytes → ⊥) → patched offset bytes k old ≡ old
+patched-not offset bytes k old f =
+    elim (decLt k offset) [
+      | yes l ↦ patched-low offset bytes k old l
+      | no l ↦ elim (decLt k (offset + length bytes)) [ yes q ↦ absurd (f (omega arith) q) | no q ↦ patched-high offset bytes k old (omega arith) ]
+    ]
+
+pub put-at-is : (ram : List ℕ) (here : ℕ) (xs : List ℕ) (i : ℕ) → here + length xs ≤ length ram → getD (putAt ram here xs) i 0 ≡ patched here xs i (getD ram i 0)
+unfolding putAt
+put-at-is ram here xs i fits =
+    let rest = drop (here + length xs) ram in
+    let n : length (take here ram) ≡ here = omega (arith, length-take here ram) in
+    elim (decLt i here) [
+      | yes l ↦ List·getD-append (take here ram) (xs ++ rest) 0 i (omega arith) ∙ getD-take here ram i 0 l ∙ sym (patched-low here xs i (getD ram i 0) l)
+      | no l ↦
+          let e : length (take here ram) + (i - here) ≡ i = omega arith in
+          let past : getD (take here ram ++ (xs ++ rest)) i 0 ≡ getD (xs ++ rest) (i - here) 0 = rw e at (getD-append-add (take here ram) (xs ++ rest) (i - here) 0) in
+          elim (decLt i (here + length xs)) [
+            | yes q ↦ past ∙ List·getD-append xs rest 0 (i - here) (omega arith) ∙ sym (patched-in here xs i (getD ram i 0) (omega arith) q)
+            | no q ↦
+                let f : length xs + (i - here - length xs) ≡ i - here = omega arith in
+                let z : here + length xs + (i - here - length xs) ≡ i = omega arith in
+                past ∙ rw f at (getD-append-add xs rest (i - here - length xs) 0)
+                ∙ rw z at (getD-drop (here + length xs) ram (i - here - length xs) 0)
+                ∙ sym (patched-high here xs i (getD ram i 0) (omega arith))
+          ]
+    ]
