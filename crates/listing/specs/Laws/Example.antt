@@ -2,7 +2,7 @@
 -- It is shown a record at a time, whatever bytes the RAM has: one computation over all would write 65,536 bytes anew for each byte put.
 use mathlib.Core.Path.{_≡_, refl, ap, _∙_}
 use mathlib.Core.List.{List, [], _∷_, _++_}
-use Prim.Native.Nat.{ℕ, zero, suc, _+_}
+use Prim.Native.Nat.{ℕ, zero, suc}
 use Prim.Native.Char.{code}
 use Prim.Native.String.{String, [] as []ˢ, _∷_ as _∷ˢ_}
 use native.Mathlib.Omega.{arith}

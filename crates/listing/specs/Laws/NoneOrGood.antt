@@ -1,14 +1,15 @@
 -- A record keeps the tables that the listing carries.
-use mathlib.Core.Path.{_≡_, refl, sym, ap, _∙_}
-use mathlib.Core.Bool.{Bool, true, false, false≢true}
+use mathlib.Core.Path.{_≡_, sym, ap, _∙_}
+use mathlib.Core.Bool.{true, false≢true}
 use mathlib.Core.List.{List}
-use mathlib.Core.Logic.{_⊎_, inl, inr}
+use mathlib.Core.Logic.{inl, inr}
 use Prim.Native.Nat.{ℕ, _≤_}
 use native.Mathlib.Decide.{ℕ-discrete}
 use native.Mathlib.Omega.{arith}
 use borrow.Author.Tests.{ltb-true, ne-eqb}
 use lib.Dec.{ltb}
 use lib.ListN.{length, take, drop, length-take}
+use Rattle.text.specs.Laws.Text.{split}
 use Rattle.kernel.specs.Definition.Answers.{granted}
 use Rattle.kernel.specs.Definition.Good.{Good}
 use Rattle.kernel.specs.Definition.Start.{noTables}
@@ -36,10 +37,6 @@ is-good t (started g l) h = (g, l)
 pub lent-theirs : (t : Tables) (kind size : ℕ) → (kind ≡ 256 → ⊥) → t .segments ≤ 4 → lentTo (t .segments) kind size ≡ ramSize t
 unfolding lentTo
 lent-theirs t kind size n l = rw (ne-eqb kind 256 n) (omega arith)
-
-split : (b : Bool) → (b ≡ true) ⊎ (b ≡ false)
-split true = inl refl
-split false = inr refl
 
 lent-size : (ram : List ℕ) (segments kind size : ℕ) → length ram ≡ 65536 → length (take (lentTo segments kind size) ram) ≡ lentTo segments kind size
 unfolding lentTo
@@ -75,5 +72,5 @@ record-keeps t ram out kind body s b h = elim (split (granted (logStep t ram out
     | yes e ↦ rw e (start-leaves t ram out body s (rw e at d))
     | no e ↦ other-leaves t ram out body s kind e b h d
   ]
-  | inr d ↦ rw (refused-leaves t ram out kind body b d) h
+  | inr d ↦ rw (refused-leaves t ram out kind body d) h
 ]

@@ -13,7 +13,7 @@ use Rattle.kernel.specs.Laws.Refused.{refused-stays}
 use Rattle.kernel.specs.declared.Tables.{Tables}
 use Rattle.kernel.specs.declared.Answer.the-variants.{BadTables, BadCall, BadStart}
 use Rattle.events.specs.Definition.Records.{u16At, startIn, callIn}
-use Rattle.events.specs.Laws.Bodies.{Bytes, call-fields, no-start}
+use Rattle.events.specs.Laws.Bodies.{no-start}
 use Rattle.kernel.specs.Definition.Start.{noTables}
 use Rattle.listing.specs.Definition.Log.{lentTo, logStep}
 
@@ -27,10 +27,10 @@ unfolding logStep step completed
 before-start ram out kind body h = rw (barred _ (length out) (callIn kind body) (no-start kind body h))
 
 -- a record that is not done leaves the tables: there is no accepted start until one is done
-pub refused-leaves : (t : Tables) (ram out : List ℕ) (kind : ℕ) (body : List ℕ) → Bytes body → granted (logStep t ram out kind body .answer) ≡ false
+pub refused-leaves : (t : Tables) (ram out : List ℕ) (kind : ℕ) (body : List ℕ) → granted (logStep t ram out kind body .answer) ≡ false
     → logStep t ram out kind body .tables ≡ t
 unfolding logStep step completed
-refused-leaves t ram out kind body b f = refused-stays t _ (length out) (callIn kind body) (call-fields kind body b) f
+refused-leaves t ram out kind body f = refused-stays t _ (length out) (callIn kind body) f
 
 -- kind 256 with a body short of R answers 2
 pub short-answers : (t : Tables) (ram out body : List ℕ) → length body < 2 → logStep t ram out 256 body .answer ≡ BadCall

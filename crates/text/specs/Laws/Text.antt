@@ -28,7 +28,7 @@ put-then {d} {e} {f} {at} {m} {r} {xs} {ys} p q =
       behind = q .behind ∙ sym (passed e) ∙ ap (drop (length ys)) (p .behind) ∙ passed d;
     }
 
-split : (b : Bool) → (b ≡ true) ⊎ (b ≡ false)
+pub split : (b : Bool) → (b ≡ true) ⊎ (b ≡ false)
 split true = inl refl
 split false = inr refl
 
