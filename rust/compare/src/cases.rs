@@ -5,9 +5,9 @@ use crate::counts::Counts;
 use crate::damage::damage;
 use crate::machine::Machine;
 use crate::protocol::{image_of, Case, Reply, Request, IMAGE, MOST_RAM};
-use crate::random::Random;
 use crate::steer::{some_list, some_r, Mood, Steer, MOODS};
 use exos_kernel::{call, decode, good, Call, Tables, ROWS_OF_SEGMENTS, SEGMENT};
+use exos_random::Random;
 
 /// A case, the independent kernel's replies to it, and what it met.
 pub struct Played {

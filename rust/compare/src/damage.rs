@@ -1,11 +1,11 @@
 //! Images with one field off, several off, or all bytes random.
 
 use crate::protocol::{at, Image, CHANNEL, DEVICE, IMAGE};
-use crate::random::Random;
 use crate::view::View;
 use exos_kernel::{
     Tables, LEAST_R, MOST_R, NAME, ROWS_OF_CHANNELS, ROWS_OF_DEVICES, ROWS_OF_SEGMENTS,
 };
+use exos_random::Random;
 
 /// A field of the image: where it is, its rows, and where they are counted.
 struct Field {

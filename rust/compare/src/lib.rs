@@ -11,7 +11,6 @@ pub mod judge;
 pub mod machine;
 pub mod program;
 pub mod protocol;
-mod random;
 pub mod report;
 pub mod run;
 pub mod shrink;

@@ -11,9 +11,9 @@ mod segments;
 mod user;
 
 use crate::protocol::Request;
-use crate::random::Random;
 use crate::view::View;
 use exos_kernel::{class, Tables, HEADING};
+use exos_random::Random;
 use exoslog::{form_of, Field};
 use mood::UNKNOWN;
 

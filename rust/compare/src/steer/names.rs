@@ -1,8 +1,8 @@
 //! Strings for open, and device names for default and link.
 
 use super::Steer;
-use crate::random::Random;
 use exos_kernel::Device;
+use exos_random::Random;
 
 impl Steer<'_> {
     /// A string for open: mostly an enabled device with or without a unit.

@@ -2,8 +2,8 @@
 
 use super::Steer;
 use crate::protocol::Request;
-use crate::random::Random;
 use exos_kernel::{LEAST_R, MOST_R};
+use exos_random::Random;
 
 impl Steer<'_> {
     /// A start, accepted or just not.

@@ -4,9 +4,9 @@ mod audits;
 mod command;
 mod logs;
 mod pictures;
-#[path = "../../../compare/src/random.rs"]
-mod random;
 mod replays;
 mod round_trips;
 mod runs;
 mod transcript;
+
+use exos_random as random;

@@ -11,8 +11,6 @@ mod model;
 mod moves;
 mod names;
 mod plain_good;
-#[path = "../../../compare/src/random.rs"]
-mod random;
 mod random_calls;
 mod random_tables;
 mod refusals;

@@ -2,8 +2,8 @@
 
 use crate::machine::{Answer, Machine};
 use crate::model::{Model, Spelling};
-use crate::random::Random;
 use exos_kernel::Call;
+use exos_random::Random;
 
 const SPELLINGS: [Spelling; 9] = [
     ("VIDEO:", Some("VIDEO"), None),

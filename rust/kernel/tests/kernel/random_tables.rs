@@ -3,8 +3,8 @@
 
 use crate::machine::Machine;
 use crate::plain_good::plain_good;
-use crate::random::Random;
 use exos_kernel::{decode, good, lend, Lent, Tables};
+use exos_random::Random;
 
 const KINDS: [u16; 16] = [
     256, 0, 1, 3, 6, 8, 19, 20, 21, 22, 23, 24, 25, 257, 258, 999,
