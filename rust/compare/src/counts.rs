@@ -1,9 +1,10 @@
 //! What was met: counts by kind and answer, and the edges.
 
-use crate::edges::{edges, EDGES};
+use crate::edges::{all_edges, edges, Edge};
 use crate::protocol::{Reply, Request};
 use exos_kernel::Tables;
 use exoslog::FORMS;
+use std::collections::BTreeMap;
 use std::fmt::{self, Display, Formatter};
 
 /// The answers 0 to 17.
@@ -70,7 +71,7 @@ pub struct Counts {
     pairs: [[u64; ANSWERS]; ROWS],
     /// A kind with an answer above 17, which no call may give.
     strange: u64,
-    edges: [u64; EDGES.len()],
+    edges: BTreeMap<Edge, u64>,
 }
 
 impl Counts {
@@ -79,7 +80,7 @@ impl Counts {
         Counts {
             pairs: [[0; ANSWERS]; ROWS],
             strange: 0,
-            edges: [0; EDGES.len()],
+            edges: BTreeMap::new(),
         }
     }
 
@@ -90,16 +91,18 @@ impl Counts {
             None => self.strange += 1,
         }
         edges(before, ram_length, request, reply, |edge| {
-            self.edges[edge as usize] += 1;
+            *self.edges.entry(edge).or_default() += 1;
         });
     }
 
     /// Adds the counts of another.
     pub fn join(&mut self, other: &Counts) {
-        for (mine, theirs) in self.pairs.iter_mut().zip(&other.pairs) {
-            add_all(mine, theirs);
+        let mine = self.pairs.as_flattened_mut().iter_mut();
+        mine.zip(other.pairs.as_flattened())
+            .for_each(|(mine, theirs)| *mine += theirs);
+        for (&edge, count) in &other.edges {
+            *self.edges.entry(edge).or_default() += count;
         }
-        add_all(&mut self.edges, &other.edges);
         self.strange += other.strange;
     }
 
@@ -123,38 +126,29 @@ impl Counts {
     }
 
     fn those(&self, is: impl Fn(usize, usize, u64) -> bool) -> Vec<String> {
-        let mut those = Vec::new();
-        for (row, counts) in self.pairs.iter().enumerate() {
-            for (answer, &count) in counts.iter().enumerate() {
-                if is(row, answer, count) {
-                    those.push(format!("{}: answer {answer}", name_of(row)));
-                }
-            }
-        }
-        those
+        let counts = self.pairs.as_flattened().iter().enumerate();
+        counts
+            .map(|(at, &count)| (at / ANSWERS, at % ANSWERS, count))
+            .filter(|&(row, answer, count)| is(row, answer, count))
+            .map(|(row, answer, _)| format!("{}: answer {answer}", name_of(row)))
+            .collect()
     }
 
-    /// The edges in words, each with its count.
-    pub fn edges(&self) -> impl Iterator<Item = (&'static str, u64)> + '_ {
-        EDGES.iter().copied().zip(self.edges.iter().copied())
+    /// The edges, each with its count.
+    pub fn edges(&self) -> impl Iterator<Item = (Edge, u64)> + '_ {
+        all_edges().map(|edge| (edge, self.edges.get(&edge).copied().unwrap_or(0)))
     }
 
     /// The edges that were not met.
-    pub fn unmet(&self) -> Vec<&'static str> {
+    pub fn unmet(&self) -> Vec<String> {
         let unmet = self.edges().filter(|edge| edge.1 == 0);
-        unmet.map(|edge| edge.0).collect()
+        unmet.map(|edge| edge.0.to_string()).collect()
     }
 }
 
 impl Default for Counts {
     fn default() -> Counts {
         Counts::new()
-    }
-}
-
-fn add_all(mine: &mut [u64], theirs: &[u64]) {
-    for (mine, theirs) in mine.iter_mut().zip(theirs) {
-        *mine += theirs;
     }
 }
 

@@ -3,15 +3,8 @@
 use crate::protocol::{
     digest, image_of, joined, power, ram_of, tables_of, Case, Reply, Request, UNTOUCHED,
 };
+use crate::quietly::quietly;
 use exos_kernel::{call, decode, Tables};
-use std::panic::{self, AssertUnwindSafe};
-
-/// What stands for the answer of a kernel that panicked: no call gives it.
-const PANICKED: exos_kernel::Reply = exos_kernel::Reply {
-    number: 255,
-    a: 0,
-    b: 0,
-};
 
 /// Tables and RAM on which requests are made in turn.
 pub struct Machine {
@@ -34,8 +27,9 @@ impl Machine {
         let mut output = vec![UNTOUCHED; usize::from(request.output)];
         let asked = decode(request.kind(), request.body());
         let (tables, ram) = (&mut self.tables, &mut self.ram.bytes);
-        let reply = panic::catch_unwind(AssertUnwindSafe(|| call(tables, ram, asked, &mut output)));
-        let reply = reply.unwrap_or(PANICKED);
+        let Some(reply) = quietly(|| call(tables, ram, asked, &mut output)) else {
+            return Reply::of_panic();
+        };
         Reply {
             number: u16::from(reply.number),
             a: u16::from(reply.a),

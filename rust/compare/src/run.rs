@@ -1,8 +1,9 @@
 //! Runs the cases of a seed through both sides, several at a time.
 
-use crate::cases::{played, Played};
+use crate::cases::played;
 use crate::counts::Counts;
 use crate::judge::Difference;
+use crate::player::Played;
 use crate::program::Answerer;
 use crate::protocol::Case;
 use crate::report::report;
@@ -147,7 +148,7 @@ mod tests {
     fn the_kernel_against_itself() {
         let run = Run {
             seed: 1,
-            first: 0,
+            first: 200,
             until: Until::Cases(60),
             pairs: 2,
         };

@@ -1,6 +1,6 @@
 //! The edges of open, close, read and write.
 
-use super::{Edge, Meeting};
+use super::{Edge, Meeting, LONGEST_CHAIN};
 use crate::view::further;
 use exos_kernel::{HEADING, ROWS_OF_CHANNELS, SEGMENT};
 
@@ -39,6 +39,9 @@ impl<Met: FnMut(Edge)> Meeting<'_, Met> {
         self.done(row == 0 && later > 1, Edge::CloseFirst);
         self.done(row > 0 && later > 0, Edge::CloseMiddle);
         self.done(later == 0, Edge::CloseLast);
+        self.done(is_last(row), Edge::CloseRow32);
+        let far = further(view.r(), view.t()) + 1 == LONGEST_CHAIN;
+        self.done(later > 0 && far, Edge::CloseFar);
         let t = view.t();
         let left = t - HEADING - usize::from(open[row].n);
         self.done(later > 0 && t > view.r(), Edge::CloseAcross);
@@ -54,10 +57,14 @@ impl<Met: FnMut(Edge)> Meeting<'_, Met> {
     }
 
     pub(super) fn read(&mut self, channel: u8, offset: usize, length: usize) {
-        let Some(found) = self.view.channel(channel) else {
+        let view = self.view;
+        let short = self.output < length;
+        self.both(6, &[(13, view.row_of(channel).is_none() && short)]);
+        let Some(row) = view.row_of(channel) else {
             return;
         };
-        let (n, end) = (usize::from(found.n), offset + length);
+        self.done(is_last(row), Edge::ReadRow32);
+        let (n, end) = (usize::from(view.channels()[row].n), offset + length);
         self.buffer(n, offset, length);
         self.done(end == n && length > 0, Edge::ReadEnd);
         self.answered(13, end == n + 1 && self.output >= length, Edge::ReadPast);
@@ -70,6 +77,7 @@ impl<Met: FnMut(Edge)> Meeting<'_, Met> {
         let Some(row) = view.row_of(channel) else {
             return;
         };
+        self.done(is_last(row), Edge::WriteRow32);
         let (n, end) = (usize::from(view.channels()[row].n), offset + length);
         self.buffer(n, offset, length);
         self.done(end == n && length > 0, Edge::WriteEnd);
@@ -78,7 +86,12 @@ impl<Met: FnMut(Edge)> Meeting<'_, Met> {
         let start: usize = before.map(|other| HEADING + usize::from(other.n)).sum();
         let first = start + HEADING + offset;
         let link = |position: usize| (position + SEGMENT - view.r()) / SEGMENT;
-        let across = length > 0 && link(first) < link(first + length - 1);
-        self.done(across, Edge::WriteAcross);
+        let last = link((first + length).saturating_sub(1));
+        self.done(length > 0 && link(first) < last, Edge::WriteAcross);
+        self.done(length > 0 && last + 1 == LONGEST_CHAIN, Edge::WriteFar);
     }
+}
+
+fn is_last(row: usize) -> bool {
+    row + 1 == ROWS_OF_CHANNELS
 }

@@ -1,18 +1,24 @@
 //! The edges of document 01, each on both sides: which of them a call met.
 
+mod both;
 mod channels;
 mod devices;
 mod names;
 mod reset;
 mod segments;
+mod sentences;
 mod user;
 mod words;
 
 use crate::protocol::{Reply, Request};
 use crate::view::View;
-use exos_kernel::{decode, good, Call, Tables, SEGMENT};
+use exos_kernel::{decode, good, Call, Tables, ROWS_OF_SEGMENTS, SEGMENT};
 
-pub use words::{Edge, EDGES};
+pub use sentences::ram_length_for;
+pub use words::{all_edges, Edge};
+
+/// The longest chain: every segment but the page zero segment.
+const LONGEST_CHAIN: usize = ROWS_OF_SEGMENTS - 1;
 
 /// A call, its answer, and where what it met is told.
 struct Meeting<'a, Met> {
@@ -51,6 +57,9 @@ pub fn edges(
     } else {
         meeting.answered(1, !usable && right_length, Edge::BadTables);
         meeting.answered(1, usable && !right_length, Edge::WrongRam);
+        let unknown = matches!(call, Call::Unknown { .. });
+        meeting.answered(1, !usable && unknown, Edge::BadTablesAndCall);
+        meeting.sentences(ram_length);
         if usable && right_length {
             meeting.call(call);
         }
@@ -76,16 +85,22 @@ impl<Met: FnMut(Edge)> Meeting<'_, Met> {
     }
 
     fn call(&mut self, call: Call) {
+        self.done(true, Edge::CallOn(self.view.0.segments));
         let chain = &self.view.0.chain[..usize::from(self.view.0.chain_length)];
+        self.done(chain.len() == LONGEST_CHAIN, Edge::ChainLongest);
         let falls = chain.windows(2).all(|pair| pair[0] > pair[1]);
         self.done(!falls, Edge::ChainNotFalling);
         match call {
             Call::Reset { flags } => self.reset(flags),
             Call::Open {
-                channel, n, name, ..
+                channel,
+                driver_status,
+                n,
+                name,
             } => {
                 self.open(channel, usize::from(n));
                 self.name(name);
+                self.both_of_open(channel, driver_status, usize::from(n), name);
             }
             Call::Close { channel } => self.close(channel),
             Call::Read {
@@ -100,7 +115,10 @@ impl<Met: FnMut(Edge)> Meeting<'_, Met> {
             } => self.write(channel, usize::from(offset), data.len()),
             Call::Default { name, .. } => self.default(name),
             Call::Status => self.status(),
-            Call::Link { m, name } => self.link(usize::from(m), name),
+            Call::Link { m, name } => {
+                self.link(usize::from(m), name);
+                self.both_of_link(usize::from(m), name);
+            }
             Call::SetUserBoundary { value } => self.set_user_boundary(usize::from(value)),
             Call::Allocate { caller } => self.allocate(caller),
             Call::Free { segment, .. } => self.free(segment),

@@ -9,8 +9,7 @@ impl<Met: FnMut(Edge)> Meeting<'_, Met> {
         let rising = list.windows(2).all(|pair| pair[0] < pair[1]) && list.last() == Some(&255);
         self.done(r == 256, Edge::StartLeastR);
         self.done(r == 16_128, Edge::StartMostR);
-        self.done(list.len() == 2, Edge::StartTwo);
-        self.done(list.len() == 32, Edge::StartMost);
+        self.done(true, Edge::StartOf(list.len() as u8));
         self.done(list.first() == Some(&8), Edge::StartEight);
         let room = (256..=16_128).contains(&r);
         let long = (2..=32).contains(&list.len());

@@ -25,12 +25,15 @@ impl<Met: FnMut(Edge)> Meeting<'_, Met> {
         let zero = view.boundary() == 0 && !view.is_shared();
         self.answered(10, caller == 0 && zero, Edge::ShareNothing);
         self.answered(10, caller == 1, Edge::DeviceNone);
+        let none = view.free() == 0 && (view.is_shared() || view.boundary() == 0);
+        self.both(24, &[(10, none)]);
     }
 
     pub(super) fn free(&mut self, segment: u8) {
-        let held = self.view.class(segment);
-        self.done(held == Some(class::SHARED), Edge::FreeShared);
-        self.answered(11, held == Some(class::NONE), Edge::FreePageZero);
-        self.answered(11, held.is_none(), Edge::FreeAbsent);
+        let class = self.view.class(segment);
+        self.done(class == Some(class::SHARED), Edge::FreeShared);
+        self.answered(11, class == Some(class::NONE), Edge::FreePageZero);
+        self.answered(11, class.is_none(), Edge::FreeAbsent);
+        self.both(25, &[(11, matches!(class, None | Some(class::NONE)))]);
     }
 }

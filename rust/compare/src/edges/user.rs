@@ -5,17 +5,20 @@ use exos_kernel::{class, SEGMENT};
 
 impl<Met: FnMut(Edge)> Meeting<'_, Met> {
     pub(super) fn store(&mut self, segment: u8, offset: usize, length: usize) {
-        let held = self.view.class(segment);
+        let class = self.view.class(segment);
         let reach = self.view.reach(segment).unwrap_or(0);
         let (end, some, whole) = (offset + length, length > 0, reach == SEGMENT);
-        let shared = held == Some(class::SHARED);
+        let shared = class == Some(class::SHARED);
         self.done(some && whole && end == reach, Edge::StoreEnd);
         self.answered(13, some && whole && end == reach + 1, Edge::StorePast);
         self.done(some && shared && end == reach, Edge::StoreShared);
         self.answered(13, shared && end == reach + 1, Edge::StoreSharedPast);
-        if held == Some(class::NONE) {
+        let page_zero = class == Some(class::NONE);
+        if page_zero {
             self.guard(offset, end);
         }
+        let guarded = page_zero && offset <= 0x5B && end > 0x5B;
+        self.both(257, &[(13, end > SEGMENT), (14, guarded)]);
     }
 
     fn guard(&mut self, offset: usize, end: usize) {
@@ -47,5 +50,6 @@ impl<Met: FnMut(Edge)> Meeting<'_, Met> {
         self.answered(13, shared && lent && end == reach + 1, Edge::LoadSharedPast);
         let short = end <= reach && self.output + 1 == length;
         self.answered(13, short, Edge::LoadShort);
+        self.both(258, &[(13, end > SEGMENT || !lent)]);
     }
 }

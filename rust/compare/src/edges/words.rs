@@ -1,31 +1,75 @@
 //! The edges of document 01 in words.
 
+use super::both::BOTH;
+use exos_kernel::ROWS_OF_SEGMENTS;
+use exos_sentences::{BROKEN, KEPT};
+use exoslog::form_of;
+use std::fmt::{self, Display, Formatter};
+
 macro_rules! name_edges {
     ($($edge:ident $name:literal)*) => {
         /// An edge that a call can meet.
-        #[derive(Clone, Copy, Debug, PartialEq, Eq)]
+        #[derive(Clone, Copy, Debug, PartialEq, Eq, PartialOrd, Ord)]
         pub enum Edge {
             $(#[doc = $name] $edge,)*
+            /// A start of so many segments, done.
+            StartOf(u8),
+            /// A call on tables of so many segments, done.
+            CallOn(u8),
+            /// A kind, a refusal that was given, and another that held too.
+            Both(u16, u16, u16),
+            /// A call on the tables of a row of [`KEPT`], done.
+            Kept(usize),
+            /// A call on the tables of a row of [`BROKEN`], answered TABLES.
+            Broken(usize),
         }
 
-        /// The edges in words.
-        pub const EDGES: &[&str] = &[$($name,)*];
+        const NAMED: &[Edge] = &[$(Edge::$edge,)*];
+
+        impl Display for Edge {
+            fn fmt(&self, to: &mut Formatter<'_>) -> fmt::Result {
+                match *self {
+                    $(Edge::$edge => to.write_str($name),)*
+                    Edge::StartOf(segments) => write!(to, "start: {segments} segments"),
+                    Edge::CallOn(segments) => write!(to, "a call on {segments} segments"),
+                    Edge::Both(kind, given, other) => {
+                        let words = form_of(kind).map_or("", |form| form.words);
+                        write!(to, "{words}: {given} and {other} at once: {given}")
+                    }
+                    Edge::Kept(row) => write!(to, "good: {}", KEPT[row].0),
+                    Edge::Broken(row) => write!(to, "not good: {}: 1", BROKEN[row].0),
+                }
+            }
+        }
     };
+}
+
+/// Every edge.
+pub fn all_edges() -> impl Iterator<Item = Edge> {
+    let segments = 2..=ROWS_OF_SEGMENTS as u8;
+    let both = BOTH.iter();
+    NAMED
+        .iter()
+        .copied()
+        .chain(segments.clone().map(Edge::StartOf))
+        .chain(segments.map(Edge::CallOn))
+        .chain(both.map(|&(kind, given, other)| Edge::Both(kind, given, other)))
+        .chain((0..KEPT.len()).map(Edge::Kept))
+        .chain((0..BROKEN.len()).map(Edge::Broken))
 }
 
 name_edges! {
     LongestRecord "a record of 65,535 bytes"
     LongestOutput "an output of 65,535 bytes"
     BadTables "tables not good, RAM length right: 1"
+    BadTablesAndCall "tables not good and kind unknown: 1"
     WrongRam "tables good, RAM length wrong: 1"
     StartOnBad "start over tables not good: done"
     StartLeastR "start: R 256"
     StartBelowR "start: R 255: 16"
     StartMostR "start: R 16,128"
     StartAboveR "start: R 16,129: 16"
-    StartTwo "start: 2 segments"
     StartOne "start: 1 segment: 16"
-    StartMost "start: 32 segments"
     StartMore "start: 33 segments: 16"
     StartEight "start: first segment 8"
     StartSeven "start: first segment 7: 16"
@@ -62,13 +106,18 @@ name_edges! {
     CloseFrees "close: a segment becomes free"
     CloseToUser "close: the shared segment becomes user"
     CloseShared "close: a segment stays shared"
+    CloseFar "close: later records move, some out of the chain's 31st segment"
+    CloseRow32 "close: the channel of the 32nd row"
     ReadEnd "read: to the buffer's end"
     ReadPast "read: one past it: 13"
     ReadExact "read: the output just long enough"
     ReadShort "read: the output one short: 13"
+    ReadRow32 "read: the channel of the 32nd row"
     WriteEnd "write: to the buffer's end"
     WritePast "write: one past it: 13"
     WriteAcross "write: over a segment's edge"
+    WriteFar "write: into the chain's 31st segment"
+    WriteRow32 "write: the channel of the 32nd row"
     NoBytesAtEnd "read or write of no bytes at the buffer's end"
     NoBytesPast "read or write of no bytes past it: 13"
     DefaultLongest "default: 28 letters"
@@ -99,6 +148,7 @@ name_edges! {
     FreeShared "free: the shared segment"
     FreePageZero "free: the page zero segment: 11"
     FreeAbsent "free: a segment not in the list: 11"
+    ChainLongest "a chain of 31 segments"
     ChainNotFalling "a chain that does not fall in segment number"
     StoreEnd "store: up to 16,384"
     StorePast "store: up to 16,385: 13"

@@ -106,7 +106,27 @@ pub struct Reply {
     pub output: u64,
 }
 
+/// What stands for the answer of a kernel that panicked: no call gives it.
+const PANICKED: u16 = 255;
+
 impl Reply {
+    /// What stands for the reply of a kernel that panicked.
+    pub fn of_panic() -> Reply {
+        Reply {
+            number: PANICKED,
+            a: 0,
+            b: 0,
+            image: 0,
+            ram: 0,
+            output: 0,
+        }
+    }
+
+    /// Whether this stands for the reply of a kernel that panicked.
+    pub fn panicked(&self) -> bool {
+        self.number == PANICKED
+    }
+
     /// The reply that was sent as these bytes.
     pub fn from_bytes(bytes: &[u8; REPLY]) -> Reply {
         let number = |at: usize, length: usize| {

@@ -7,6 +7,9 @@ use exos_kernel::{HEADING, SEGMENT};
 
 impl Steer<'_> {
     pub(super) fn open(&mut self) -> Request {
+        if self.random.one_in(16) {
+            return self.refused_open();
+        }
         let channel = self.channel_to_open();
         let status = if self.random.one_in(25) {
             usize::from(self.random.byte())
@@ -16,6 +19,16 @@ impl Steer<'_> {
         let n = self.buffer_length();
         let name = self.name();
         self.made(1, &[channel, status, n], &name)
+    }
+
+    /// An open that may be refused for several reasons at once.
+    fn refused_open(&mut self) -> Request {
+        let channels = [255, self.open_channel(), self.channel_to_open()];
+        let channel = self.random.pick(&channels);
+        let status = self.random.pick(&[0, 9]);
+        let n = self.random.pick(&[0, 65_535]);
+        let name = self.random.pick(&[&b"VIDEO:"[..], b"NONE:", b" :"]);
+        self.made(1, &[channel, status, n], name)
     }
 
     fn channel_to_open(&mut self) -> usize {
@@ -32,16 +45,20 @@ impl Steer<'_> {
     /// Mostly a channel that is open.
     fn open_channel(&mut self) -> usize {
         let open = self.view().channels();
-        match self.random.below(20) {
-            0 => 255,
-            1 => usize::from(self.random.byte()),
-            _ if open.is_empty() => self.random.below(255),
+        let last = if self.mood == Mood::Line { 12 } else { 6 };
+        match (self.random.below(20), open) {
+            (0, _) => 255,
+            (1, _) => usize::from(self.random.byte()),
+            (_, []) => self.random.below(255),
+            (few, [.., channel]) if few < last => usize::from(channel.number),
             _ => usize::from(self.random.pick(open).number),
         }
     }
 
     fn buffer_length(&mut self) -> usize {
         let (short, edge) = match self.mood {
+            Mood::Line if !self.random.one_in(4) => return self.longest(),
+            Mood::Rows => (20, 20),
             Mood::Channels => (15, 17),
             Mood::Room => (3, 15),
             _ => (6, 12),
@@ -59,6 +76,12 @@ impl Steer<'_> {
                 self.random.below(left / 4 + 1).min(20_000)
             }
         }
+    }
+
+    /// The longest n that there is room for.
+    fn longest(&mut self) -> usize {
+        let (view, most) = (self.view(), usize::from(u16::MAX));
+        most.min(view.limit().saturating_sub(view.t() + HEADING))
     }
 
     /// An n with which T comes to the room's limit, to R or to a segment's end.

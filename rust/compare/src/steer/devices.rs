@@ -15,6 +15,9 @@ impl Steer<'_> {
     }
 
     pub(super) fn link(&mut self) -> Request {
+        if self.random.one_in(16) {
+            return self.refused_link();
+        }
         let (view, least) = (self.view(), usize::from(LEAST_R));
         let left = view.r() - least;
         let m = match self.random.below(20) {
@@ -27,5 +30,12 @@ impl Steer<'_> {
         };
         let name = self.device_name();
         self.made(21, &[m.min(usize::from(u16::MAX))], &name)
+    }
+
+    /// A link that may be refused for several reasons at once.
+    fn refused_link(&mut self) -> Request {
+        let m = self.random.pick(&[0, 65_535]);
+        let name = self.random.pick(&[&b""[..], b"A"]);
+        self.made(21, &[m], name)
     }
 }

@@ -12,7 +12,7 @@ mod user;
 
 use crate::protocol::Request;
 use crate::view::View;
-use exos_kernel::{class, Tables, HEADING};
+use exos_kernel::{class, Tables, HEADING, ROWS_OF_CHANNELS};
 use exos_random::Random;
 use exoslog::{form_of, Field};
 use mood::UNKNOWN;
@@ -65,8 +65,10 @@ impl<'a> Steer<'a> {
         let none_left = view.free() == 0 && (view.is_shared() || view.boundary() == 0);
         let fitting = match kind {
             3 | 6 | 8 if none_open => 1,
+            3 if self.mood == Mood::Line && !is_full => 1,
             1 if is_full && view.is_shared() => self.random.pick(&[3, 23, 25]),
             1 if is_full => 3,
+            1 if view.channels().len() == ROWS_OF_CHANNELS => self.random.pick(&[1, 3, 6, 8]),
             23 if !view.is_shared() => 24,
             25 if none_held => 24,
             24 if none_left => 25,

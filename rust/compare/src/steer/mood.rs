@@ -15,15 +15,21 @@ pub enum Mood {
     Segments,
     /// Devices that come.
     Devices,
+    /// Buffers as long as there is room for.
+    Line,
+    /// As many channels as there are rows.
+    Rows,
 }
 
 /// Every mood.
-pub const MOODS: [Mood; 5] = [
+pub const MOODS: [Mood; 7] = [
     Mood::Mixed,
     Mood::Channels,
     Mood::Room,
     Mood::Segments,
     Mood::Devices,
+    Mood::Line,
+    Mood::Rows,
 ];
 
 /// An unknown kind, in the place of a known one.
@@ -38,6 +44,8 @@ impl Mood {
             Mood::Room => [0, 3, 60, 36, 16, 20, 3, 3, 14, 8, 8, 14, 16, 8, 6, 1],
             Mood::Segments => [1, 9, 34, 22, 8, 10, 3, 8, 8, 8, 34, 50, 24, 30, 20, 1],
             Mood::Devices => [0, 3, 40, 14, 14, 14, 14, 3, 60, 6, 6, 10, 8, 6, 6, 1],
+            Mood::Line => [0, 1, 60, 16, 20, 30, 2, 2, 16, 4, 1, 0, 0, 4, 4, 1],
+            Mood::Rows => [0, 0, 120, 6, 30, 30, 4, 2, 6, 2, 2, 4, 4, 6, 6, 1],
         };
         let mut kinds = [(UNKNOWN, 0); 16];
         for (row, weight) in weights.into_iter().enumerate() {

@@ -1,0 +1,125 @@
+//! What a case is about, by its number.
+
+use crate::steer::{Mood, MOODS};
+use exos_kernel::ROWS_OF_SEGMENTS;
+use exos_random::Random;
+use exos_sentences::{Change, BROKEN, KEPT};
+
+/// What a case is about.
+#[derive(Clone, Copy)]
+pub enum Plan {
+    /// Every kind of call on tables that keep or break one sentence.
+    Sentence(&'static Change),
+    /// A log of so many segments, whose line comes to fill them.
+    LongLine(usize),
+    /// A log that comes to use every row of channels.
+    ManyChannels,
+    /// A log about anything.
+    Log,
+    /// A log with damaged records.
+    DamagedLog,
+    /// A few calls on tables that may not be good.
+    DamagedTables,
+    /// A few calls with RAM of a wrong length.
+    WrongLength,
+}
+
+/// What the case of a number is about: first each sentence; then, of a hundred
+/// cases, most are damaged tables, which take few calls each, so that most
+/// calls are those of logs.
+pub fn plan(number: u64) -> Plan {
+    let mut sentences = BROKEN.iter().chain(KEPT);
+    if let Some(change) = sentences.nth(number as usize) {
+        return Plan::Sentence(change);
+    }
+    match number % 100 {
+        0 => Plan::LongLine(some_segments(number)),
+        1 => Plan::ManyChannels,
+        2..=11 => Plan::Log,
+        12..=14 => Plan::DamagedLog,
+        15..=84 => Plan::DamagedTables,
+        _ => Plan::WrongLength,
+    }
+}
+
+/// Each of 2 to 32 once in 31 numbers, hundreds too.
+fn some_segments(number: u64) -> usize {
+    2 + number as usize % (ROWS_OF_SEGMENTS - 1)
+}
+
+impl Plan {
+    /// What its calls are mostly about.
+    pub fn mood(self, random: &mut Random) -> Mood {
+        match self {
+            Plan::LongLine(_) => Mood::Line,
+            Plan::ManyChannels => Mood::Rows,
+            _ => random.pick(&MOODS),
+        }
+    }
+
+    /// How many segments: mostly few, since every byte of them is compared
+    /// after every call.
+    pub fn segments(self, random: &mut Random) -> usize {
+        match (self, random.below(40)) {
+            (Plan::LongLine(segments), _) => segments,
+            (Plan::Log | Plan::DamagedLog, 0..=4) => 2 + random.below(7),
+            (_, 0) => ROWS_OF_SEGMENTS,
+            _ => 2 + random.below(3),
+        }
+    }
+
+    /// How many calls come before the tables are damaged.
+    pub fn calls_before(self, random: &mut Random) -> usize {
+        match self {
+            Plan::DamagedTables => random.below(50),
+            _ => 0,
+        }
+    }
+
+    /// How many calls.
+    pub fn calls(self, random: &mut Random) -> usize {
+        match self {
+            Plan::LongLine(_) => 50 + random.below(30),
+            Plan::Log | Plan::DamagedLog | Plan::ManyChannels => 60 + random.below(140),
+            _ => 1 + random.below(4),
+        }
+    }
+
+    /// One call in how many is damaged.
+    pub fn damaged_one_in(self) -> usize {
+        match self {
+            Plan::DamagedLog => 4,
+            _ => 60,
+        }
+    }
+
+    /// One call in how many is a start, beside those of the mood.
+    pub fn start_one_in(self) -> usize {
+        match self {
+            Plan::DamagedTables | Plan::WrongLength => 6,
+            _ => 1_000,
+        }
+    }
+}
+
+#[cfg(test)]
+mod tests {
+    use super::*;
+    use std::collections::BTreeSet;
+
+    #[test]
+    fn every_number_of_segments_comes_within_31_hundreds() {
+        let segments: BTreeSet<_> = (10..41)
+            .map(|hundred| some_segments(100 * hundred))
+            .collect();
+        assert_eq!(segments, (2..=32).collect());
+    }
+
+    #[test]
+    fn the_sentences_come_first() {
+        let count = BROKEN.len() + KEPT.len();
+        let is_sentence = |number: &usize| matches!(plan(*number as u64), Plan::Sentence(_));
+        assert!((0..count).all(|number| is_sentence(&number)));
+        assert!(!(count..count + 1_000).any(|number| is_sentence(&number)));
+    }
+}
