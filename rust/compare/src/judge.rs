@@ -17,7 +17,8 @@ pub struct Difference {
 }
 
 impl Difference {
-    /// The first difference between the replies to as many requests.
+    /// The first difference between the replies to as many requests. A kernel
+    /// that panicked differs from whatever the program replied.
     pub fn first(kernel: &[Reply], program: &[Reply]) -> Option<Difference> {
         kernel
             .iter()
@@ -27,7 +28,7 @@ impl Difference {
                 kernel: reply,
                 program: program.get(request).copied(),
             })
-            .find(|row| row.program != Some(row.kernel))
+            .find(|row| row.kernel.panicked() || row.program != Some(row.kernel))
     }
 
     /// Runs both sides on a case.
@@ -38,6 +39,9 @@ impl Difference {
 
     /// What differs, in words.
     pub fn fields(&self) -> Vec<&'static str> {
+        if self.kernel.panicked() {
+            return vec!["the kernel panicked"];
+        }
         let Some(program) = self.program else {
             return vec!["the program ended without a reply"];
         };
@@ -91,6 +95,14 @@ mod tests {
             let found = Difference::first(&[REPLY], &[other]).unwrap();
             assert_eq!(found.fields(), [field]);
         }
+    }
+
+    #[test]
+    fn a_panic_differs_from_any_reply() {
+        let panic = Reply::of_panic();
+        let found = Difference::first(&[REPLY, panic], &[REPLY, panic]).unwrap();
+        assert_eq!(found.request, 1);
+        assert_eq!(found.fields(), ["the kernel panicked"]);
     }
 
     #[test]

@@ -69,6 +69,9 @@ fn runs(image: &Image) -> String {
 }
 
 fn answer(reply: &Reply) -> String {
+    if reply.panicked() {
+        return "the kernel panicked".to_string();
+    }
     format!("{} {} {}", reply.number, reply.a, reply.b)
 }
 
