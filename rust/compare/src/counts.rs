@@ -3,7 +3,7 @@
 use crate::edges::{all_edges, edges, Edge};
 use crate::protocol::{Reply, Request};
 use exos_kernel::Tables;
-use exoslog::FORMS;
+use exoslog::{counted, FORMS};
 use std::collections::BTreeMap;
 use std::fmt::{self, Display, Formatter};
 
@@ -120,7 +120,8 @@ impl Counts {
     pub fn forbidden(&self) -> Vec<String> {
         let mut those = self.those(|row, answer, count| !allows(row, answer) && count > 0);
         if self.strange > 0 {
-            those.push(format!("{} answers above 17", self.strange));
+            let answers = counted(self.strange as usize, "answer");
+            those.push(format!("{answers} above 17"));
         }
         those
     }
@@ -202,7 +203,7 @@ mod tests {
         counts.add(&Tables::default(), 0, &request, &reply(18));
         assert_eq!(
             counts.forbidden(),
-            ["256 start: answer 1", "1 answers above 17"]
+            ["256 start: answer 1", "1 answer above 17"]
         );
     }
 

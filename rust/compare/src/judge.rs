@@ -1,7 +1,7 @@
 //! Where two sides differ in their replies to a case.
 
 use crate::machine;
-use crate::program::Answerer;
+use crate::program::{Answerer, Replies, Stop};
 use crate::protocol::{Case, Reply};
 use std::io;
 
@@ -12,23 +12,23 @@ pub struct Difference {
     pub request: usize,
     /// The independent kernel's reply.
     pub kernel: Reply,
-    /// The program's reply; none if it ended without one.
-    pub program: Option<Reply>,
+    /// The program's reply, or why there is none.
+    pub program: Result<Reply, Stop>,
 }
 
 impl Difference {
     /// The first difference between the replies to as many requests. A kernel
     /// that panicked differs from whatever the program replied.
-    pub fn first(kernel: &[Reply], program: &[Reply]) -> Option<Difference> {
+    pub fn first(kernel: &[Reply], program: &Replies) -> Option<Difference> {
         kernel
             .iter()
             .enumerate()
             .map(|(request, &reply)| Difference {
                 request,
                 kernel: reply,
-                program: program.get(request).copied(),
+                program: program.given.get(request).copied().ok_or(program.stop),
             })
-            .find(|row| row.kernel.panicked() || row.program != Some(row.kernel))
+            .find(|row| row.kernel.panicked() || row.program != Ok(row.kernel))
     }
 
     /// Runs both sides on a case.
@@ -38,14 +38,15 @@ impl Difference {
     }
 
     /// What differs, in words.
-    pub fn fields(&self) -> Vec<&'static str> {
-        if self.kernel.panicked() {
-            return vec!["the kernel panicked"];
-        }
-        let Some(program) = self.program else {
-            return vec!["the program ended without a reply"];
-        };
+    pub fn fields(&self) -> Vec<String> {
         let kernel = self.kernel;
+        if kernel.panicked() {
+            return vec!["the kernel panicked".to_string()];
+        }
+        let program = match self.program {
+            Ok(program) => program,
+            Err(stop) => return vec![stop.to_string()],
+        };
         [
             (kernel.number == program.number, "answer"),
             (kernel.a == program.a, "a"),
@@ -56,7 +57,7 @@ impl Difference {
         ]
         .into_iter()
         .filter(|field| !field.0)
-        .map(|field| field.1)
+        .map(|field| field.1.to_string())
         .collect()
     }
 }
@@ -74,6 +75,14 @@ mod tests {
         output: 5,
     };
 
+    fn first(kernel: &[Reply], program: &[Reply]) -> Option<Difference> {
+        let replies = Replies {
+            given: program.to_vec(),
+            stop: Stop::Ended,
+        };
+        Difference::first(kernel, &replies)
+    }
+
     #[test]
     fn the_first_difference_and_its_fields() {
         let other = Reply {
@@ -81,8 +90,8 @@ mod tests {
             ram: 0,
             ..REPLY
         };
-        assert_eq!(Difference::first(&[REPLY; 3], &[REPLY; 3]), None);
-        let found = Difference::first(&[REPLY; 3], &[REPLY, other, other]).unwrap();
+        assert_eq!(first(&[REPLY; 3], &[REPLY; 3]), None);
+        let found = first(&[REPLY; 3], &[REPLY, other, other]).unwrap();
         assert_eq!(found.request, 1);
         assert_eq!(found.fields(), ["answer", "RAM"]);
         let each = [
@@ -92,7 +101,7 @@ mod tests {
             (Reply { output: 7, ..REPLY }, "output"),
         ];
         for (other, field) in each {
-            let found = Difference::first(&[REPLY], &[other]).unwrap();
+            let found = first(&[REPLY], &[other]).unwrap();
             assert_eq!(found.fields(), [field]);
         }
     }
@@ -100,14 +109,14 @@ mod tests {
     #[test]
     fn a_panic_differs_from_any_reply() {
         let panic = Reply::of_panic();
-        let found = Difference::first(&[REPLY, panic], &[REPLY, panic]).unwrap();
+        let found = first(&[REPLY, panic], &[REPLY, panic]).unwrap();
         assert_eq!(found.request, 1);
         assert_eq!(found.fields(), ["the kernel panicked"]);
     }
 
     #[test]
     fn a_reply_that_is_not_there_differs() {
-        let found = Difference::first(&[REPLY; 2], &[REPLY]).unwrap();
-        assert_eq!((found.request, found.program), (1, None));
+        let found = first(&[REPLY; 2], &[REPLY]).unwrap();
+        assert_eq!((found.request, found.program), (1, Err(Stop::Ended)));
     }
 }

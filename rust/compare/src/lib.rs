@@ -16,6 +16,7 @@ pub mod protocol;
 mod quietly;
 pub mod report;
 pub mod run;
+pub mod settings;
 pub mod shrink;
 mod steer;
 mod view;

@@ -4,34 +4,63 @@
 use crate::protocol::{Case, Reply, REPLY};
 use std::env;
 use std::ffi::OsStr;
-use std::io::{self, ErrorKind, Read, Write};
+use std::fmt::{self, Display, Formatter};
+use std::io::{self, BufReader, ErrorKind, Read, Write};
 use std::path::{Path, PathBuf};
 use std::process::{Child, ChildStdin, ChildStdout, Command, Stdio};
+use std::sync::mpsc::{self, Receiver, RecvTimeoutError, Sender};
+use std::thread;
+use std::time::Duration;
+
+/// How long the program may take for one reply.
+const LIMIT: Duration = Duration::from_secs(30);
 
 /// One side of the comparison.
 pub trait Answerer {
-    /// The replies to a case, in order: fewer than requests where this side
-    /// ended before it had answered all.
-    fn replies(&mut self, case: &Case) -> io::Result<Vec<Reply>>;
+    /// The replies to a case.
+    fn replies(&mut self, case: &Case) -> io::Result<Replies>;
+}
+
+/// The replies of a side to a case.
+pub struct Replies {
+    /// In order: fewer than requests where the side stopped.
+    pub given: Vec<Reply>,
+    /// Why it stopped, if it did.
+    pub stop: Stop,
+}
+
+/// Why a side gives no more replies.
+#[derive(Clone, Copy, Debug, PartialEq, Eq)]
+pub enum Stop {
+    /// It ended.
+    Ended,
+    /// It took longer than this.
+    Late(Duration),
+}
+
+impl Display for Stop {
+    fn fmt(&self, to: &mut Formatter<'_>) -> fmt::Result {
+        match self {
+            Stop::Ended => to.write_str("the program ended without a reply"),
+            Stop::Late(limit) => write!(to, "no reply in {} s", limit.as_secs_f32()),
+        }
+    }
 }
 
 /// The other side as a function.
 impl<F: FnMut(&Case) -> Vec<Reply>> Answerer for F {
-    fn replies(&mut self, case: &Case) -> io::Result<Vec<Reply>> {
-        Ok(self(case))
+    fn replies(&mut self, case: &Case) -> io::Result<Replies> {
+        Ok(Replies {
+            given: self(case),
+            stop: Stop::Ended,
+        })
     }
 }
 
-/// The program, started anew where it has ended.
+/// The program, started anew where it has stopped.
 pub struct Program {
     path: PathBuf,
     running: Option<Running>,
-}
-
-struct Running {
-    child: Child,
-    to: ChildStdin,
-    from: ChildStdout,
 }
 
 impl Program {
@@ -46,49 +75,84 @@ impl Program {
     fn running(&mut self) -> io::Result<&mut Running> {
         let running = match self.running.take() {
             Some(running) => running,
-            None => Running::start(&mut command(&self.path)?)?,
+            None => Running::start(&mut command(&self.path)?, LIMIT)?,
         };
         Ok(self.running.insert(running))
     }
 }
 
 impl Answerer for Program {
-    fn replies(&mut self, case: &Case) -> io::Result<Vec<Reply>> {
-        let replies = self.running()?.replies(case)?;
-        if replies.len() < case.requests.len() {
+    fn replies(&mut self, case: &Case) -> io::Result<Replies> {
+        let replies = self.running()?.replies(case);
+        if replies.given.len() < case.requests.len() {
             self.running = None;
         }
         Ok(replies)
     }
 }
 
+/// A started program. Two threads write and read, so that it can keep neither
+/// of the two waiting for the other, nor for ever.
+struct Running {
+    child: Child,
+    to: Sender<Vec<u8>>,
+    from: Receiver<Reply>,
+    limit: Duration,
+}
+
 impl Running {
-    fn start(command: &mut Command) -> io::Result<Running> {
+    fn start(command: &mut Command, limit: Duration) -> io::Result<Running> {
         let mut child = command
             .stdin(Stdio::piped())
             .stdout(Stdio::piped())
             .spawn()?;
-        let (to, from) = child.stdin.take().zip(child.stdout.take()).expect("piped");
-        Ok(Running { child, to, from })
+        let (input, output) = child.stdin.take().zip(child.stdout.take()).expect("piped");
+        let (to, streams) = mpsc::channel();
+        let (replies, from) = mpsc::channel();
+        thread::spawn(move || write_streams(input, streams));
+        thread::spawn(move || read_replies(output, replies));
+        Ok(Running {
+            child,
+            to,
+            from,
+            limit,
+        })
     }
 
-    /// Sends the whole case and then reads. A case has few requests, so that
-    /// all its replies fit into a pipe and neither side waits for the other.
-    fn replies(&mut self, case: &Case) -> io::Result<Vec<Reply>> {
-        match self.to.write_all(&case.to_stream()) {
-            Err(error) if error.kind() != ErrorKind::BrokenPipe => return Err(error),
-            _ => {}
-        }
-        let mut replies = Vec::with_capacity(case.requests.len());
-        let mut bytes = [0; REPLY];
-        while replies.len() < case.requests.len() {
-            match self.from.read_exact(&mut bytes) {
-                Ok(()) => replies.push(Reply::from_bytes(&bytes)),
-                Err(error) if error.kind() == ErrorKind::UnexpectedEof => break,
-                Err(error) => return Err(error),
+    fn replies(&mut self, case: &Case) -> Replies {
+        // where the program has ended, the replies show it
+        let _ = self.to.send(case.to_stream());
+        let mut given = Vec::with_capacity(case.requests.len());
+        let mut stop = Stop::Ended;
+        while given.len() < case.requests.len() {
+            match self.from.recv_timeout(self.limit) {
+                Ok(reply) => given.push(reply),
+                Err(RecvTimeoutError::Disconnected) => break,
+                Err(RecvTimeoutError::Timeout) => {
+                    stop = Stop::Late(self.limit);
+                    break;
+                }
             }
         }
-        Ok(replies)
+        Replies { given, stop }
+    }
+}
+
+/// Writes until the program ends or no more streams come.
+fn write_streams(mut input: ChildStdin, streams: Receiver<Vec<u8>>) {
+    let _ = streams
+        .into_iter()
+        .try_for_each(|stream| input.write_all(&stream));
+}
+
+/// Reads until the program ends or nobody asks for replies.
+fn read_replies(output: ChildStdout, replies: Sender<Reply>) {
+    let mut output = BufReader::new(output);
+    let mut bytes = [0; REPLY];
+    while output.read_exact(&mut bytes).is_ok() {
+        if replies.send(Reply::from_bytes(&bytes)).is_err() {
+            return;
+        }
     }
 }
 
@@ -169,8 +233,8 @@ mod tests {
             seed: 2,
             requests: vec![Request::new(3, 22, &[4]); 20],
         };
-        let mut echo = Running::start(&mut Command::new("cat")).unwrap();
-        let replies = echo.replies(&case).unwrap();
+        let mut echo = Running::start(&mut Command::new("cat"), LIMIT).unwrap();
+        let replies = echo.replies(&case).given;
         let sent = case.to_stream();
         let parts = sent.chunks_exact(REPLY).take(20);
         let expected: Vec<_> = parts
@@ -179,10 +243,32 @@ mod tests {
         assert_eq!(replies, expected);
     }
 
+    /// What a command replies to a case within a fifth of a second.
+    fn stopped(command: &mut Command) -> (Vec<Reply>, Stop) {
+        let limit = Duration::from_millis(200);
+        let mut running = Running::start(command, limit).unwrap();
+        let replies = running.replies(&played(1, 200).case);
+        (replies.given, replies.stop)
+    }
+
     #[test]
     fn a_program_that_ends_gives_no_reply() {
-        let mut ends = Running::start(&mut Command::new("true")).unwrap();
-        assert_eq!(ends.replies(&played(1, 0).case).unwrap(), []);
+        assert_eq!(stopped(&mut Command::new("true")), (vec![], Stop::Ended));
+    }
+
+    #[test]
+    fn a_program_that_reads_and_never_replies_is_late() {
+        let mut script = Command::new("sh");
+        let (given, stop) = stopped(script.args(["-c", "cat >/dev/null"]));
+        assert_eq!(given, []);
+        assert_eq!(stop.to_string(), "no reply in 0.2 s");
+    }
+
+    #[test]
+    fn a_program_that_does_not_even_read_is_late() {
+        let (given, stop) = stopped(Command::new("sleep").arg("60"));
+        assert_eq!(given, []);
+        assert_eq!(stop.to_string(), "no reply in 0.2 s");
     }
 
     #[test]

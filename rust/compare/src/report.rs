@@ -3,23 +3,24 @@
 use crate::judge::Difference;
 use crate::machine::Machine;
 use crate::protocol::{tables_of, Case, Image, Reply, Request, IMAGE};
-use exos_kernel::{good, Channel, Device, Tables};
+use exos_kernel::{good, Channel, Device, Tables, SEGMENT};
 use exoslog::{hex, quoted, Class, Record, LONGEST};
 use std::fmt::Write;
 
-/// What a report says of itself.
-const HEAD: &str = "# a log in words: paste it into a file for exoslog encode, and replay that by \
-exos-listing, which lends at most four segments\n";
+/// The most segments that the listing program lends.
+const MOST_LISTED: usize = 4;
 
 /// The records in 01's words, up to the one that differs. All else is comment:
 /// the tables and RAM to begin with, the answers of both sides, what differs.
-/// So `exoslog encode` reads the report back to the records, and `exos-listing`
-/// replays them, from no tables and with the RAM and output that it lends.
+/// So `exoslog encode` reads the report back to the records.
 pub fn report(case: &Case, found: &Difference) -> String {
-    let mut text = format!(
-        "{HEAD}# RAM: {} bytes, seed {}\n",
-        case.ram_length, case.seed
-    );
+    let advice = if is_listed(case) {
+        ": paste it into a file for exoslog encode, and replay that by exos-listing"
+    } else {
+        ""
+    };
+    let (length, seed) = (case.ram_length, case.seed);
+    let mut text = format!("# a log in words{advice}\n# RAM: {length} bytes, seed {seed}\n");
     let mut machine = Machine::of(case);
     let mut before = machine.tables.clone();
     text += &start_state(&case.image);
@@ -29,11 +30,22 @@ pub fn report(case: &Case, found: &Difference) -> String {
         let (row, said, lent) = (row + 1, words(request), request.output);
         let _ = writeln!(text, "{said} # {row}, output of {lent}: {answered}");
     }
-    let program = found.program.as_ref().map_or("nothing".into(), answer);
+    let program = found
+        .program
+        .map_or("nothing".into(), |reply| answer(&reply));
     let _ = writeln!(text, "# the program: {program}");
     let _ = writeln!(text, "# differs: {}", found.fields().join(", "));
     text += &tables_in_words("the kernel's tables before that call", &before);
     text + &tables_in_words("the kernel's tables after it", &machine.tables)
+}
+
+/// Whether the listing program begins as the case does: from no tables, with
+/// the RAM that each start asks for.
+fn is_listed(case: &Case) -> bool {
+    let starts = case.requests.iter().filter(|call| call.kind() == 256);
+    let mut segments = starts.map(|start| start.body().len().saturating_sub(2));
+    let fits = |count: usize| case.ram_length as usize == SEGMENT * count;
+    case.image == [0; IMAGE] && segments.all(|count| count <= MOST_LISTED && fits(count))
 }
 
 /// A request's record in the words that `exoslog encode` reads, or a comment
@@ -142,6 +154,7 @@ fn name_words(name: &[u8], length: u8) -> String {
 mod tests {
     use super::*;
     use crate::machine::replies;
+    use crate::program::{Replies, Stop};
     use exoslog::{encode, records};
 
     /// The report of a case whose last reply has another answer and RAM.
@@ -157,6 +170,10 @@ mod tests {
         let last = program.last_mut().unwrap();
         last.number = 9;
         last.ram += 1;
+        let program = Replies {
+            given: program,
+            stop: Stop::Ended,
+        };
         report(&case, &Difference::first(&kernel, &program).unwrap())
     }
 
@@ -173,6 +190,7 @@ mod tests {
         check(
             &told([0; IMAGE], vec![start, open]),
             &[
+                "# a log in words: paste it into a file for exoslog encode, and replay that by exos-listing\n",
                 "# tables to begin with: all zero\n",
                 "\nstart 256 8 255 # 1, output of 0: 0 2 256\n",
                 "\nopen 5 0 100 \"net7:\" # 2, output of 0: 0 1 7\n",
@@ -186,6 +204,16 @@ mod tests {
     }
 
     #[test]
+    fn the_listing_is_advised_where_its_ram_fits() {
+        let advises = |list: &[u8]| {
+            let start = Request::new(0, 256, &[&[0, 1], list].concat());
+            told([0; IMAGE], vec![start]).contains("exos-listing")
+        };
+        assert!(advises(&[8, 255]));
+        assert!(!advises(&[8, 9, 255]));
+    }
+
+    #[test]
     fn tables_to_begin_with() {
         let mut image = [0; IMAGE];
         image[..3].copy_from_slice(&[2, 8, 255]);
@@ -193,6 +221,7 @@ mod tests {
         check(
             &told(image, vec![Request::new(0, 22, &[])]),
             &[
+                "# a log in words\n",
                 "# tables to begin with (not good):\n",
                 "#   segments: 2: 8 class 9, 255 free\n",
                 "#   image, but for zeros: 0: 0208ff, 33: 0901\n",

@@ -4,10 +4,11 @@ use crate::cases::played;
 use crate::counts::Counts;
 use crate::judge::Difference;
 use crate::player::Played;
-use crate::program::Answerer;
+use crate::program::{Answerer, Stop};
 use crate::protocol::Case;
 use crate::report::report;
 use crate::shrink::shrink;
+use exoslog::counted;
 use std::io;
 use std::sync::atomic::{AtomicBool, AtomicU64, Ordering};
 use std::thread;
@@ -50,6 +51,16 @@ struct Shared<'a> {
 }
 
 impl Run {
+    /// What the gate runs.
+    pub fn fixed_set() -> Run {
+        Run {
+            seed: 1,
+            first: 0,
+            until: Until::Cases(5_000),
+            pairs: 2,
+        }
+    }
+
     /// Runs the cases. `program` makes the other side for each pair; `told`
     /// hears the number of calls after each case.
     pub fn compare<A: Answerer>(
@@ -99,12 +110,17 @@ impl Shared<'_> {
                 replies,
                 counts,
             } = played(self.run.seed, number);
-            if Difference::first(&replies, &program.replies(&case)?).is_some() {
+            if let Some(found) = Difference::first(&replies, &program.replies(&case)?) {
                 self.ended.store(true, Ordering::Relaxed);
                 let seed = self.run.seed;
-                let again =
-                    format!("exos-compare --seed {seed} --first {number} --calls 1 --pairs 1");
-                return Ok(Outcome::Differs(shrunk(&again, program, case)?));
+                let again = format!(
+                    "# found again by exos-compare --seed {seed} --first {number} --calls 1 --pairs 1"
+                );
+                let told = match found.program {
+                    Err(Stop::Late(_)) => not_shrunk(case, &found),
+                    _ => shrunk(program, case)?,
+                };
+                return Ok(Outcome::Differs(format!("{again}\n{told}")));
             }
             all.join(&counts);
             let calls = counts.calls();
@@ -114,10 +130,16 @@ impl Shared<'_> {
     }
 }
 
-/// The least case that shows a difference, as a log in words. `again` is the
-/// command that finds it again.
-fn shrunk(again: &str, program: &mut dyn Answerer, case: Case) -> io::Result<String> {
-    let before = case.requests.len();
+/// A case to which no reply came in time, up to that request. It is not
+/// shrunk: each attempt would wait as long.
+fn not_shrunk(mut case: Case, found: &Difference) -> String {
+    case.requests.truncate(found.request + 1);
+    format!("# a difference, not shrunk\n{}", report(&case, found))
+}
+
+/// The least case that shows a difference, as a log in words.
+fn shrunk(program: &mut dyn Answerer, case: Case) -> io::Result<String> {
+    let before = counted(case.requests.len(), "record");
     let mut failed = None;
     let case = shrink(case, |case| {
         let found = Difference::between(program, case).unwrap_or_else(|error| {
@@ -132,17 +154,20 @@ fn shrunk(again: &str, program: &mut dyn Answerer, case: Case) -> io::Result<Str
     let Some(found) = Difference::between(program, &case)? else {
         return Ok("# a difference that does not come again\n".to_string());
     };
-    let records = case.requests.len();
-    let title = format!("# a difference, shrunk from {before} records to {records}");
-    let report = report(&case, &found);
-    Ok(format!("{title}\n# found again by {again}\n{report}"))
+    let title = format!(
+        "# a difference, shrunk from {before} to {}",
+        case.requests.len()
+    );
+    Ok(format!("{title}\n{}", report(&case, &found)))
 }
 
 #[cfg(test)]
 mod tests {
     use super::*;
     use crate::machine;
+    use crate::program::Replies;
     use crate::protocol::Reply;
+    use std::time::Duration;
 
     #[test]
     fn the_kernel_against_itself() {
@@ -190,5 +215,29 @@ mod tests {
             "{text}"
         );
         assert!(text.contains("ended without a reply"), "{text}");
+    }
+
+    /// A side that replies to nine requests of a case.
+    struct Late;
+
+    impl Answerer for Late {
+        fn replies(&mut self, case: &Case) -> io::Result<Replies> {
+            let mut given = machine::replies(case);
+            given.truncate(9);
+            let stop = Stop::Late(Duration::from_secs(7));
+            Ok(Replies { given, stop })
+        }
+    }
+
+    #[test]
+    fn a_side_that_is_late_is_found_and_not_shrunk() {
+        let run = Run::fixed_set();
+        let Ok(Outcome::Differs(text)) = run.compare(|| Late, |_| {}) else {
+            panic!("no difference was found");
+        };
+        assert!(text.contains("# a difference, not shrunk\n"), "{text}");
+        assert!(text.contains("# differs: no reply in 7 s\n"), "{text}");
+        assert!(text.contains(" # 10, output of "), "{text}");
+        assert!(!text.contains(" # 11, output of "), "{text}");
     }
 }

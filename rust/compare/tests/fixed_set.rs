@@ -2,21 +2,15 @@
 //! program and the independent kernel.
 
 use exos_compare::program::{find_program, Program};
-use exos_compare::run::{Outcome, Run, Until};
+use exos_compare::run::{Outcome, Run};
 use std::io::{self, Write};
 use std::time::Instant;
 
 #[test]
 fn the_proved_program_and_the_kernel_agree() {
     let path = find_program().unwrap_or_else(|error| panic!("{error}"));
-    let run = Run {
-        seed: 1,
-        first: 0,
-        until: Until::Cases(5_000),
-        pairs: 2,
-    };
     let began = Instant::now();
-    match run.compare(|| Program::at(&path), |_| {}) {
+    match Run::fixed_set().compare(|| Program::at(&path), |_| {}) {
         Ok(Outcome::Same(counts)) => {
             let (calls, edges, took) = (counts.calls(), counts.edges().count(), began.elapsed());
             // not println, which cargo shows of failed tests alone
