@@ -70,14 +70,10 @@ fn good_list(tables: &Tables) -> bool {
 /// from the chain, which starts at 255 and has a shared one last.
 fn good_classes(tables: &Tables) -> bool {
     tables.classes[0] == class::NONE
-        && every(&tables.used_classes()[1..], |held| {
-            (class::FREE..=class::SHARED).contains(held)
+        && every(&tables.used_classes()[1..], |class| {
+            (class::FREE..=class::SHARED).contains(class)
         })
         && zero_after(&tables.classes, tables.segments)
-}
-
-fn count(classes: &[u8; ROWS_OF_SEGMENTS], held: u8) -> u8 {
-    classes.iter().map(|other| u8::from(*other == held)).sum()
 }
 
 /// "Cold R is at least R and at most 16,128."
@@ -169,13 +165,11 @@ fn good_line(tables: &Tables) -> bool {
 fn good_chain(tables: &Tables) -> bool {
     let chain = tables.used_chain();
     let (last, earlier) = (chain[chain.len() - 1], &chain[..chain.len() - 1]);
-    let held = |row: u8| tables.used_classes().get(usize::from(row)).copied();
-    let held_by_system = count(&tables.classes, class::SYSTEM);
-    let held_by_both = count(&tables.classes, class::SHARED);
+    let class = |row: u8| tables.used_classes().get(usize::from(row)).copied();
     chain[0] == tables.segments - 1
-        && tables.chain_length == held_by_system + held_by_both
-        && matches!(held(last), Some(class::SYSTEM | class::SHARED))
-        && earlier.iter().all(|&row| held(row) == Some(class::SYSTEM))
+        && tables.chain_length == tables.count(class::SYSTEM) + tables.count(class::SHARED)
+        && matches!(class(last), Some(class::SYSTEM | class::SHARED))
+        && earlier.iter().all(|&row| class(row) == Some(class::SYSTEM))
         && all_differ(chain.iter().copied())
         && zero_after(&tables.chain, tables.chain_length)
 }
@@ -183,7 +177,7 @@ fn good_chain(tables: &Tables) -> bool {
 /// "The user boundary is at most the EXOS boundary if shared and 0
 /// otherwise."
 fn good_user_boundary(tables: &Tables, exos_boundary: u16) -> bool {
-    let is_shared = count(&tables.classes, class::SHARED) == 1;
+    let is_shared = tables.count(class::SHARED) == 1;
     tables.user_boundary <= if is_shared { exos_boundary } else { 0 }
 }
 

@@ -17,16 +17,8 @@ const USER: u8 = 0;
 /// Caller 1 of allocate and free.
 const DEVICE: u8 = 1;
 
-fn count(tables: &Tables, held: u8) -> usize {
-    tables
-        .used_classes()
-        .iter()
-        .filter(|&&other| other == held)
-        .count()
-}
-
-fn is_free(held: &u8) -> bool {
-    *held == class::FREE
+fn is_free(class: &u8) -> bool {
+    *class == class::FREE
 }
 
 fn is_shared(tables: &Tables) -> bool {
@@ -48,7 +40,7 @@ pub(crate) fn has_room(tables: &Tables, t: usize) -> bool {
     if is_shared(tables) {
         t + usize::from(tables.user_boundary) <= tables.chain_room()
     } else {
-        t <= tables.chain_room() + SEGMENT * count(tables, class::FREE)
+        t <= tables.chain_room() + SEGMENT * usize::from(tables.count(class::FREE))
     }
 }
 
@@ -70,13 +62,13 @@ pub(crate) fn shorten_chain(tables: &mut Tables, length: usize) {
     while usize::from(tables.chain_length) > length {
         tables.chain_length -= 1;
         let last = &mut tables.chain[usize::from(tables.chain_length)];
-        let held = &mut tables.classes[usize::from(*last)];
+        let class = &mut tables.classes[usize::from(*last)];
         *last = 0;
-        if *held == class::SHARED {
-            *held = class::USER;
+        if *class == class::SHARED {
+            *class = class::USER;
             tables.user_boundary = 0;
         } else {
-            *held = class::FREE;
+            *class = class::FREE;
         }
     }
 }
@@ -101,14 +93,14 @@ pub(crate) fn release_user(tables: &mut Tables) {
 /// "Allocate gives user or device the lowest numbered free segment, bytes
 /// untouched."
 pub(crate) fn allocate(tables: &mut Tables, caller: u8) -> Result<Reply, Refusal> {
-    let held = match caller {
+    let class = match caller {
         USER => class::USER,
         DEVICE => class::DEVICE,
         _ => return Err(Refusal::Call),
     };
     match tables.used_classes().iter().position(is_free) {
         Some(row) => {
-            tables.classes[row] = held;
+            tables.classes[row] = class;
             Ok(Reply::done(tables.list[row], SEGMENT as u16))
         }
         None if caller == USER => share(tables),
@@ -156,7 +148,7 @@ pub(crate) fn free(tables: &mut Tables, caller: u8, segment: u8) -> Result<Reply
 
 /// "Status writes the counts free, user, system, device, shared."
 pub(crate) fn status(tables: &Tables, output: &mut [u8]) -> Result<Reply, Refusal> {
-    let counts = COUNTED.map(|held| count(tables, held) as u8);
+    let counts = COUNTED.map(|class| tables.count(class));
     output
         .get_mut(..counts.len())
         .ok_or(Refusal::Range)?

@@ -133,6 +133,13 @@ impl Tables {
         &self.devices[..usize::from(self.device_count)]
     }
 
+    /// How many segments are of a class other than [`class::NONE`], which
+    /// unused rows have too.
+    pub(crate) fn count(&self, class: u8) -> u8 {
+        let rows = self.classes.iter();
+        rows.map(|other| u8::from(*other == class)).sum()
+    }
+
     /// "T is the sum of their lengths."
     pub(crate) fn line_length(&self) -> usize {
         self.used_channels().iter().map(Channel::length).sum()

@@ -3,24 +3,6 @@
 use crate::machine::Machine;
 
 #[test]
-fn single_bytes_either_side_of_each_edge() {
-    let mut machine = Machine::standard();
-    let edges = [
-        (0x2F, 0),
-        (0x30, 14),
-        (0x3C, 14),
-        (0x3D, 0),
-        (0x3E, 0),
-        (0x3F, 14),
-        (0x5B, 14),
-        (0x5C, 0),
-    ];
-    for (offset, number) in edges {
-        assert_eq!(machine.store(252, offset, &[1]).0, number, "{offset:x}");
-    }
-}
-
-#[test]
 fn every_single_byte() {
     let mut machine = Machine::standard();
     for offset in 0..0x100u16 {

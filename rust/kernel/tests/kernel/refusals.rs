@@ -312,13 +312,6 @@ fn number_13_lent_output_too_short() {
 }
 
 #[test]
-fn number_14_guard() {
-    let mut machine = Machine::standard();
-    assert_eq!(machine.store(252, 0x30, &[1]), (14, 0, 0));
-    assert_eq!(machine.store(252, 0x2F, &[1]), (0, 0, 1));
-}
-
-#[test]
 fn number_15_flags() {
     let mut machine = Machine::standard();
     for flags in 0..=255 {
