@@ -99,7 +99,7 @@ fn opening(random: &mut Random, plan: Plan, origin: &Tables) -> Case {
     let mut case = Case {
         image: image_of(origin),
         ram_length: (usize::from(origin.segments) * SEGMENT) as u32,
-        seed: random.next() as u32,
+        seed: random.number() as u32,
         requests: Vec::new(),
     };
     match plan {
@@ -126,7 +126,7 @@ fn start(r: u16, list: &[u8]) -> Request {
 
 fn wrong_length(random: &mut Random, right: u32) -> u32 {
     let segment = SEGMENT as u32;
-    let any = random.next() as u32 % (2 * right);
+    let any = random.number() as u32 % (2 * right);
     let lengths = [
         right - 1,
         right + 1,

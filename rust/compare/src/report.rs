@@ -89,7 +89,7 @@ fn answer(reply: &Reply) -> String {
 
 fn tables_in_words(title: &str, tables: &Tables) -> String {
     let state = if good(tables) { "good" } else { "not good" };
-    let held: Vec<_> = tables.list.into_iter().zip(tables.classes).collect();
+    let segments: Vec<_> = tables.list.into_iter().zip(tables.classes).collect();
     let in_list = |row: &u8| {
         let number = tables.list.get(usize::from(*row));
         number.map_or("?".to_string(), u8::to_string)
@@ -98,7 +98,7 @@ fn tables_in_words(title: &str, tables: &Tables) -> String {
     let default_name = name_words(&default.name, default.length);
     [
         format!("# {title} ({state}):"),
-        rows("segments", tables.segments, &held, segment_words),
+        rows("segments", tables.segments, &segments, segment_words),
         rows("chain", tables.chain_length, &tables.chain, in_list),
         format!("user boundary: {}", tables.user_boundary),
         format!("R, cold R: {}, {}", tables.r, tables.cold_r),
@@ -126,9 +126,9 @@ fn rows<T>(name: &str, count: u8, rows: &[T], words: impl Fn(&T) -> String) -> S
     format!("{name}: {count}: {}", said.join(", "))
 }
 
-fn segment_words(&(number, held): &(u8, u8)) -> String {
-    let class = Class::of(held).map_or(format!("class {held}"), |class| class.to_string());
-    format!("{number} {class}")
+fn segment_words(&(number, class): &(u8, u8)) -> String {
+    let word = Class::of(class).map_or(format!("class {class}"), |class| class.to_string());
+    format!("{number} {word}")
 }
 
 fn channel_words(channel: &Channel) -> String {

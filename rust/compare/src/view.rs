@@ -45,9 +45,9 @@ impl<'a> View<'a> {
     }
 
     /// The segment numbers of a class.
-    pub fn segments(self, held: u8) -> impl Iterator<Item = u8> + 'a {
+    pub fn segments(self, class: u8) -> impl Iterator<Item = u8> + 'a {
         let rows = self.list().iter().zip(self.classes());
-        rows.filter(move |row| *row.1 == held).map(|row| *row.0)
+        rows.filter(move |row| *row.1 == class).map(|row| *row.0)
     }
 
     /// The class of a segment, [`class::NONE`] for the page zero segment.

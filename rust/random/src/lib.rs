@@ -7,12 +7,12 @@ impl Random {
     /// The source of one case of a seed.
     pub fn new(seed: u64, case: u64) -> Random {
         let mut random = Random(mixed(mixed(seed).wrapping_add(case)) | 1);
-        random.next();
+        random.number();
         random
     }
 
     /// Any number.
-    pub fn next(&mut self) -> u64 {
+    pub fn number(&mut self) -> u64 {
         self.0 ^= self.0 << 13;
         self.0 ^= self.0 >> 7;
         self.0 ^= self.0 << 17;
@@ -21,7 +21,7 @@ impl Random {
 
     /// A number below `end`, which is above 0.
     pub fn below(&mut self, end: usize) -> usize {
-        (self.next() >> 11) as usize % end
+        (self.number() >> 11) as usize % end
     }
 
     /// True once in so many times.
@@ -36,12 +36,12 @@ impl Random {
 
     /// Any byte.
     pub fn byte(&mut self) -> u8 {
-        (self.next() >> 32) as u8
+        (self.number() >> 32) as u8
     }
 
     /// Any word.
     pub fn word(&mut self) -> u16 {
-        (self.next() >> 32) as u16
+        (self.number() >> 32) as u16
     }
 
     /// Any bytes.
@@ -49,7 +49,7 @@ impl Random {
         let mut bytes = Vec::with_capacity(length + 8);
         while bytes.len() < length {
             bytes.extend(
-                self.next()
+                self.number()
                     .wrapping_mul(0x9E37_79B9_7F4A_7C15)
                     .to_le_bytes(),
             );

@@ -1,6 +1,7 @@
 //! The tables as bytes and back.
 
-use exos_kernel::{Channel, Device, Tables, NAME, ROWS_OF_CHANNELS, ROWS_OF_DEVICES};
+use exos_kernel::{Channel, DefaultName, Device, Tables, NAME};
+use std::array;
 
 /// The length of the image.
 pub const IMAGE: usize = 776;
@@ -62,27 +63,34 @@ pub fn image_of(tables: &Tables) -> Image {
     put(at::R, &tables.r.to_le_bytes());
     put(at::COLD_R, &tables.cold_r.to_le_bytes());
     put(at::CHANNEL_COUNT, &[tables.channel_count]);
-    for (row, channel) in tables.channels.iter().enumerate() {
-        let at = at::CHANNELS + row * CHANNEL;
-        put(at, &[channel.number, channel.device, channel.unit]);
-        put(at + 3, &channel.n.to_le_bytes());
-    }
+    put(
+        at::CHANNELS,
+        tables.channels.map(channel_bytes).as_flattened(),
+    );
     put(at::DEVICE_COUNT, &[tables.device_count]);
-    for (row, device) in tables.devices.iter().enumerate() {
-        let at = at::DEVICES + row * DEVICE;
-        put(at, &device.name);
-        put(at + NAME, &[device.length, u8::from(device.enabled)]);
-    }
+    put(at::DEVICES, tables.devices.map(device_bytes).as_flattened());
     put(at::DEFAULT_NAME, &tables.default.name);
     put(at::DEFAULT_LENGTH, &[tables.default.length]);
     put(at::DEFAULT_UNIT, &[tables.default.unit]);
     image
 }
 
+fn channel_bytes(channel: Channel) -> [u8; CHANNEL] {
+    let [n0, n1] = channel.n.to_le_bytes();
+    [channel.number, channel.device, channel.unit, n0, n1]
+}
+
+fn device_bytes(device: Device) -> [u8; DEVICE] {
+    let mut bytes = [0; DEVICE];
+    bytes[..NAME].copy_from_slice(&device.name);
+    bytes[NAME..].copy_from_slice(&[device.length, u8::from(device.enabled)]);
+    bytes
+}
+
 /// The tables of any image.
 pub fn tables_of(image: &Image) -> Tables {
     let word = |at: usize| u16::from_le_bytes([image[at], image[at + 1]]);
-    let mut tables = Tables {
+    Tables {
         segments: image[at::SEGMENTS],
         list: part(image, at::LIST),
         classes: part(image, at::CLASSES),
@@ -92,30 +100,33 @@ pub fn tables_of(image: &Image) -> Tables {
         r: word(at::R),
         cold_r: word(at::COLD_R),
         channel_count: image[at::CHANNEL_COUNT],
+        channels: array::from_fn(|row| channel_of(&part(image, at::CHANNELS + row * CHANNEL))),
         device_count: image[at::DEVICE_COUNT],
-        ..Tables::default()
-    };
-    for row in 0..ROWS_OF_CHANNELS {
-        let at = at::CHANNELS + row * CHANNEL;
-        tables.channels[row] = Channel {
-            number: image[at],
-            device: image[at + 1],
-            unit: image[at + 2],
-            n: word(at + 3),
-        };
+        devices: array::from_fn(|row| device_of(&part(image, at::DEVICES + row * DEVICE))),
+        default: DefaultName {
+            name: part(image, at::DEFAULT_NAME),
+            length: image[at::DEFAULT_LENGTH],
+            unit: image[at::DEFAULT_UNIT],
+        },
     }
-    for row in 0..ROWS_OF_DEVICES {
-        let at = at::DEVICES + row * DEVICE;
-        tables.devices[row] = Device {
-            name: part(image, at),
-            length: image[at + NAME],
-            enabled: image[at + NAME + 1] != 0,
-        };
+}
+
+fn channel_of(&[number, device, unit, n0, n1]: &[u8; CHANNEL]) -> Channel {
+    Channel {
+        number,
+        device,
+        unit,
+        n: u16::from_le_bytes([n0, n1]),
     }
-    tables.default.name = part(image, at::DEFAULT_NAME);
-    tables.default.length = image[at::DEFAULT_LENGTH];
-    tables.default.unit = image[at::DEFAULT_UNIT];
-    tables
+}
+
+fn device_of(bytes: &[u8; DEVICE]) -> Device {
+    let [name @ .., length, enabled] = *bytes;
+    Device {
+        name,
+        length,
+        enabled: enabled != 0,
+    }
 }
 
 fn part<const LENGTH: usize>(image: &Image, at: usize) -> [u8; LENGTH] {
@@ -127,6 +138,7 @@ fn part<const LENGTH: usize>(image: &Image, at: usize) -> [u8; LENGTH] {
 #[cfg(test)]
 mod tests {
     use super::*;
+    use exos_kernel::ROWS_OF_DEVICES;
 
     #[test]
     fn the_image_has_the_offsets_of_the_protocol() {

@@ -86,20 +86,14 @@ impl<Differs: FnMut(&Case) -> Option<usize>> Shrinker<Differs> {
         self.shorten_rest(row);
     }
 
-    /// Leaves out runs of a name's or data's bytes: half of them at first.
+    /// Leaves out runs of a name's or data's bytes: all of them at first.
     fn shorten_rest(&mut self, row: usize) {
-        let mut run = self.rest(row).len();
-        while run > 0 {
-            let mut end = self.rest(row).len();
-            while end > 0 {
-                let start = end.saturating_sub(run);
-                let mut rest = self.rest(row);
-                rest.drain(start..end.min(rest.len()));
-                self.try_rest(row, rest);
-                end = start.min(self.rest(row).len());
-            }
-            run /= 2;
-        }
+        let length = |shrinker: &Self| shrinker.rest(row).len();
+        self.leave_out(length(self), length, |shrinker, run| {
+            let mut rest = shrinker.rest(row);
+            rest.drain(run);
+            shrinker.try_rest(row, rest);
+        });
     }
 
     fn parts(&self, row: usize) -> Option<Vec<Part>> {

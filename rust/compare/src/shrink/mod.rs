@@ -4,6 +4,7 @@
 mod bodies;
 mod parts;
 mod requests;
+mod runs;
 mod tables;
 #[cfg(test)]
 mod tests;

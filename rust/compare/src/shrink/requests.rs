@@ -13,20 +13,15 @@ const RECORD: u16 = HEADING as u16;
 impl<Differs: FnMut(&Case) -> Option<usize>> Shrinker<Differs> {
     /// Leaves out runs of requests: half of them at first, one in the end.
     pub(super) fn drop_requests(&mut self) {
-        let mut run = self.case.requests.len() / 2;
-        while run > 0 {
-            let mut end = self.case.requests.len();
-            while end > 0 {
-                let start = end.saturating_sub(run);
-                let mut case = self.case.clone();
-                case.requests.drain(start..end.min(case.requests.len()));
-                if !case.requests.is_empty() {
-                    self.accepts(case);
-                }
-                end = start.min(self.case.requests.len());
+        let half = self.case.requests.len() / 2;
+        let length = |shrinker: &Self| shrinker.case.requests.len();
+        self.leave_out(half, length, |shrinker, run| {
+            let mut case = shrinker.case.clone();
+            case.requests.drain(run);
+            if !case.requests.is_empty() {
+                shrinker.accepts(case);
             }
-            run /= 2;
-        }
+        });
     }
 
     /// Leaves out an open and lengthens the buffer of another by its record.
@@ -55,25 +50,24 @@ impl<Differs: FnMut(&Case) -> Option<usize>> Shrinker<Differs> {
     /// Gives each channel the lowest number that is not taken, in all calls.
     pub(super) fn rename_channels(&mut self) {
         for row in 0..self.case.requests.len() {
-            let Some(old) = self.case.requests.get(row).and_then(channel_of) else {
-                continue;
-            };
-            for new in 0..old {
-                let mut case = self.case.clone();
-                let taken = |request: &Request| channel_of(request) == Some(new);
-                if case.requests.iter().any(taken) {
-                    continue;
-                }
-                for request in &mut case.requests {
-                    if channel_of(request) == Some(old) {
-                        request.record[2] = new;
-                    }
-                }
-                if self.accepts(case) {
-                    break;
-                }
+            if let Some(old) = self.case.requests.get(row).and_then(channel_of) {
+                let mut lower = 0..old;
+                lower.find(|&new| self.renames(old, new));
             }
         }
+    }
+
+    /// Gives a channel another number, if that is not taken.
+    fn renames(&mut self, old: u8, new: u8) -> bool {
+        let mut case = self.case.clone();
+        let requests = case.requests.iter();
+        let is_taken = requests.map(channel_of).any(|number| number == Some(new));
+        for request in &mut case.requests {
+            if channel_of(request) == Some(old) {
+                request.record[2] = new;
+            }
+        }
+        !is_taken && self.accepts(case)
     }
 }
 

@@ -61,7 +61,7 @@ impl<'a> Steer<'a> {
         let is_full = view.t() + HEADING > view.limit();
         let none_held = [class::USER, class::DEVICE, class::SHARED]
             .iter()
-            .all(|&held| view.segments(held).next().is_none());
+            .all(|&class| view.segments(class).next().is_none());
         let none_left = view.free() == 0 && (view.is_shared() || view.boundary() == 0);
         let fitting = match kind {
             3 | 6 | 8 if none_open => 1,

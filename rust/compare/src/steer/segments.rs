@@ -36,7 +36,7 @@ impl Steer<'_> {
     /// A segment: mostly one of a class that is asked for and is there.
     pub(super) fn segment(&mut self, wanted: &[u8]) -> usize {
         let view = self.view();
-        let of_class = |&held: &u8| view.segments(held).collect::<Vec<u8>>();
+        let of_class = |&class: &u8| view.segments(class).collect::<Vec<u8>>();
         let found: Vec<_> = wanted.iter().map(of_class).collect();
         let found: Vec<_> = found.iter().filter(|some| !some.is_empty()).collect();
         let segment = match self.random.below(16) {
