@@ -144,7 +144,7 @@ mod tests {
 
     #[test]
     fn a_number_gives_the_same_case_again() {
-        for number in [200, 201, 202, 212, 215, 285] {
+        for number in [300, 301, 302, 312, 315, 385] {
             let (one, other) = (played(3, number), played(3, number));
             assert_eq!(one.case, other.case);
             assert_eq!(one.replies, other.replies);
@@ -154,7 +154,7 @@ mod tests {
 
     #[test]
     fn replies_are_those_of_the_case_run_again() {
-        for number in 100..230 {
+        for number in 90..130 {
             let played = played(8, number);
             assert_eq!(crate::machine::replies(&played.case), played.replies);
         }

@@ -247,7 +247,7 @@ mod tests {
     fn stopped(command: &mut Command) -> (Vec<Reply>, Stop) {
         let limit = Duration::from_millis(200);
         let mut running = Running::start(command, limit).unwrap();
-        let replies = running.replies(&played(1, 200).case);
+        let replies = running.replies(&played(1, 0).case);
         (replies.given, replies.stop)
     }
 

@@ -173,7 +173,7 @@ mod tests {
     fn the_kernel_against_itself() {
         let run = Run {
             seed: 1,
-            first: 200,
+            first: 0,
             until: Until::Cases(60),
             pairs: 2,
         };

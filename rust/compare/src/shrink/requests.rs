@@ -24,12 +24,16 @@ impl<Differs: FnMut(&Case) -> Option<usize>> Shrinker<Differs> {
         });
     }
 
-    /// Leaves out an open and lengthens the buffer of another by its record.
+    /// Leaves out an open and lengthens the buffer of the open next to it by
+    /// its record.
     pub(super) fn join_opens(&mut self) {
         let mut row = 0;
         while row < self.case.requests.len() {
-            let dropped = (0..self.case.requests.len()).any(|other| self.joins(row, other));
-            row += usize::from(!dropped);
+            let is_open = |other: &usize| buffer_of(&self.case, *other).is_some();
+            let before = (0..row).rfind(is_open);
+            let after = (row + 1..self.case.requests.len()).find(is_open);
+            let mut next = before.into_iter().chain(after);
+            row += usize::from(!next.any(|other| self.joins(row, other)));
         }
     }
 
@@ -44,7 +48,7 @@ impl<Differs: FnMut(&Case) -> Option<usize>> Shrinker<Differs> {
         };
         case.requests[other].record[N].copy_from_slice(&n.to_le_bytes());
         case.requests.remove(row);
-        row != other && self.accepts(case)
+        self.accepts(case)
     }
 
     /// Gives each channel the lowest number that is not taken, in all calls.
