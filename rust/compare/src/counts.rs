@@ -1,8 +1,7 @@
 //! What was met: counts by kind and answer, and the edges.
 
-use crate::edges::{all_edges, edges, Edge};
+use crate::edges::{all_edges, edges, Edge, Made};
 use crate::protocol::{Reply, Request};
-use exos_kernel::Tables;
 use exoslog::{counted, FORMS};
 use std::collections::BTreeMap;
 use std::fmt::{self, Display, Formatter};
@@ -84,13 +83,13 @@ impl Counts {
         }
     }
 
-    /// Counts one call, made on the tables before it.
-    pub fn add(&mut self, before: &Tables, ram_length: usize, request: &Request, reply: &Reply) {
+    /// Counts one call.
+    pub fn add(&mut self, made: &Made, request: &Request, reply: &Reply) {
         match self.pairs[row_of(request.kind())].get_mut(usize::from(reply.number)) {
             Some(count) => *count += 1,
             None => self.strange += 1,
         }
-        edges(before, ram_length, request, reply, |edge| {
+        edges(made, request, reply, |edge| {
             *self.edges.entry(edge).or_default() += 1;
         });
     }
@@ -172,6 +171,7 @@ impl Display for Counts {
 #[cfg(test)]
 mod tests {
     use super::*;
+    use exos_kernel::Tables;
 
     fn reply(number: u16) -> Reply {
         Reply {
@@ -181,26 +181,34 @@ mod tests {
             image: 0,
             ram: 0,
             output: 0,
+            part: 0,
+            part_bytes: 0,
         }
+    }
+
+    /// A call on no tables, which stay.
+    fn add(counts: &mut Counts, kind: u16, number: u16) {
+        let tables = Tables::default();
+        let made = Made {
+            before: &tables,
+            after: &tables,
+            ram_length: 0,
+        };
+        counts.add(&made, &Request::new(0, kind, &[]), &reply(number));
     }
 
     #[test]
     fn pairs_are_counted_and_told_apart() {
         let mut counts = Counts::new();
         let missing = counts.missing().len();
-        let mut add = |kind, number| {
-            let request = Request::new(0, kind, &[]);
-            counts.add(&Tables::default(), 0, &request, &reply(number));
-        };
-        add(20, 1);
-        add(20, 1);
-        add(999, 2);
+        add(&mut counts, 20, 1);
+        add(&mut counts, 20, 1);
+        add(&mut counts, 999, 2);
         assert_eq!(counts.calls(), 3);
         assert_eq!(counts.missing().len(), missing - 2);
         assert!(counts.forbidden().is_empty());
-        let request = Request::new(0, 256, &[]);
-        counts.add(&Tables::default(), 0, &request, &reply(1));
-        counts.add(&Tables::default(), 0, &request, &reply(18));
+        add(&mut counts, 256, 1);
+        add(&mut counts, 256, 18);
         assert_eq!(
             counts.forbidden(),
             ["256 start: answer 1", "1 answer above 17"]
@@ -215,8 +223,7 @@ mod tests {
     #[test]
     fn counts_are_joined() {
         let mut one = Counts::new();
-        let request = Request::new(0, 22, &[]);
-        one.add(&Tables::default(), 0, &request, &reply(1));
+        add(&mut one, 22, 1);
         let mut sum = one.clone();
         sum.join(&one);
         assert_eq!(sum.calls(), 2);

@@ -54,6 +54,8 @@ impl Difference {
             (kernel.image == program.image, "tables"),
             (kernel.ram == program.ram, "RAM"),
             (kernel.output == program.output, "output"),
+            (kernel.part == program.part, "part lent"),
+            (kernel.part_bytes == program.part_bytes, "bytes lent"),
         ]
         .into_iter()
         .filter(|field| !field.0)
@@ -73,6 +75,8 @@ mod tests {
         image: 3,
         ram: 4,
         output: 5,
+        part: 6,
+        part_bytes: 7,
     };
 
     fn first(kernel: &[Reply], program: &[Reply]) -> Option<Difference> {
@@ -99,6 +103,14 @@ mod tests {
             (Reply { b: 7, ..REPLY }, "b"),
             (Reply { image: 7, ..REPLY }, "tables"),
             (Reply { output: 7, ..REPLY }, "output"),
+            (Reply { part: 0, ..REPLY }, "part lent"),
+            (
+                Reply {
+                    part_bytes: 0,
+                    ..REPLY
+                },
+                "bytes lent",
+            ),
         ];
         for (other, field) in each {
             let found = first(&[REPLY], &[other]).unwrap();

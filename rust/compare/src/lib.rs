@@ -1,7 +1,8 @@
 //! Holds the independent kernel against the proved program `exos_answer`:
 //! the same requests to both, and after every call the answer, both values,
-//! the tables, every byte of the RAM and the output compared. A difference is
-//! shrunk and told as a log in words, which `exoslog encode` reads back.
+//! the tables, every byte of the RAM, the output and what is lent of a buffer
+//! compared. A difference is shrunk and told as a log in words, which
+//! `exoslog encode` reads back.
 
 pub mod cases;
 pub mod counts;

@@ -4,7 +4,7 @@ use crate::protocol::{
     digest, image_of, joined, power, ram_of, tables_of, Case, Reply, Request, UNTOUCHED,
 };
 use crate::quietly::quietly;
-use exos_kernel::{call, decode, Tables};
+use exos_kernel::{call, decode, lend, Lent, Tables};
 
 /// Tables and RAM on which requests are made in turn.
 pub struct Machine {
@@ -27,8 +27,16 @@ impl Machine {
         let mut output = vec![UNTOUCHED; usize::from(request.output)];
         let asked = decode(request.kind(), request.body());
         let (tables, ram) = (&mut self.tables, &mut self.ram.bytes);
-        let Some(reply) = quietly(|| call(tables, ram, asked, &mut output)) else {
+        let made = quietly(|| {
+            let reply = call(tables, ram, asked, &mut output);
+            (reply, lend(tables, ram, request.channel_lent()))
+        });
+        let Some((reply, lent)) = made else {
             return Reply::of_panic();
+        };
+        let (part, part_bytes) = match lent {
+            Lent::Part { start, bytes } => (1 + start as u64, digest(bytes)),
+            _ => (0, digest(&[])),
         };
         Reply {
             number: u16::from(reply.number),
@@ -37,6 +45,8 @@ impl Machine {
             image: digest(&image_of(&self.tables)),
             ram: self.ram.digest(),
             output: digest(&output),
+            part,
+            part_bytes,
         }
     }
 
@@ -131,5 +141,42 @@ mod tests {
         assert_eq!(replies[1].ram, digest(&[0; 65_536]));
         assert_eq!(replies[2].output, digest(&[2, 0, 1, 0, 0, 165]));
         assert_eq!(replies[2].image, replies[1].image);
+    }
+
+    #[test]
+    fn what_is_lent_after_a_call() {
+        let open = |channel: u8, n: u16| {
+            let body = [&[channel, 0], &n.to_le_bytes()[..], b"VIDEO:"].concat();
+            Request::new(0, 1, &body)
+        };
+        let case = Case {
+            image: [0; crate::protocol::IMAGE],
+            ram_length: 65_536,
+            seed: 1,
+            requests: vec![
+                Request::new(0, 256, &[0x42, 0x2B, 252, 253, 254, 255]),
+                open(5, 3),
+                Request::new(0, 8, &[5, 0, 0, 1, 2, 3]),
+                open(0, 11_100),
+                Request::new(0, 22, &[]),
+                open(6, 0),
+                Request::new(0, 3, &[5]),
+            ],
+        };
+        let lent: Vec<_> = replies(&case)
+            .iter()
+            .map(|reply| (reply.part, reply.part_bytes))
+            .collect();
+        // the buffer of 5 runs down from offset 11,057 of the fourth segment
+        let part = 1 + 3 * 16_384 + 11_055;
+        let written = (part, digest(&[3, 2, 1]));
+        let none = (0, 0);
+        assert_eq!(lent[0], none, "0x42 is not open");
+        assert_eq!(lent[1], (part, digest(&[0; 3])), "opened");
+        assert_eq!(lent[2], written, "written");
+        assert_eq!(lent[3], none, "0 lies in two segments");
+        assert_eq!(lent[4], none, "no body: 0");
+        assert_eq!(lent[5], none, "6 has n 0");
+        assert_eq!(lent[6], none, "5 is closed");
     }
 }

@@ -1,6 +1,7 @@
 //! Plays a case on the independent kernel, and notes what comes of it.
 
 use crate::counts::Counts;
+use crate::edges::Made;
 use crate::machine::Machine;
 use crate::protocol::{Case, Reply, Request};
 use exos_kernel::Tables;
@@ -69,7 +70,12 @@ impl Player {
             replies,
             counts,
         } = &mut self.played;
-        counts.add(&before, self.machine.ram_length(), &request, &reply);
+        let made = Made {
+            before: &before,
+            after: &self.machine.tables,
+            ram_length: self.machine.ram_length(),
+        };
+        counts.add(&made, &request, &reply);
         replies.push(reply);
         case.requests.push(request);
     }

@@ -3,6 +3,7 @@
 mod both;
 mod channels;
 mod devices;
+mod lent;
 mod names;
 mod reset;
 mod segments;
@@ -31,15 +32,23 @@ struct Meeting<'a, Met> {
     met: Met,
 }
 
-/// Tells each edge that a call met: the tables before it, the length of the
-/// RAM, the request, the reply.
-pub fn edges(
-    before: &Tables,
-    ram_length: usize,
-    request: &Request,
-    reply: &Reply,
-    met: impl FnMut(Edge),
-) {
+/// The tables before and after a call, and the length of the RAM.
+pub struct Made<'a> {
+    /// The tables before it.
+    pub before: &'a Tables,
+    /// The tables after it.
+    pub after: &'a Tables,
+    /// The length of the RAM.
+    pub ram_length: usize,
+}
+
+/// Tells each edge that a call met.
+pub fn edges(made: &Made, request: &Request, reply: &Reply, met: impl FnMut(Edge)) {
+    let &Made {
+        before,
+        after,
+        ram_length,
+    } = made;
     let mut meeting = Meeting {
         view: View(before),
         output: usize::from(request.output),
@@ -48,6 +57,7 @@ pub fn edges(
     };
     meeting.at(request.record.len() == 65_535, Edge::LongestRecord);
     meeting.at(request.output == 65_535, Edge::LongestOutput);
+    meeting.lent(after, ram_length, request.channel_lent(), reply.part);
     let call = decode(request.kind(), request.body());
     let right_length = ram_length == SEGMENT * usize::from(before.segments);
     let usable = good(before);

@@ -3,7 +3,7 @@
 use super::Image;
 
 /// The length of a reply.
-pub const REPLY: usize = 30;
+pub const REPLY: usize = 46;
 /// The longest RAM that can be sent.
 pub const MOST_RAM: u32 = 524_288;
 /// What the bytes of the lent output are before a call.
@@ -52,6 +52,12 @@ impl Request {
     /// The body.
     pub fn body(&self) -> &[u8] {
         &self.record[2..]
+    }
+
+    /// The channel whose buffer's bytes are asked for after the call: the
+    /// first byte of the body, 0 where that is empty.
+    pub fn channel_lent(&self) -> u8 {
+        self.body().first().copied().unwrap_or(0)
     }
 }
 
@@ -104,6 +110,11 @@ pub struct Reply {
     pub ram: u64,
     /// The digest of the lent output after the call.
     pub output: u64,
+    /// Where the part that is lent of a buffer after the call starts in the
+    /// RAM, plus 1; 0 where nothing is lent.
+    pub part: u64,
+    /// The digest of that part's bytes.
+    pub part_bytes: u64,
 }
 
 /// What stands for the answer of a kernel that panicked: no call gives it.
@@ -119,6 +130,8 @@ impl Reply {
             image: 0,
             ram: 0,
             output: 0,
+            part: 0,
+            part_bytes: 0,
         }
     }
 
@@ -140,6 +153,8 @@ impl Reply {
             image: number(6, 8),
             ram: number(14, 8),
             output: number(22, 8),
+            part: number(30, 8),
+            part_bytes: number(38, 8),
         }
     }
 }
@@ -179,6 +194,12 @@ mod tests {
     }
 
     #[test]
+    fn the_channel_lent() {
+        assert_eq!(Request::new(0, 20, &[]).channel_lent(), 0);
+        assert_eq!(Request::new(0, 258, &[7, 8]).channel_lent(), 7);
+    }
+
+    #[test]
     fn a_reply_as_it_is_read() {
         let mut bytes = [0; REPLY];
         for (at, byte) in (0..).zip(&mut bytes) {
@@ -188,5 +209,7 @@ mod tests {
         assert_eq!((reply.number, reply.a, reply.b), (0x0100, 0x0302, 0x0504));
         assert_eq!(reply.image, 0x0D0C_0B0A_0908_0706);
         assert_eq!(reply.output, 0x1D1C_1B1A_1918_1716);
+        assert_eq!(reply.part, 0x2524_2322_2120_1F1E);
+        assert_eq!(reply.part_bytes, 0x2D2C_2B2A_2928_2726);
     }
 }
