@@ -35,7 +35,7 @@ impl Machine {
             return Reply::of_panic();
         };
         let (part, part_bytes) = match lent {
-            Lent::Part { start, bytes } => (1 + start as u64, digest(bytes)),
+            Lent::Part { start, bytes } => (start as u64, digest(bytes)),
             _ => (0, digest(&[])),
         };
         Reply {
@@ -168,7 +168,7 @@ mod tests {
             .map(|reply| (reply.part, reply.part_bytes))
             .collect();
         // the buffer of 5 runs down from offset 11,057 of the fourth segment
-        let part = 1 + 3 * 16_384 + 11_055;
+        let part = 3 * 16_384 + 11_055;
         let written = (part, digest(&[3, 2, 1]));
         let none = (0, 0);
         assert_eq!(lent[0], none, "0x42 is not open");

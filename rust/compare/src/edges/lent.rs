@@ -5,14 +5,14 @@ use crate::view::View;
 use exos_kernel::{good, Tables, SEGMENT};
 
 impl<Met: FnMut(Edge)> Meeting<'_, Met> {
-    /// `part` is where the part that is lent starts, plus 1, or 0.
+    /// `part` is where the part that is lent starts, or 0.
     pub(super) fn lent(&mut self, after: &Tables, ram_length: usize, channel: u8, part: u64) {
         if !good(after) || ram_length != SEGMENT * usize::from(after.segments) {
             self.answered(1, part == 0, Edge::LentRefused);
             return;
         }
         let n = View(after).channel(channel).map(|open| open.n);
-        let is_lowest = part > 0 && (part - 1).is_multiple_of(SEGMENT as u64);
+        let is_lowest = part > 0 && part.is_multiple_of(SEGMENT as u64);
         self.at(n.is_none() && part == 0, Edge::LentNotOpen);
         self.at(n == Some(0) && part == 0, Edge::LentEmpty);
         self.at(n > Some(0) && part == 0, Edge::LentSplit);

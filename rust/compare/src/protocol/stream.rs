@@ -111,7 +111,7 @@ pub struct Reply {
     /// The digest of the lent output after the call.
     pub output: u64,
     /// Where the part that is lent of a buffer after the call starts in the
-    /// RAM, plus 1; 0 where nothing is lent.
+    /// RAM; 0, which is in the page zero segment, where nothing is lent.
     pub part: u64,
     /// The digest of that part's bytes.
     pub part_bytes: u64,
