@@ -6,8 +6,9 @@ use crate::edges::ram_length_for;
 use crate::plan::{plan, Plan};
 use crate::player::{Played, Player};
 use crate::protocol::{image_of, Case, Request, IMAGE, MOST_RAM};
+use crate::quietly::is_good;
 use crate::steer::{some_list, some_r, Mood, Steer};
-use exos_kernel::{good, Tables, SEGMENT};
+use exos_kernel::{Tables, SEGMENT};
 use exos_random::Random;
 use exos_sentences::{changed, Change, CALLS};
 
@@ -38,7 +39,7 @@ fn steered(random: &mut Random, plan: Plan) -> Played {
     let mood = plan.mood(random);
     let mut origin = origin(random, plan, mood);
     let tables = origin.tables().clone();
-    if origin.panicked() || !good(&tables) {
+    if origin.panicked() || !is_good(&tables) {
         // no tables to aim by: a status shows that the start or its tables are refused
         origin.make(Request::new(5, 20, &[]));
         return origin.played;
@@ -46,7 +47,7 @@ fn steered(random: &mut Random, plan: Plan) -> Played {
     let case = opening(random, plan, &tables);
     let calls = plan.calls(random);
     let player = Player::of(case).going_on(calls, |present| {
-        let tables = if good(present) { present } else { &tables };
+        let tables = if is_good(present) { present } else { &tables };
         chosen(random, plan, mood, tables)
     });
     player.played

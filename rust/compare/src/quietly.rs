@@ -1,6 +1,7 @@
 //! Calls that may panic: a kernel's panic is a difference and is told as one, so
 //! it writes no message of its own.
 
+use exos_kernel::{good, Tables};
 use std::cell::Cell;
 use std::panic::{self, AssertUnwindSafe};
 use std::sync::Once;
@@ -20,6 +21,11 @@ pub fn quietly<T>(function: impl FnOnce() -> T) -> Option<T> {
     let given = panic::catch_unwind(AssertUnwindSafe(function));
     QUIET.set(false);
     given.ok()
+}
+
+/// Whether the kernel takes tables as good; false where it panics.
+pub fn is_good(tables: &Tables) -> bool {
+    quietly(|| good(tables)).unwrap_or(false)
 }
 
 fn set_hook() {

@@ -3,7 +3,8 @@
 use crate::judge::Difference;
 use crate::machine::Machine;
 use crate::protocol::{tables_of, Case, Image, Reply, Request, IMAGE};
-use exos_kernel::{good, Channel, Device, Tables, SEGMENT};
+use crate::quietly::is_good;
+use exos_kernel::{Channel, Device, Tables, SEGMENT};
 use exoslog::{hex, quoted, Class, Record, LONGEST};
 use std::fmt::Write;
 
@@ -88,7 +89,7 @@ fn answer(reply: &Reply) -> String {
 }
 
 fn tables_in_words(title: &str, tables: &Tables) -> String {
-    let state = if good(tables) { "good" } else { "not good" };
+    let state = if is_good(tables) { "good" } else { "not good" };
     let segments: Vec<_> = tables.list.into_iter().zip(tables.classes).collect();
     let in_list = |row: &u8| {
         let number = tables.list.get(usize::from(*row));

@@ -116,11 +116,11 @@ impl Shared<'_> {
                 let again = format!(
                     "# found again by exos-compare --seed {seed} --first {number} --calls 1 --pairs 1"
                 );
-                let told = match found.program {
-                    Err(Stop::Late(_)) => not_shrunk(case, &found),
-                    _ => shrunk(program, case)?,
+                let text = match found.program {
+                    Err(Stop::Late(_)) => not_shrunk(&again, case, &found),
+                    _ => shrunk(&again, program, case)?,
                 };
-                return Ok(Outcome::Differs(format!("{again}\n{told}")));
+                return Ok(Outcome::Differs(text));
             }
             all.join(&counts);
             let calls = counts.calls();
@@ -131,14 +131,15 @@ impl Shared<'_> {
 }
 
 /// A case to which no reply came in time, up to that request. It is not
-/// shrunk: each attempt would wait as long.
-fn not_shrunk(mut case: Case, found: &Difference) -> String {
+/// shrunk: each attempt would wait as long. `again` tells how it is found again.
+fn not_shrunk(again: &str, mut case: Case, found: &Difference) -> String {
     case.requests.truncate(found.request + 1);
-    format!("# a difference, not shrunk\n{}", report(&case, found))
+    let report = report(&case, found);
+    format!("# a difference, not shrunk\n{again}\n{report}")
 }
 
 /// The least case that shows a difference, as a log in words.
-fn shrunk(program: &mut dyn Answerer, case: Case) -> io::Result<String> {
+fn shrunk(again: &str, program: &mut dyn Answerer, case: Case) -> io::Result<String> {
     let before = counted(case.requests.len(), "record");
     let mut failed = None;
     let case = shrink(case, |case| {
@@ -152,13 +153,13 @@ fn shrunk(program: &mut dyn Answerer, case: Case) -> io::Result<String> {
         return Err(error);
     }
     let Some(found) = Difference::between(program, &case)? else {
-        return Ok("# a difference that does not come again\n".to_string());
+        return Ok(format!(
+            "# a difference that does not come again\n{again}\n"
+        ));
     };
-    let title = format!(
-        "# a difference, shrunk from {before} to {}",
-        case.requests.len()
-    );
-    Ok(format!("{title}\n{}", report(&case, &found)))
+    let (records, report) = (case.requests.len(), report(&case, &found));
+    let title = format!("# a difference, shrunk from {before} to {records}");
+    Ok(format!("{title}\n{again}\n{report}"))
 }
 
 #[cfg(test)]

@@ -12,8 +12,9 @@ mod user;
 mod words;
 
 use crate::protocol::{Reply, Request};
+use crate::quietly::is_good;
 use crate::view::View;
-use exos_kernel::{decode, good, Call, Tables, ROWS_OF_SEGMENTS, SEGMENT};
+use exos_kernel::{decode, Call, Tables, ROWS_OF_SEGMENTS, SEGMENT};
 
 pub use sentences::ram_length_for;
 pub use words::{all_edges, Edge};
@@ -60,7 +61,7 @@ pub fn edges(made: &Made, request: &Request, reply: &Reply, met: impl FnMut(Edge
     meeting.lent(after, ram_length, request.channel_lent(), reply.part);
     let call = decode(request.kind(), request.body());
     let right_length = ram_length == SEGMENT * usize::from(before.segments);
-    let usable = good(before);
+    let usable = is_good(before);
     if let Call::Start { r, list } = call {
         meeting.done(!usable, Edge::StartOnBad);
         meeting.start(r, list, ram_length);
