@@ -4,7 +4,8 @@ use mathlib.Core.Bool.{true, false, _||_, false≢true}
 use mathlib.Core.Logic.{_⊎_, inl, inr, ⊎-elim}
 use Prim.Native.Nat.{ℕ}
 use native.Mathlib.Omega.{arith}
-use Rattle.rows.specs.Laws.Says.{Says, says-eq, says-no, says-and, says-or, says-not, says-as}
+use Rattle.rows.specs.Laws.Lists.{is-false}
+use Rattle.rows.specs.Laws.Says.{Says, says-eq, says-and, says-or, says-not, says-as, says-true}
 use Rattle.kernel.specs.Definition.Tables.{ramSize}
 use Rattle.kernel.specs.Definition.Good.{Sized, Good}
 use Rattle.kernel.specs.Definition.Answers.{gives}
@@ -38,11 +39,11 @@ module _ (t : Tables) (ram output : ℕ) where
 
   -- 1 TABLES: "not for start: tables not good, or RAM length wrong"
   heard-says : (c : Call) → Sized t → Says (isStart c || accepted t ram) (Heard t ram c)
-  heard-says c s = says-or (record { yes = λ e. e; make = λ e. e }) (says-and (good-says t s) (says-eq ram (ramSize t)))
+  heard-says c s = says-or (says-true (isStart c)) (says-and (good-says t s) (says-eq ram (ramSize t)))
 
   unheard : (c : Call) → Sized t → ¬ Heard t ram c → Row t ram output c 1
   unheard c s n =
-      let other : isStart c ≡ false = says-no (record { yes = λ e. e; make = λ e. e }) (λ e. n (inl e)) in
+      let other : isStart c ≡ false = is-false (isStart c) (λ e. n (inl e)) in
       elim (says-either (good-says t s)) [ inl g ↦ ram-wrong other (λ e. n (inr (g, e))) | inr m ↦ tables-bad other m ]
 
   boundary-lowest : Below (Row t ram output boundary) 2 → Lowest (Row t ram output boundary) (onBoundary t)

@@ -16,7 +16,7 @@ use Rattle.rows.specs.Laws.Lists.{where-found, where-absent, neither-below}
 use Rattle.rows.specs.Definition.Channels.{zeroChannel}
 use Rattle.rows.specs.Definition.Devices.{beyondDevices, hasName}
 use Rattle.rows.specs.Definition.Good.{ListGood, Same}
-use Rattle.rows.specs.Laws.Says.{Says, says-lt, says-and, says-as}
+use Rattle.rows.specs.Laws.Says.{Says, says-lt, says-and, says-as, says-true}
 use Rattle.rows.specs.Laws.Good.{same-says}
 use Rattle.rows.specs.declared.Channel.{Channel}
 use Rattle.rows.specs.declared.Device.{Device}
@@ -114,7 +114,7 @@ module _ (t : Tables) (g : Good t) where
   answers-says : (w : Wanted) (d : Device) → Says (hasName (w .name) (w .length) d) ((1 ≤ w .length) × ((d .enabled ≡ true) × Same (d .name) (d .length) (w .name) (w .length)))
   answers-says w d =
       says-and (says-lt 0 (w .length))
-      (says-and (record { yes = λ e. e; make = λ e. e }) (same-says (d .name) (d .length) (w .name) (w .length)))
+      (says-and (says-true (d .enabled)) (same-says (d .name) (d .length) (w .name) (w .length)))
 
   pub enabled-says : (w : Wanted) → Says (ltb (deviceFor t w) (t .known)) ((i : ℕ) × Enabled t w i)
   enabled-says w =

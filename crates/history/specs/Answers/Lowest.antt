@@ -6,10 +6,10 @@ use mathlib.Core.Logic.{_⊎_, inl, inr}
 use Prim.Native.Nat.{ℕ, suc, _≤_, _<_}
 use native.Mathlib.Decide.{decLt}
 use native.Mathlib.Omega.{arith}
-use borrow.Author.Tests.{not-true, leb-true, ltb-true}
+use borrow.Author.Tests.{not-true, ltb-true}
 use lib.Dec.{leb, ltb}
 use Rattle.rows.specs.Laws.Lists.{and-left, and-right}
-use Rattle.rows.specs.Laws.Says.{Says}
+use Rattle.rows.specs.Laws.Says.{Says, says-le, says-lt, says-or}
 use Rattle.kernel.specs.Definition.Answers.{numberOf, granted, gives, Refusal, _when_, unless}
 use Rattle.kernel.specs.declared.Tables.{Tables}
 use Rattle.kernel.specs.declared.Answer.{Answer}
@@ -30,17 +30,10 @@ abbrev pub over : (from : ℕ) → List ℕ → Bool
 over from [] = true
 over from (n ∷ ns) = ltb n from && over from ns
 
-or-either : (a b : Bool) → a || b ≡ true → (a ≡ true) ⊎ (b ≡ true)
-or-either true b e = inl refl
-or-either false b e = inr e
-
 pub clear-none : (from to : ℕ) (ns : List ℕ) → clear from to ns ≡ true → (j : ℕ) → from ≤ j → j < to → ¬ Among j ns
 clear-none from to [] e j a b h = h
 clear-none from to (n ∷ ns) e j a b (inl q) =
-    elim (or-either (ltb n from) (leb to n) (and-left _ (clear from to ns) e)) [
-      | inl x ↦ omega (arith, ltb-true n from x)
-      | inr x ↦ omega (arith, leb-true to n x)
-    ]
+    elim (says-or (says-lt n from) (says-le to n) .yes (and-left _ (clear from to ns) e)) [ inl x ↦ omega arith | inr x ↦ omega arith ]
 clear-none from to (n ∷ ns) e j a b (inr h) = clear-none from to ns (and-right (ltb n from || leb to n) _ e) j a b h
 
 over-none : (from : ℕ) (ns : List ℕ) → over from ns ≡ true → (j : ℕ) → from ≤ j → ¬ Among j ns

@@ -6,12 +6,12 @@ use Prim.Native.Nat.{ℕ, suc, _+_, _-_, _≤_, _<_}
 use native.Mathlib.Nat.{not-suc-le-zero}
 use native.Mathlib.Decide.{decLt, ℕ-discrete}
 use native.Mathlib.Omega.{arith}
-use borrow.Author.Tests.{eq-eqb, ne-eqb, ltb-true}
-use lib.Dec.{eqb, ltb}
+use borrow.Author.Tests.{eq-eqb, ne-eqb}
+use lib.Dec.{eqb}
 use lib.ListN.{length, getD, take, drop, replicate, length-take, length-append}
 use lib.Seq.{take-append-le, take-take, take-set-le, getD-set-other}
 use Rattle.rows.specs.Definition.Lists.{at, without}
-use Rattle.rows.specs.Laws.Lists.{and-left, neither-below}
+use Rattle.rows.specs.Laws.Lists.{neither-below}
 use Rattle.rows.specs.Definition.Channels.{zeroChannel, sumOf}
 use Rattle.rows.specs.Laws.ChannelRows.{from, from-low, from-high, without-at, sum-without}
 use Rattle.rows.specs.declared.Channel.{Channel}
@@ -31,14 +31,15 @@ use Rattle.kernel.specs.Definition.Reset.{bit4, bit5, bit6, emptying, restoring
 use Rattle.kernel.specs.Definition.Step.{ramOpened, ramClosed, ramReset, segmentAt}
 use Rattle.kernel.specs.Laws.Chains.{good-chain, chain-shift}
 use Rattle.kernel.specs.Laws.Changes.{Opened, opens-row, opens-total, Closed, Linked}
-use Rattle.kernel.specs.Laws.Facts.{room-small, reach-small}
+use Rattle.kernel.specs.Laws.Facts.{room-small}
 use Rattle.kernel.specs.Laws.Records.{record-before, record-within}
 use Rattle.kernel.specs.Laws.KeptReset.{emptying-opened}
 use Rattle.kernel.specs.Laws.Ready.{Ready}
 use Rattle.kernel.specs.declared.Tables.{Tables}
 use Rattle.history.specs.Definition.Runs.{patched}
 use Rattle.history.specs.Answers.Found.{open-at}
-use Rattle.history.specs.Bytes.Patched.{patched-in, patched-low, patched-high, put-at-is}
+use Rattle.history.specs.Bytes.Patched.{patched-not, patched-by, put-at-is}
+use Rattle.history.specs.Bytes.Steps.{store-fits}
 use Rattle.history.specs.Bytes.Places.{place-same, index-short, reach-users, off-line}
 
 -- the number of the channel in row i, and byte k of its buffer where it lies
@@ -93,16 +94,11 @@ module _ (t : Tables) (ram : List ℕ) (r : Ready t (length ram)) (f : ℕ → �
     write-here k l =
         let j = channelAt t channel in
         let w = record-within t j (r .good) h in
-        elim (decLt k offset) [
-          | yes a ↦ off k l (λ m n e. omega arith) ∙ sym (patched-low offset bytes k _ a)
-          | no a ↦ elim (decLt k (offset + length bytes)) [
-            | yes b ↦
-                let e : bufferAt t j + offset + (k - offset) ≡ bufferAt t j + k = omega arith in
-                rw e at (held-at (t .chain) (t .room) (totalOf t) ram chained bytes (bufferAt t j + offset) (omega arith) (k - offset) (omega arith))
-                ∙ sym (patched-in offset bytes k _ (omega arith) b)
-            | no b ↦ off k l (λ m n e. omega arith) ∙ sym (patched-high offset bytes k _ (omega arith))
-          ]
-        ]
+        patched-by offset bytes k (byteAt t ram j k) (byteAt t written-ram j k)
+        (λ a b.
+        let e : bufferAt t j + offset + (k - offset) ≡ bufferAt t j + k = omega arith in
+        rw e at (held-at (t .chain) (t .room) (totalOf t) ram chained bytes (bufferAt t j + offset) (omega arith) (k - offset) (omega arith)))
+        (λ out. off k l (λ m n e. out (omega arith) (omega arith)))
       where
         off : (k : ℕ) → k < sizeAt t (channelAt t channel) → ((m : ℕ) → m < length bytes → k ≡ offset + m → ⊥)
             → byteAt t (putLine (t .chain) (t .room) ram (bufferAt t (channelAt t channel) + offset) bytes) (channelAt t channel) k ≡ byteAt t ram (channelAt t channel) k
@@ -240,18 +236,10 @@ module _ (t : Tables) (ram : List ℕ) (r : Ready t (length ram)) (f : ℕ → �
   store-law row offset bytes m h i a k b =
       let x = placeOf (t .chain) (t .room) (bufferAt t i + k) in
       let at = segmentAt row + offset in
-      let known : row < t .segments = ltb-true _ _ (and-left (ltb row (t .segments)) _ m) in
-      let fits : at + length bytes ≤ length ram = omega (arith, reach-small t (r .good) row, r .size) in
-      put-at-is ram at bytes x fits
-      ∙ elim (decLt x at) [
-        | yes l ↦ patched-low at bytes x (getD ram x 0) l
-        | no l ↦ elim (decLt x (at + length bytes)) [
-          | yes q ↦
-              let there : segmentAt row + (x - segmentAt row) ≡ x = omega arith in
-              absurd (off-line t (r .good) row (x - segmentAt row) (reach-users t row (x - segmentAt row) m (omega arith)) (bufferAt t i + k) (inside i k a b) there)
-          | no q ↦ patched-high at bytes x (getD ram x 0) (omega arith)
-        ]
-      ]
+      put-at-is ram at bytes x (store-fits t ram row offset (length bytes) r m h)
+      ∙ patched-not at bytes x (getD ram x 0) (λ low high.
+      let there : segmentAt row + (x - segmentAt row) ≡ x = omega arith in
+      off-line t (r .good) row (x - segmentAt row) (reach-users t row (x - segmentAt row) m (omega arith)) (bufferAt t i + k) (inside i k a b) there)
       ∙ holds i a k b
 
   -- reset drops all buffers or keeps them

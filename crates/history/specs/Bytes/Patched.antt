@@ -14,20 +14,24 @@ pub patched-in : (offset : ℕ) (bytes : List ℕ) (k old : ℕ) → offset ≤ 
 unfolding patched
 patched-in offset bytes k old h l = rw (le-leb _ _ h, lt-ltb _ _ l)
 
-pub patched-low : (offset : ℕ) (bytes : List ℕ) (k old : ℕ) → k < offset → patched offset bytes k old ≡ old
-unfolding patched
-patched-low offset bytes k old h = rw (lt-leb _ _ h)
-
-pub patched-high : (offset : ℕ) (bytes : List ℕ) (k old : ℕ) → offset + length bytes ≤ k → patched offset bytes k old ≡ old
-unfolding patched
-patched-high offset bytes k old h =
-    elim (decLe offset k) [ yes l ↦ rw (le-leb _ _ l, le-ltb _ _ h) | no l ↦ rw (lt-leb offset k (omega arith)) ]
-
 pub patched-not : (offset : ℕ) (bytes : List ℕ) (k old : ℕ) → (offset ≤ k → k < offset + length bytes → ⊥) → patched offset bytes k old ≡ old
+unfolding patched
 patched-not offset bytes k old f =
-    elim (decLt k offset) [
-      | yes l ↦ patched-low offset bytes k old l
-      | no l ↦ elim (decLt k (offset + length bytes)) [ yes q ↦ absurd (f (omega arith) q) | no q ↦ patched-high offset bytes k old (omega arith) ]
+    elim (decLe offset k) [
+      | yes l ↦ elim (decLt k (offset + length bytes)) [ yes q ↦ absurd (f l q) | no q ↦ rw (le-leb offset k l, le-ltb k (offset + length bytes) (omega arith)) ]
+      | no l ↦ rw (lt-leb offset k (omega arith))
+    ]
+
+-- what is the byte put there, and the old one elsewhere
+pub patched-by : (offset : ℕ) (bytes : List ℕ) (k old x : ℕ) → (offset ≤ k → k < offset + length bytes → x ≡ getD bytes (k - offset) 0)
+    → ((offset ≤ k → k < offset + length bytes → ⊥) → x ≡ old) → x ≡ patched offset bytes k old
+patched-by offset bytes k old x new same =
+    elim (decLe offset k) [
+      | yes l ↦ elim (decLt k (offset + length bytes)) [
+        | yes q ↦ new l q ∙ sym (patched-in offset bytes k old l q)
+        | no q ↦ same (λ _ b. q b) ∙ sym (patched-not offset bytes k old (λ _ b. q b))
+      ]
+      | no l ↦ same (λ a _. l a) ∙ sym (patched-not offset bytes k old (λ a _. l a))
     ]
 
 pub put-at-is : (ram : List ℕ) (here : ℕ) (xs : List ℕ) (i : ℕ) → here + length xs ≤ length ram → getD (putAt ram here xs) i 0 ≡ patched here xs i (getD ram i 0)
@@ -36,7 +40,7 @@ put-at-is ram here xs i fits =
     let rest = drop (here + length xs) ram in
     let n : length (take here ram) ≡ here = omega (arith, length-take here ram) in
     elim (decLt i here) [
-      | yes l ↦ List·getD-append (take here ram) (xs ++ rest) 0 i (omega arith) ∙ getD-take here ram i 0 l ∙ sym (patched-low here xs i (getD ram i 0) l)
+      | yes l ↦ List·getD-append (take here ram) (xs ++ rest) 0 i (omega arith) ∙ getD-take here ram i 0 l ∙ sym (patched-not here xs i (getD ram i 0) (λ a b. omega arith))
       | no l ↦
           let e : length (take here ram) + (i - here) ≡ i = omega arith in
           let past : getD (take here ram ++ (xs ++ rest)) i 0 ≡ getD (xs ++ rest) (i - here) 0 = rw e at (getD-append-add (take here ram) (xs ++ rest) (i - here) 0) in
@@ -47,6 +51,6 @@ put-at-is ram here xs i fits =
                 let z : here + length xs + (i - here - length xs) ≡ i = omega arith in
                 past ∙ rw f at (getD-append-add xs rest (i - here - length xs) 0)
                 ∙ rw z at (getD-drop (here + length xs) ram (i - here - length xs) 0)
-                ∙ sym (patched-high here xs i (getD ram i 0) (omega arith))
+                ∙ sym (patched-not here xs i (getD ram i 0) (λ a b. omega arith))
           ]
     ]

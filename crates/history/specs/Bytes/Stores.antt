@@ -3,16 +3,15 @@ use mathlib.Core.Path.{_≡_, refl, sym, ap, _∙_}
 use mathlib.Core.Bool.{Bool, true, false, cond, _||_}
 use mathlib.Core.List.{List, _++_}
 use Prim.Native.Nat.{ℕ, _+_, _-_, _≤_, _<_}
-use native.Mathlib.Decide.{decLt, ℕ-discrete}
+use native.Mathlib.Decide.{ℕ-discrete}
 use native.Mathlib.Omega.{arith}
 use borrow.Author.Tests.{eq-eqb, ne-eqb, ltb-true}
 use lib.Dec.{eqb, ltb}
-use lib.ListN.{length, getD, take, replicate, length-append, length-replicate, length-take}
+use lib.ListN.{length, getD, replicate, length-append, length-replicate}
 use Rattle.names.specs.Definition.Words.{wordOf}
 use Rattle.rows.specs.Definition.Lists.{at}
 use Rattle.rows.specs.Laws.Lists.{and-left}
 use Rattle.rows.specs.Definition.Channels.{zeroChannel}
-use Rattle.rows.specs.Laws.Counts.{first-found}
 use Rattle.rows.specs.declared.Channel.{Channel}
 use Rattle.line.specs.Laws.Chains.{Chain}
 use Rattle.line.specs.Definition.Line.{placeOf, putLine, headingOf, afterOpen, afterLink}
@@ -26,6 +25,7 @@ use Rattle.kernel.specs.Definition.Tables.{rowOf, channelAt}
 use Rattle.kernel.specs.Definition.Line.{totalOf, recordAt, sizeAt, bufferAt, opening}
 use Rattle.kernel.specs.Definition.Segments.{mayReach, reachOf}
 use Rattle.kernel.specs.Definition.Reset.{bit4, bit5}
+use Rattle.kernel.specs.Definition.Good.{Good}
 use Rattle.kernel.specs.Definition.Calls.{Call}
 use Rattle.kernel.specs.Definition.Step.{ramOpened, ramClosed, segmentAt, ramAfter}
 use Rattle.kernel.specs.Laws.Chains.{good-chain, chain-shift}
@@ -37,31 +37,23 @@ use Rattle.kernel.specs.Laws.Ready.{Ready}
 use Rattle.kernel.specs.declared.Tables.{Tables}
 use Rattle.history.specs.Definition.Runs.{patched, stored}
 use Rattle.history.specs.Definition.Users.{Users}
+use Rattle.history.specs.Answers.Found.{in-list}
 use Rattle.history.specs.Bytes.Places.{off-line, off-room, users-small}
-use Rattle.history.specs.Bytes.Patched.{patched-in, patched-low, patched-high, put-at-is}
+use Rattle.history.specs.Bytes.Patched.{patched-in, patched-not, patched-by, put-at-is}
 use Rattle.history.specs.Bytes.Steps.{store-fits}
 
 -- the offset taken with the segment's start or without
 patched-shift : (start offset : ℕ) (bytes : List ℕ) (k old : ℕ) → patched (start + offset) bytes (start + k) old ≡ patched offset bytes k old
 patched-shift start offset bytes k old =
-    elim (decLt k offset) [
-      | yes l ↦ patched-low (start + offset) bytes (start + k) old (omega arith) ∙ sym (patched-low offset bytes k old l)
-      | no l ↦ elim (decLt k (offset + length bytes)) [
-        | yes q ↦
-            let e : start + k - (start + offset) ≡ k - offset = omega arith in
-            patched-in (start + offset) bytes (start + k) old (omega arith) (omega arith)
-            ∙ ap (λ (x : ℕ). getD bytes x 0) e
-            ∙ sym (patched-in offset bytes k old (omega arith) q)
-        | no q ↦ patched-high (start + offset) bytes (start + k) old (omega arith) ∙ sym (patched-high offset bytes k old (omega arith))
-      ]
-    ]
+    patched-by offset bytes k old (patched (start + offset) bytes (start + k) old)
+    (λ a b.
+    let e : start + k - (start + offset) ≡ k - offset = omega arith in
+    patched-in (start + offset) bytes (start + k) old (omega arith) (omega arith) ∙ ap (λ (x : ℕ). getD bytes x 0) e)
+    (λ out. patched-not (start + offset) bytes (start + k) old (λ a b. out (omega arith) (omega arith)))
 
 -- two segments that are listed are in two rows
-one-segment : (t : Tables) (r : ℕ) → Ready t r → (a b : ℕ) → rowOf t a ≡ rowOf t b → rowOf t a < t .segments → a ≡ b
-one-segment t n r a b e h =
-    let xs = take (t .segments) (t .list) in
-    let l : length xs ≡ t .segments = omega (arith, length-take (t .segments) (t .list), r .good .sized .list, r .good .list .most) in
-    sym (first-found a xs (omega arith)) ∙ ap (λ (i : ℕ). getD xs i 0) e ∙ first-found b xs (omega arith)
+one-segment : (t : Tables) → Good t → (a b : ℕ) → rowOf t a ≡ rowOf t b → rowOf t a < t .segments → a ≡ b
+one-segment t g a b e h = sym (in-list t g a h .number) ∙ ap (at (t .list)) e ∙ in-list t g b (rw e at h) .number
 
 -- t the tables before the call, u those after it
 module _ (t u : Tables) (ram : List ℕ) (r : Ready t (length ram)) (s : Ready u (length ram)) (row offset : ℕ) (before : Users t row offset) (later : Users u row offset) where
@@ -134,16 +126,10 @@ store-user t ram r a segment o offset bytes user m h =
       | yes q ↦ rw (eq-eqb a segment q) (rw q (patched-shift (segmentAt (rowOf t segment)) o bytes offset (getD ram x 0)))
       | no q ↦
           let known : rowOf t a < t .segments = ltb-true _ _ (and-left (ltb (rowOf t a) (t .segments)) _ m) in
-          let apart : rowOf t a ≡ rowOf t segment → ⊥ = λ e. q (one-segment t (length ram) r a segment e known) in
+          let apart : rowOf t a ≡ rowOf t segment → ⊥ = λ e. q (one-segment t (r .good) a segment e known) in
           let small = users-small t (r .good) (rowOf t segment) offset user in
           let reach = reach-small t (r .good) (rowOf t a) in
-          rw (ne-eqb a segment q)
-          (elim (decLt (rowOf t segment) (rowOf t a)) [
-            | yes l ↦ patched-low y bytes x (getD ram x 0) (omega arith)
-            | no l ↦
-                let more : rowOf t a < rowOf t segment = elim (decLt (rowOf t a) (rowOf t segment)) [ yes w ↦ w | no w ↦ absurd (apart (omega arith)) ] in
-                patched-high y bytes x (getD ram x 0) (omega arith)
-          ])
+          rw (ne-eqb a segment q) (patched-not y bytes x (getD ram x 0) (λ low high. apart (omega arith)))
     ]
 
 -- every done call makes of the byte what `stored` says

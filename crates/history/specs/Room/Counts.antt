@@ -197,14 +197,14 @@ held-size t g =
     sum-tally (t .segments) c (λ i h. rw (getD-take (t .held) (t .chain) i 0 (omega arith)) (g .chain .rows i (omega arith))) in
     sym (sum-same (t .segments) (λ row. tally row c) (λ row. timesHeld (classAt t row)) (g .chain .exact)) ∙ all ∙ l
 
+pub or-none : (b : Bool) → b || false ≡ b
+or-none true = refl
+or-none false = refl
+
 -- with a segment shared it may take no further one
 pub offered-shared : (t : Tables) → Good t → sharing t ≡ true → countIn (t .segments) (offered t) ≡ t .held
 offered-shared t g s =
-    sum-same (t .segments) (λ row. cond (offered t row) 1 0) (λ row. cond (inSystem t row) 1 0) (λ row h. rw s (go (inSystem t row))) ∙ held-size t g
-  where
-    go : (b : Bool) → cond {A = ℕ} (b || false) 1 0 ≡ cond b 1 0
-    go true = refl
-    go false = refl
+    sum-same (t .segments) (λ row. cond (offered t row) 1 0) (λ row. cond (inSystem t row) 1 0) (λ row h. rw (s, or-none (inSystem t row))) ∙ held-size t g
 
 -- with none shared it may take the free ones
 pub offered-apart : (t : Tables) → Good t → sharing t ≡ false → countIn (t .segments) (offered t) ≡ t .held + countOf FREE t
@@ -217,9 +217,5 @@ offered-apart t g s =
     go : (c : ℕ) → cond {A = ℕ} (inChain c || eqb c FREE) 1 0 ≡ timesHeld c + one FREE c
     go c = elim (ℕ-discrete c FREE) [
       | yes q ↦ rw q
-      | no q ↦ rw (ne-eqb c FREE q) (by (inChain c))
+      | no q ↦ rw (ne-eqb c FREE q, or-none (inChain c)) (omega arith)
     ]
-      where
-        by : (b : Bool) → cond {A = ℕ} (b || false) 1 0 ≡ cond b 1 0 + 0
-        by true = refl
-        by false = refl

@@ -1,6 +1,6 @@
 -- The room rule holds exactly when the records have a layout in the places held outside the user's part and, if nothing is shared, in the free segments.
 use mathlib.Core.Path.{_≡_, refl, sym, _∙_}
-use mathlib.Core.Bool.{Bool, true, false, cond, _&&_, _||_}
+use mathlib.Core.Bool.{Bool, true, false, _&&_}
 use mathlib.Core.Logic.{_↔_}
 use mathlib.Core.List.{List}
 use Prim.Native.Nat.{ℕ, _+_, _-_, _*_, _≤_, _<_}
@@ -23,7 +23,7 @@ use Rattle.kernel.specs.declared.Tables.{Tables}
 use Rattle.history.specs.Room.Sums.{total}
 use Rattle.history.specs.Definition.Layout.{Layout}
 use Rattle.history.specs.Definition.Places.{countIn, offered, inSystem, Outside}
-use Rattle.history.specs.Room.Counts.{outside-exists, offered-shared, offered-apart}
+use Rattle.history.specs.Room.Counts.{outside-exists, or-none, offered-shared, offered-apart}
 use Rattle.history.specs.Room.Bounds.{line-sum, top-in, top-alone}
 use Rattle.history.specs.Definition.Room.{Clear}
 
@@ -84,12 +84,9 @@ module _ (t : Tables) (g : Good t) (r : ℕ) (small : r ≤ 16384) (lengths : Li
       shared true e q = e
       shared false e q = absurd (shares-no t (body t g) e (rw (g .chain .last (t .segments - 1) (omega (arith, g .list .least)) q) q))
 
-      one : (b : Bool) → b || false ≡ true → 1 ≤ cond {A = ℕ} b 1 0
-      one true e = omega arith
-      one false e = absurd (let z : _≡_ {A = ℕ} 0 1 = cc in omega arith)
-
       alone : (row : ℕ) → sharing t ≡ true → row < t .segments → offered t row ≡ true → classAt t (t .segments - 1) ≡ SHARED → row ≡ t .segments - 1
       alone row s b c q =
-          let (i, w, e) = chain-exactly t g .all row b (one (inSystem t row) (rw s at c)) in
+          let held : inSystem t row ≡ true = sym (or-none (inSystem t row)) ∙ (rw s at c) in
+          let (i, w, e) = chain-exactly t g .all row b (rw held (omega arith)) in
           let z : i ≡ 0 = omega (arith, top-alone t g q) in
           sym e ∙ rw z (g .chain .starts)

@@ -1,12 +1,15 @@
 -- Good but for the chain's length and the bound on the user boundary: what holds between two steps of a change of chain.
-use mathlib.Core.Path.{_≡_, refl}
+use mathlib.Core.Path.{_≡_, refl, sym, _∙_}
 use mathlib.Core.List.{List}
-use Prim.Native.Nat.{ℕ, _+_, _≤_, _<_}
+use Prim.Native.Nat.{ℕ, _+_, _-_, _≤_, _<_}
 use native.Mathlib.Omega.{arith}
-use lib.ListN.{length}
+use lib.ListN.{length, take, length-take}
+use lib.Seq.{getD-take}
+use Rattle.rows.specs.Definition.Lists.{firstOf}
 use Rattle.rows.specs.Definition.Classes.{FREE, SHARED}
 use Rattle.rows.specs.Definition.Sizes.{chainLength}
 use Rattle.rows.specs.Definition.Good.{ListGood, ClassesGood, ChainGood, RoomGood, ChannelsGood, DevicesGood, DefaultGood}
+use Rattle.rows.specs.Laws.Counts.{first-found}
 use Rattle.rows.specs.Laws.ChainRows.{counted}
 use Rattle.rows.specs.declared.Channel.{Channel}
 use Rattle.rows.specs.declared.Device.{Device}
@@ -62,6 +65,18 @@ pub body-counted : (t : Tables) → Body t → t .held + countOf FREE t < t .seg
 body-counted t b =
     counted (t .segments) (t .classes) (t .chain) (t .held) (b .sized .classes) (b .sized .chain) (omega (arith, b .list .least)) (b .list .most)
     (b .classes) (b .chain)
+
+-- the chain's last row is one of the list
+pub last-known : (t : Tables) → Body t → lastRow t < t .segments
+last-known t b = b .chain .rows (t .held - 1) (omega (arith, b .chain .holds))
+
+-- the first row of a class has it
+pub first-class : (t : Tables) → Body t → (class : ℕ) → firstOf class (take (t .segments) (t .classes)) < t .segments
+    → classAt t (firstOf class (take (t .segments) (t .classes))) ≡ class
+first-class t b class h =
+    let cs = take (t .segments) (t .classes) in
+    sym (getD-take (t .segments) (t .classes) (firstOf class cs) 0 h)
+    ∙ first-found class cs (omega (arith, length-take (t .segments) (t .classes), b .sized .classes, b .list .most))
 
 -- a body with a part of it anew
 pub body-segments : (t : Tables) (classes : List ℕ) (held : ℕ) (chain : List ℕ) (user : ℕ) → length classes ≡ 32 → length chain ≡ 32

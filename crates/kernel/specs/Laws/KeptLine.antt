@@ -13,13 +13,13 @@ use Rattle.rows.specs.Definition.Classes.{FREE, SHARED}
 use Rattle.rows.specs.Definition.Channels.{zeroChannel, sumOf}
 use Rattle.rows.specs.Definition.Sizes.{chainLength, boundaryAt}
 use Rattle.rows.specs.Laws.Sizes.{length-mono, edge-falls, chain-most}
-use Rattle.rows.specs.Laws.Counts.{first-found, first-none}
+use Rattle.rows.specs.Laws.Counts.{first-none}
 use Rattle.rows.specs.Laws.ChannelRows.{sum-without, sum-set, channels-less, channels-more, length-without}
 use Rattle.rows.specs.declared.Channel.{Channel}
 use Rattle.kernel.specs.Definition.Tables.{SEGMENT, classAt, countOf, sharing, lastRow, withChannels}
 use Rattle.kernel.specs.Definition.Line.{totalOf, grown, roomFor, opening, closing}
 use Rattle.kernel.specs.Definition.Good.{Good}
-use Rattle.kernel.specs.Laws.Body.{Shares, Body, body, whole, body-channels, keeps-total}
+use Rattle.kernel.specs.Laws.Body.{Shares, Body, body, whole, last-known, first-class, body-channels, keeps-total}
 use Rattle.kernel.specs.Laws.Facts.{no-shorter}
 use Rattle.kernel.specs.Laws.Grow.{grown-body, grown-rest}
 use Rattle.kernel.specs.Laws.Shrink.{cut}
@@ -28,18 +28,16 @@ use Rattle.kernel.specs.declared.Tables.{Tables}
 -- a segment is shared exactly if the chain's last is
 pub shares-yes : (t : Tables) → Body t → sharing t ≡ true → Shares t
 shares-yes t b e =
-    let cs = take (t .segments) (t .classes) in
-    let row = firstOf SHARED cs in
+    let row = firstOf SHARED (take (t .segments) (t .classes)) in
     let h : row < t .segments = ltb-true _ _ e in
-    let five : classAt t row ≡ SHARED =
-    sym (getD-take (t .segments) (t .classes) row 0 h) ∙ first-found SHARED cs (omega (arith, length-take (t .segments) (t .classes), b .sized .classes, b .list .most)) in
+    let five : classAt t row ≡ SHARED = first-class t b SHARED h in
     rw (b .chain .last row h five) five
 
 pub shares-no : (t : Tables) → Body t → sharing t ≡ false → Shares t → ⊥
 shares-no t b f e =
     let cs = take (t .segments) (t .classes) in
     let h : t .segments ≤ firstOf SHARED cs = ltb-false _ _ f in
-    let r : lastRow t < t .segments = b .chain .rows (t .held - 1) (omega (arith, b .chain .holds)) in
+    let r : lastRow t < t .segments = last-known t b in
     let l : length cs ≡ t .segments = omega (arith, length-take (t .segments) (t .classes), b .sized .classes, b .list .most) in
     first-none SHARED cs (omega arith) (lastRow t) (omega arith) (getD-take (t .segments) (t .classes) (lastRow t) 0 r ∙ e)
 

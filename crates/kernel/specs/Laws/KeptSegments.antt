@@ -8,27 +8,24 @@ use lib.ListN.{take, set, length-set, length-take}
 use lib.Seq.{getD-set-same, getD-set-other, getD-take}
 use Rattle.rows.specs.Definition.Lists.{at}
 use Rattle.rows.specs.Definition.Classes.{FREE, SYSTEM, SHARED, timesHeld}
-use Rattle.rows.specs.Laws.Counts.{tally-some, first-found}
+use Rattle.rows.specs.Laws.Counts.{tally-some}
 use Rattle.rows.specs.Laws.ChainRows.{held-yes, classes-set, exact-set}
 use Rattle.kernel.specs.Definition.Tables.{classAt, lowestFree, lastRow, withSegments}
 use Rattle.kernel.specs.Definition.Line.{boundaryOf}
 use Rattle.kernel.specs.Definition.Segments.{classFor, granting, sharingLast, freeing, bounding}
 use Rattle.kernel.specs.Definition.Good.{Good}
-use Rattle.kernel.specs.Laws.Body.{Shares, Body, body, whole, body-segments}
+use Rattle.kernel.specs.Laws.Body.{Shares, Body, body, whole, last-known, first-class, body-segments}
 use Rattle.kernel.specs.declared.Tables.{Tables}
 
 module _ (t : Tables) (b : Body t) where
   -- the chain's last row: its class is system or shared, and it is not page zero
-  last-known : lastRow t < t .segments
-  last-known = b .chain .rows (t .held - 1) (omega (arith, b .chain .holds))
-
   last-held : 1 ≤ timesHeld (classAt t (lastRow t))
   last-held =
       let holds = b .chain .holds in
       let most = b .chain .most in
       omega (
         arith,
-        b .chain .exact (lastRow t) last-known,
+        b .chain .exact (lastRow t) (last-known t b),
         tally-some (lastRow t) (take (t .held) (t .chain)) (t .held - 1) (omega (arith, length-take (t .held) (t .chain), b .sized .chain))
             (getD-take (t .held) (t .chain) (t .held - 1) 0 (omega arith)),
       )
@@ -98,9 +95,7 @@ unfolding granting
 granting-keeps t caller g h =
     let b = body t g in
     let row = lowestFree t in
-    let free : classAt t row ≡ FREE =
-    sym (getD-take (t .segments) (t .classes) row 0 h)
-    ∙ first-found FREE (take (t .segments) (t .classes)) (omega (arith, length-take (t .segments) (t .classes), g .sized .classes, g .list .most)) in
+    let free : classAt t row ≡ FREE = first-class t b FREE h in
     let k = class-outside caller in
     whole _ (body-outside t b row (classFor caller) h (omega (arith, free)) (rw free) (k .some) (k .most) (k .out)) (g .line) (g .user .most)
 

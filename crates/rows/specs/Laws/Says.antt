@@ -114,5 +114,8 @@ says-then {a} {b} f g = record {
   make = λ h. and-both a b (f .make (h .0)) (g (h .0) .make (h .1));
 }
 
+pub says-true : (b : Bool) → Says b (b ≡ true)
+says-true b = record { yes = λ e. e; make = λ e. e }
+
 pub says-false : (b : Bool) → Says (not b) (b ≡ false)
 says-false b = record { yes = not-true b; make = λ e. rw e }
