@@ -18,7 +18,8 @@ use Rattle.kernel.specs.Definition.Line.{recordAt, sizeAt, shrunk, closi
 use Rattle.kernel.specs.Definition.Answers.{gives}
 use Rattle.kernel.specs.Definition.Calls.{onClose, close}
 use Rattle.kernel.specs.Definition.Step.{completed, result, ramClosed}
-use Rattle.kernel.specs.Laws.Facts.{Fit, fit}
+use Rattle.kernel.specs.Within.{Fit}
+use Rattle.kernel.specs.Laws.Facts.{fit}
 use Rattle.kernel.specs.Laws.Chains.{good-chain}
 use Rattle.kernel.specs.Laws.Records.{record-within}
 use Rattle.kernel.specs.declared.Tables.{Tables}

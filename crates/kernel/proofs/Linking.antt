@@ -23,7 +23,8 @@ use Rattle.kernel.specs.Definition.Devices.{linking}
 use Rattle.kernel.specs.Definition.Answers.{gives}
 use Rattle.kernel.specs.Definition.Calls.{link, onLink}
 use Rattle.kernel.specs.Definition.Step.{completed, result}
-use Rattle.kernel.specs.Laws.Links.{Links, roomToLink, linking-room, linking-held, linking-chain}
+use Rattle.kernel.specs.Within.{Links, roomToLink}
+use Rattle.kernel.specs.Laws.Links.{linking-room, linking-held, linking-chain}
 use Rattle.kernel.specs.declared.Tables.{Tables}
 use Rattle.kernel.specs.declared.Answer.the-variants.{Done, BadName, Full, NoRoom}
 

@@ -31,7 +31,8 @@ use Rattle.kernel.specs.Definition.Names.{unitOr, wantedBy}
 use Rattle.kernel.specs.Definition.Answers.{gives}
 use Rattle.kernel.specs.Definition.Calls.{«open», onOpen, onOpenNamed, onOpenTo}
 use Rattle.kernel.specs.Definition.Step.{Result, completed, result, ramOpened}
-use Rattle.kernel.specs.Laws.Opens.{New, Fits, onOpenRow, opening-held, opening-row, opening-chain}
+use Rattle.kernel.specs.Within.{New, Fits, onOpenRow}
+use Rattle.kernel.specs.Laws.Opens.{opening-held, opening-row, opening-chain}
 use Rattle.kernel.specs.Laws.Wants.{parts-few, meant}
 use Rattle.kernel.specs.declared.Tables.{Tables}
 use Rattle.kernel.specs.declared.Wanted.{Wanted}

@@ -20,7 +20,8 @@ use Rattle.kernel.specs.Definition.Reset.{otherBits, bit5, bit6, closesA
 use Rattle.kernel.specs.Definition.Answers.{gives}
 use Rattle.kernel.specs.Definition.Calls.{onReset, reset}
 use Rattle.kernel.specs.Definition.Step.{completed, result, ramReset}
-use Rattle.kernel.specs.Laws.Facts.{Fit, fit}
+use Rattle.kernel.specs.Within.{Fit}
+use Rattle.kernel.specs.Laws.Facts.{fit}
 use Rattle.kernel.specs.Laws.Chains.{good-chain}
 use Rattle.kernel.specs.Laws.KeptReset.{restored-keeps}
 use Rattle.kernel.specs.declared.Tables.{Tables}

@@ -9,7 +9,7 @@ use Rattle.rows.specs.Definition.Lists.{at}
 use Rattle.rows.specs.Definition.Classes.{FREE, USER, SHARED}
 use Rattle.kernel.specs.Definition.Tables.{withSegments}
 use Rattle.kernel.specs.Definition.Line.{oneLess, shrunk}
-use Rattle.kernel.specs.Laws.Facts.{Fit}
+use Rattle.kernel.specs.Within.{Fit}
 use Rattle.kernel.specs.declared.Tables.{Tables}
 
 -- the last segment's row, from the chain's end as the code widens it

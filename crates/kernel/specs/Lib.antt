@@ -1,4 +1,5 @@
--- The definition, and the laws about it.
+-- The definition, words for functions within the calls, the ten cases, and laws.
 pub mod Definition
+pub mod Within
 pub mod Cases
 pub mod Laws

@@ -11,7 +11,7 @@ ghost use Rattle.kernel.specs.Definition.Devices.{linking};
 ghost use Rattle.kernel.specs.Definition.Calls.{onLink};
 ghost use Rattle.kernel.specs.Definition.Calls as calls;
 ghost use Rattle.kernel.specs.Definition.Step.{step, completed, result};
-ghost use Rattle.kernel.specs.Laws.Links.{Links, roomToLink};
+ghost use Rattle.kernel.specs.Within.{Links, roomToLink};
 use super::Answer;
 use super::Outcome;
 use super::Tables;

@@ -12,7 +12,7 @@ ghost use Rattle.kernel.specs.Definition.Names.{unitOr, wantedBy};
 ghost use Rattle.kernel.specs.Definition.Calls.{onOpen, onOpenNamed, onOpenTo};
 ghost use Rattle.kernel.specs.Definition.Calls as calls;
 ghost use Rattle.kernel.specs.Definition.Step.{step, completed, result};
-ghost use Rattle.kernel.specs.Laws.Opens.{New, Fits, onOpenRow};
+ghost use Rattle.kernel.specs.Within.{New, Fits, onOpenRow};
 use super::Answer;
 use super::Outcome;
 use super::Tables;

@@ -2,7 +2,7 @@
 ghost use mathlib.Core.Path.{_≡_};
 ghost use Prim.Native.Nat.{_<_};
 ghost use Rattle.kernel.specs.Definition.Line.{oneLess, shrunk};
-ghost use Rattle.kernel.specs.Laws.Facts.{Fit};
+ghost use Rattle.kernel.specs.Within.{Fit};
 use super::Tables;
 use rows::numbers::wide;
 use rows::segments::FREE;

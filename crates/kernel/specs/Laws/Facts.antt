@@ -15,6 +15,7 @@ use Rattle.kernel.specs.Definition.Tables.{classAt}
 use Rattle.kernel.specs.Definition.Line.{totalOf}
 use Rattle.kernel.specs.Definition.Segments.{reachOf}
 use Rattle.kernel.specs.Definition.Good.{Good}
+use Rattle.kernel.specs.Within.{Fit}
 use Rattle.kernel.specs.declared.Tables.{Tables}
 
 -- "the chain below is exactly the system and shared segments without a repeat", as a reader says it
@@ -49,16 +50,6 @@ reach-small t g row =
       | yes q ↦ rw (eq-eqb _ _ q) (user-small t g)
       | no q ↦ rw (ne-eqb _ _ q) (omega arith)
     ]
-
--- what the code of the calls needs: the counts are within the arrays, and the chain's entries are rows
-pub record Fit (t : Tables) : Type 0 where
-  pub one : 1 ≤ t .segments
-  pub segments : t .segments ≤ 32
-  pub holds : 1 ≤ t .held
-  pub held : t .held ≤ 32
-  pub rows : (i : ℕ) → i < t .held → at (t .chain) i < 32
-  pub opened : t .opened ≤ 32
-  pub known : t .known ≤ 16
 
 pub fit : (t : Tables) → Good t → Fit t
 fit t g = record {

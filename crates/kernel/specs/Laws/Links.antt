@@ -1,18 +1,17 @@
 -- When a device may be linked, and what the code of link needs of the next tables.
 use mathlib.Core.Path.{_≡_}
-use mathlib.Core.Bool.{Bool, true, not, _||_}
 use mathlib.Core.List.{List}
-use Prim.Native.Nat.{ℕ, _+_, _-_, _≤_, _<_}
+use Prim.Native.Nat.{ℕ, _+_, _-_, _≤_}
 use native.Mathlib.Omega.{arith}
-use lib.Dec.{ltb}
 use lib.ListN.{length}
-use Rattle.names.specs.Definition.Words.{wordOf, LinkName}
+use Rattle.names.specs.Definition.Words.{wordOf}
 use Rattle.rows.specs.Definition.Devices.{added}
 use Rattle.rows.specs.Definition.Sizes.{chainLength}
 use Rattle.line.specs.Laws.Chains.{Chain}
 use Rattle.kernel.specs.Definition.Tables.{ramSize, withDevices}
 use Rattle.kernel.specs.Definition.Good.{Good}
-use Rattle.kernel.specs.Definition.Line.{totalOf, roomFor}
+use Rattle.kernel.specs.Within.{Links}
+use Rattle.kernel.specs.Definition.Line.{totalOf}
 use Rattle.kernel.specs.Definition.Devices.{linking}
 use Rattle.kernel.specs.Laws.Arrays.{link-default, word-good}
 use Rattle.kernel.specs.Laws.Body.{keeps-total}
@@ -21,17 +20,6 @@ use Rattle.kernel.specs.Laws.Grow.{Grown, grown-rest}
 use Rattle.kernel.specs.Laws.KeptNames.{linking-keeps}
 use Rattle.kernel.specs.Laws.Chains.{good-chain, chain-shift}
 use Rattle.kernel.specs.declared.Tables.{Tables}
-
--- the room rule for a device with m bytes
-abbrev pub roomToLink : Tables → (m : ℕ) → Bool
-roomToLink t m = not (ltb (t .room) (256 + m) || not (roomFor t (t .room - m) (totalOf t)))
-
--- the name is one, a row is left, and there is room for m bytes
-pub record Links (t : Tables) (m : ℕ) (name : List ℕ) : Type 0 where
-  pub named : LinkName name
-  pub few : t .known < 16
-  pub least : 256 + m ≤ t .room
-  pub room : roomFor t (t .room - m) (totalOf t) ≡ true
 
 module _ (t : Tables) (m : ℕ) (name : List ℕ) (g : Good t) (l : Links t m name) where
   pub linking-good : Good (linking t m (wordOf name) (length name))

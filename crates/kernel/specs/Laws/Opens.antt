@@ -1,10 +1,7 @@
 -- When a record may be appended, and what the code of open needs of the next tables.
 use mathlib.Core.Path.{_≡_, _∙_}
-use mathlib.Core.Bool.{true, not}
-use mathlib.Core.List.{[], _∷_}
-use Prim.Native.Nat.{ℕ, _+_, _-_, _≤_, _<_}
+use Prim.Native.Nat.{ℕ, _+_, _-_, _≤_}
 use native.Mathlib.Omega.{arith}
-use lib.Dec.{leb}
 use lib.ListN.{getD, set}
 use lib.Seq.{getD-set-same}
 use Rattle.rows.specs.Definition.Channels.{zeroChannel}
@@ -12,35 +9,15 @@ use Rattle.rows.specs.Laws.ChannelRows.{sum-set, place-none}
 use Rattle.rows.specs.Definition.Sizes.{chainLength}
 use Rattle.rows.specs.declared.Channel.{Channel}
 use Rattle.line.specs.Laws.Chains.{Chain}
-use Rattle.kernel.specs.Definition.Tables.{ramSize, channelAt, withChannels}
+use Rattle.kernel.specs.Definition.Tables.{ramSize, withChannels}
 use Rattle.kernel.specs.Definition.Good.{Good}
-use Rattle.kernel.specs.Definition.Line.{totalOf, roomFor, opening}
-use Rattle.kernel.specs.Definition.Answers.{gives, unless, _when_}
+use Rattle.kernel.specs.Within.{New, Fits}
+use Rattle.kernel.specs.Definition.Line.{totalOf, opening}
 use Rattle.kernel.specs.Laws.Body.{keeps-total}
 use Rattle.kernel.specs.Laws.Grow.{Grown, grown-rest}
 use Rattle.kernel.specs.Laws.KeptLine.{opening-keeps}
 use Rattle.kernel.specs.Laws.Chains.{good-chain}
 use Rattle.kernel.specs.declared.Tables.{Tables}
-use Rattle.kernel.specs.declared.Answer.the-variants.{Done, Full, NoRoom}
-use Rattle.kernel.specs.declared.Outcome.{Outcome}
-
--- the row is one that good tables can have: a channel not open yet, and a known device
-pub record New (t : Tables) (c : Channel) : Type 0 where
-  pub number : c .number < 255
-  pub device : c .device < t .known
-  pub absent : t .opened ≤ channelAt t (c .number)
-
--- and there is room for its record
-pub record Fits (t : Tables) (c : Channel) : Type 0 where
-  pub few : t .opened < 32
-  pub room : roomFor t (t .room) (totalOf t + (16 + c .n)) ≡ true
-
--- open, once the row is known
-unfoldable pub onOpenRow : Tables → Channel → Outcome
-unfolding roomFor opening
-onOpenRow t c =
-    unless (Full when leb 32 (t .opened) ∷ NoRoom when not (roomFor t (t .room) (totalOf t + (16 + c .n))) ∷ []) t
-    (gives (Done (c .device) (c .unit)) (opening t c))
 
 module _ (t : Tables) (c : Channel) (g : Good t) (new : New t c) (fits : Fits t c) where
   pub opening-good : Good (opening t c)

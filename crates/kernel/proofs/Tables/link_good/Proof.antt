@@ -2,7 +2,7 @@
 use mathlib.Core.Path.{_≡_, refl}
 use borrow.Author.Needs.{needs}
 use Rattle.kernel.specs.Definition.Line.{totalOf}
-use Rattle.kernel.specs.Laws.Links.{Links}
+use Rattle.kernel.specs.Within.{Links}
 use Rattle.kernel.proofs.Refusing.{refused}
 use Rattle.kernel.proofs.Growing.{total-of}
 use Rattle.kernel.proofs.Linking.{link-unnamed, link-full, link-none, link-answer, links-of, link-chain, link-done}

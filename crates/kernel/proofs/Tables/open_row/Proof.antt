@@ -2,7 +2,7 @@
 use mathlib.Core.Path.{_≡_, refl}
 use borrow.Author.Needs.{needs}
 use Rattle.kernel.specs.Definition.Line.{totalOf}
-use Rattle.kernel.specs.Laws.Opens.{Fits}
+use Rattle.kernel.specs.Within.{Fits}
 use Rattle.kernel.proofs.Refusing.{refused}
 use Rattle.kernel.proofs.Growing.{total-of}
 use Rattle.kernel.proofs.Opening.{row-full, row-none, row-fits, row-chain, row-done}

@@ -4,7 +4,7 @@ use mathlib.Core.Path.{_≡_, _∙_, sym}
 use Prim.Native.Nat.{_-_, _≤_, _<_}
 use native.Mathlib.Omega.{arith}
 use Rattle.kernel.specs.Definition.Line.{shrunk}
-use Rattle.kernel.specs.Laws.Facts.{Fit}
+use Rattle.kernel.specs.Within.{Fit}
 use Rattle.kernel.proofs.Shrinking.{less-fit, less-held, shrunk-step, shrunk-none}
 use Rattle.kernel.proofs.Tables.shrink.Statement.{statement}
 use Rattle.kernel.proofs.Tables.shrink.Tie as tie
