@@ -1,5 +1,4 @@
 -- The laws of walks and places, and the line byte by byte.
-pub mod Chains
 pub mod Points
 pub mod Walks
 pub mod Places
