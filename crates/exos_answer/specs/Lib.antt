@@ -1,2 +1,2 @@
 -- The program's state.
-pub mod Definition
+pub mod Within

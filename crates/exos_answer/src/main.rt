@@ -3,7 +3,7 @@ ghost use mathlib.Core.Path.{_≡_};
 ghost use Prim.Native.Nat.{_+_, _≤_};
 ghost use lib.ListN.{length};
 ghost use Rattle.stream.specs.Definition.Requests.{Spans, Brings};
-ghost use Rattle.exos_answer.specs.Definition.State.{Ready};
+ghost use Rattle.exos_answer.specs.Within.{Ready};
 use kernel::Tables;
 use libc::STDIN_FILENO;
 use libc::STDOUT_FILENO;

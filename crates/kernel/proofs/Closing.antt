@@ -10,7 +10,7 @@ use Rattle.rows.specs.Definition.Channels.{zeroChannel, sumOf}
 use Rattle.rows.specs.Definition.Sizes.{chainLength}
 use Rattle.rows.specs.Laws.Sizes.{length-some}
 use Rattle.rows.specs.declared.Channel.{Channel}
-use Rattle.line.specs.Definition.Chains.{Chain}
+use Rattle.line.specs.Within.Chains.{Chain}
 use Rattle.line.specs.Definition.Line.{afterClose}
 use Rattle.kernel.specs.Definition.Tables.{channelAt, ramSize, withChannels}
 use Rattle.kernel.specs.Definition.Good.{Good}

@@ -14,7 +14,7 @@ use Rattle.rows.specs.declared.Device.{Device}
 use Rattle.names.specs.Laws.Runs.{link-right}
 use Rattle.names.specs.Definition.Tests.{linkNameTest}
 use Rattle.names.specs.Definition.Words.{wordOf}
-use Rattle.line.specs.Definition.Chains.{Chain}
+use Rattle.line.specs.Within.Chains.{Chain}
 use Rattle.line.specs.Definition.Line.{afterLink}
 use Rattle.kernel.specs.Definition.Tables.{ramSize, withDevices}
 use Rattle.kernel.specs.Definition.Good.{Good}

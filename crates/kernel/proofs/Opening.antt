@@ -22,7 +22,7 @@ use Rattle.names.specs.declared.UnitNumber.{UnitNumber}
 use Rattle.names.specs.declared.UnitNumber.the-variants.{Given, Absent}
 use Rattle.names.specs.declared.Parts.{Parts}
 use Rattle.names.specs.declared.Parts.the-variants.{Refused, Read}
-use Rattle.line.specs.Definition.Chains.{Chain}
+use Rattle.line.specs.Within.Chains.{Chain}
 use Rattle.line.specs.Definition.Line.{afterOpen}
 use Rattle.kernel.specs.Definition.Tables.{ramSize, channelAt, withChannels}
 use Rattle.kernel.specs.Definition.Good.{Good}

@@ -10,7 +10,7 @@ use Rattle.rows.specs.Definition.Channels.{zeroChannel, sumOf}
 use Rattle.rows.specs.Definition.Devices.{builtIn}
 use Rattle.rows.specs.declared.Channel.{Channel}
 use Rattle.rows.specs.declared.Device.{Device}
-use Rattle.line.specs.Definition.Chains.{Chain}
+use Rattle.line.specs.Within.Chains.{Chain}
 use Rattle.line.specs.Definition.Line.{placeOf, putLine}
 use Rattle.line.specs.Laws.Walks.{length-put}
 use Rattle.kernel.specs.Definition.Tables.{ramSize, withSegments, withChannels, withDevices}

@@ -7,7 +7,7 @@ use native.Mathlib.Omega.{arith}
 use borrow.Author.Tests.{lt-ltb, le-ltb, lt-leb, ne-eqb, ltb-true, ltb-false, not-false}
 use lib.Dec.{eqb, ltb, leb}
 use lib.ListN.{take}
-use Rattle.line.specs.Definition.Chains.{Chain}
+use Rattle.line.specs.Within.Chains.{Chain}
 use Rattle.line.specs.Laws.Places.{chain-less}
 use Rattle.rows.specs.Definition.Lists.{firstOf}
 use Rattle.rows.specs.Laws.Lists.{and-left}

@@ -1,6 +1,4 @@
--- The line of channel RAM, what an open, a close and a link make of it, and what the moves ask.
+-- The line of channel RAM, and what an open, a close and a link make of it.
 pub mod Ram
 pub mod Line
 pub mod Lent
-pub mod Chains
-pub mod Runs

@@ -3,9 +3,9 @@ ghost use mathlib.Core.Path.{_≡_};
 ghost use Prim.Native.Nat.{_+_, _-_, _*_, _<_, _≤_};
 ghost use lib.ListN.{length, replicate};
 ghost use Rattle.line.specs.Definition.Ram.{filled};
-ghost use Rattle.line.specs.Definition.Chains.{Chain};
+ghost use Rattle.line.specs.Within.Chains.{Chain};
 ghost use Rattle.line.specs.Definition.Line.{placeOf, lineFrom, putLine, headingOf, afterClose, afterLink, afterOpen};
-ghost use Rattle.line.specs.Definition.Runs.{runUpTo};
+ghost use Rattle.line.specs.Within.Runs.{runUpTo};
 ghost use Rattle.line.specs.Definition.Lent.{lentAt, partOf};
 
 pub mod ram;

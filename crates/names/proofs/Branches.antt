@@ -11,7 +11,7 @@ use Rattle.names.specs.Definition.Grammar.{UnitPart, plain, dashed, unit
 use Rattle.names.specs.Definition.Tests.{runOf, fileTest}
 use Rattle.names.specs.Definition.Read.{withDigits, withUnit, withHead, withColon, withoutColon, reading}
 use Rattle.names.specs.Definition.Parts.{unitNumber, partsOf}
-use Rattle.names.specs.Definition.Capped.{cappedNumber}
+use Rattle.names.specs.Within.Capped.{cappedNumber}
 use Rattle.names.specs.Laws.Numbers.{number-right, number-finds, number-high, digits-finds}
 use Rattle.names.specs.declared.Kind.the-variants.{Letter, BeforeColon}
 use Rattle.names.specs.declared.UnitNumber.the-variants.{Given, Absent}

@@ -1,8 +1,6 @@
--- The strings of 01's section 'Names': the grammar, the reading that computes, the words that are kept, and what the steps of the parse promise.
+-- The strings of 01's section 'Names': the grammar, the reading that computes, and the words that are kept.
 pub mod Grammar
 pub mod Words
 pub mod Tests
 pub mod Read
 pub mod Parts
-pub mod Capped
-pub mod Steps

@@ -1,3 +1,4 @@
--- Names: the definition, and the laws about it.
+-- Names: the definition, words for functions within the parse, and laws.
 pub mod Definition
+pub mod Within
 pub mod Laws

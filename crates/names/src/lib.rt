@@ -6,9 +6,9 @@ ghost use Rattle.names.specs.Definition.Grammar.{All, Digit, value};
 ghost use Rattle.names.specs.Definition.Words.{upper, wordOf};
 ghost use Rattle.names.specs.Definition.Tests.{ofKind, runOf, fileTest, lettersTest, linkNameTest, defaultNameTest};
 ghost use Rattle.names.specs.Definition.Read.{withoutColon, reading};
-ghost use Rattle.names.specs.Definition.Capped.{capped, cappedNumber};
+ghost use Rattle.names.specs.Within.Capped.{capped, cappedNumber};
 ghost use Rattle.names.specs.Definition.Parts.{partsOf};
-ghost use Rattle.names.specs.Definition.Steps.{OfDigits, OfRest, OfHead};
+ghost use Rattle.names.specs.Within.Steps.{OfDigits, OfRest, OfHead};
 
 // A kind of byte, of which a part of a name is a run.
 enum Kind {

@@ -1,5 +1,5 @@
 -- `main` is safe and ends: the turns fall.
-use Rattle.exos_answer.specs.Definition.State.{Ready}
+use Rattle.exos_answer.specs.Within.{Ready}
 use borrow.Author.Needs.{needs}
 use Rattle.exos_answer.proofs.main.Statement.{statement}
 use Rattle.exos_answer.proofs.main.Tie as tie

@@ -15,7 +15,7 @@ use Rattle.rows.specs.Laws.Lists.{neither-below}
 use Rattle.rows.specs.Definition.Channels.{zeroChannel, sumOf}
 use Rattle.rows.specs.Laws.ChannelRows.{from, from-low, from-high, without-at, sum-without}
 use Rattle.rows.specs.declared.Channel.{Channel}
-use Rattle.line.specs.Definition.Chains.{Chain}
+use Rattle.line.specs.Within.Chains.{Chain}
 use Rattle.line.specs.Definition.Line.{chainIndexOf, placeOf, putLine, afterLink}
 use Rattle.line.specs.Definition.Ram.{putAt}
 use Rattle.line.specs.Laws.Walks.{put-elsewhere}

@@ -6,7 +6,7 @@ use native.Mathlib.Decide.{decLt}
 use native.Mathlib.Omega.{arith}
 use borrow.Author.Tests.{eq-eqb, lt-ltb, le-ltb}
 use lib.ListN.{length, getD}
-use Rattle.line.specs.Definition.Chains.{Chain}
+use Rattle.line.specs.Within.Chains.{Chain}
 use Rattle.line.specs.Definition.Line.{chainIndexOf, placeOf, lineFrom}
 use Rattle.line.specs.Definition.Lent.{lentAt, partOf}
 use Rattle.line.specs.declared.Lent.{Lent}

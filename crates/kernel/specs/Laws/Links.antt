@@ -7,7 +7,7 @@ use lib.ListN.{length}
 use Rattle.names.specs.Definition.Words.{wordOf}
 use Rattle.rows.specs.Definition.Devices.{added}
 use Rattle.rows.specs.Definition.Sizes.{chainLength}
-use Rattle.line.specs.Definition.Chains.{Chain}
+use Rattle.line.specs.Within.Chains.{Chain}
 use Rattle.kernel.specs.Definition.Tables.{ramSize, withDevices}
 use Rattle.kernel.specs.Definition.Good.{Good}
 use Rattle.kernel.specs.Within.{Links}

@@ -8,7 +8,7 @@ use Rattle.rows.specs.Definition.Channels.{zeroChannel}
 use Rattle.rows.specs.Laws.ChannelRows.{sum-set, place-none}
 use Rattle.rows.specs.Definition.Sizes.{chainLength}
 use Rattle.rows.specs.declared.Channel.{Channel}
-use Rattle.line.specs.Definition.Chains.{Chain}
+use Rattle.line.specs.Within.Chains.{Chain}
 use Rattle.kernel.specs.Definition.Tables.{ramSize, withChannels}
 use Rattle.kernel.specs.Definition.Good.{Good}
 use Rattle.kernel.specs.Within.{New, Fits}

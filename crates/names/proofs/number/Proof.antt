@@ -5,7 +5,7 @@ use borrow.Author.Tests.{eqb-true}
 use mathlib.Core.Path.{sym, _∙_}
 use mathlib.Core.Bool.{and-eq-true-iff}
 use Rattle.names.specs.Definition.Tests.{allOf}
-use Rattle.names.specs.Definition.Capped.{cappedNumber}
+use Rattle.names.specs.Within.Capped.{cappedNumber}
 use Rattle.names.specs.Laws.Runs.{all-run}
 use Rattle.names.specs.declared.Kind.the-variants.{Digit}
 use borrow.Author.Needs.{needs}

@@ -4,7 +4,7 @@ use Prim.Native.Nat.{_≤_, _-_}
 use mathlib.Core.Path.{_≡_}
 use lib.ListN.{length, drop}
 use Rattle.names.specs.Definition.Grammar.{Digit, value}
-use Rattle.names.specs.Definition.Capped.{capped}
+use Rattle.names.specs.Within.Capped.{capped}
 use Rattle.names.specs.Laws.Numbers.{value-step, value-ends, capped-le, all-at}
 use Rattle.names.proofs.value_of.Statement.{statement}
 use Rattle.names.proofs.value_of.Tie as tie

@@ -11,7 +11,7 @@ use native.Mathlib.Omega.{arith}
 use native.Mathlib.Numerals.{add-one}
 use native.Mathlib.Decide.{decLe}
 use Rattle.names.specs.Definition.Grammar.{All, value, DigitsRule}
-use Rattle.names.specs.Definition.Capped.{capped, cappedNumber}
+use Rattle.names.specs.Within.Capped.{capped, cappedNumber}
 use Rattle.names.specs.Definition.Tests.{allOf}
 use Rattle.names.specs.Definition.Read.{digitsTest}
 use Rattle.names.specs.Laws.Runs.{all-right, all-finds}

@@ -1,2 +1,0 @@
--- What holds of the program's state.
-pub mod State
