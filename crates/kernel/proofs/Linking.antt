@@ -1,6 +1,6 @@
 -- The branches of link, as the code takes them.
-use mathlib.Core.Path.{_≡_, refl, sym, _∙_}
-use mathlib.Core.Bool.{Bool, true, false, not, _||_, true≢false}
+use mathlib.Core.Path.{_≡_, sym, _∙_}
+use mathlib.Core.Bool.{Bool, true, false, not, _||_}
 use mathlib.Core.List.{List, map}
 use Prim.Native.Nat.{ℕ, _+_, _-_, _≤_, _<_}
 use native.Mathlib.Omega.{arith}
@@ -10,6 +10,7 @@ use lib.ListN.{length, take, set}
 use lib.Seq.{take-all}
 use Rattle.rows.specs.Definition.Devices.{disabledBy}
 use Rattle.rows.specs.Definition.Sizes.{chainLength}
+use Rattle.rows.specs.Laws.Lists.{or-left, or-right, not-not}
 use Rattle.rows.specs.declared.Device.{Device}
 use Rattle.names.specs.Laws.Runs.{link-right}
 use Rattle.names.specs.Definition.Tests.{linkNameTest}
@@ -27,14 +28,6 @@ use Rattle.kernel.specs.Within.{Links, roomToLink}
 use Rattle.kernel.specs.Laws.Links.{linking-room, linking-held, linking-chain}
 use Rattle.kernel.specs.declared.Tables.{Tables}
 use Rattle.kernel.specs.declared.Answer.the-variants.{Done, BadName, Full, NoRoom}
-
-twice : (x : Bool) → not (not x) ≡ x
-twice true = refl
-twice false = refl
-
-neither : (x y : Bool) → (x || y) ≡ false → (x ≡ false) × (y ≡ false)
-neither true y e = absurd (true≢false e)
-neither false y e = (refl, e)
 
 -- the device added
 module _ (t : Tables) (m : ℕ) (name : List ℕ) (total long held more : ℕ) (b : total ≡ totalOf t)
@@ -62,7 +55,7 @@ module _ (t : Tables) (m room size : ℕ) (a : room ≡ t .room) (b : size ≡ m
   pub room-left : (total : ℕ) (ok : Bool) → 256 + size ≤ room → total ≡ totalOf t → ok ≡ roomFor t (t .room - m) total → ok ≡ roomToLink t m
   room-left total ok h e r =
       let g : 256 + m ≤ t .room = rw (a, b) at h in
-      rw (le-ltb _ _ g, twice) (rw (r, e))
+      rw (le-ltb _ _ g, not-not) (rw (r, e))
 
 -- the name, the number of devices, and the room
 module _ (t : Tables) (m : ℕ) (name : List ℕ) (ok : Bool) (n : ok ≡ linkNameTest name) where
@@ -91,8 +84,12 @@ module _ (t : Tables) (m : ℕ) (name : List ℕ) (ok : Bool) (n : ok ≡ linkNa
 
       pub links-of : not fits ≡ false → Links t m name
       links-of h =
-          let (x, y) = neither _ _ (room-rule h) in
-          record { named = link-right name (sym n ∙ not-false _ named); few = few; least = ltb-false _ _ x; room = not-false _ y }
+          record {
+            named = link-right name (sym n ∙ not-false _ named);
+            few = few;
+            least = ltb-false _ _ (or-left _ _ (room-rule h));
+            room = not-false _ (or-right _ _ (room-rule h));
+          }
 
 -- the line moved
 module _ (t : Tables) (m : ℕ) (name : List ℕ) (g : Good t) (l : Links t m name) (next : Tables) (e : next ≡ linking t m (wordOf name) (length name))

@@ -11,7 +11,7 @@ use lib.Dec.{eqb}
 use lib.ListN.{length, getD, take, set, replicate, getD-replicate, length-set, length-map, length-append, length-replicate, length-take, List·getD-append, List·getD-eq-default}
 use lib.Seq.{getD-set-same, getD-set-other, getD-take, ext-getD, getD-append-add}
 use Rattle.rows.specs.Definition.Lists.{at, padded, tally, upTo}
-use Rattle.rows.specs.Laws.Lists.{all-more, and-yes}
+use Rattle.rows.specs.Laws.Lists.{not-not, all-more, and-yes}
 use Rattle.rows.specs.Definition.Classes.{FREE, SYSTEM, startClasses}
 use Rattle.rows.specs.Definition.Channels.{zeroChannel}
 use Rattle.rows.specs.Definition.Tests.{differRow}
@@ -216,10 +216,6 @@ module _ {A : Type 0} (z : A) (n : ℕ) where
 pub record Seen (cs : List Channel) (i : ℕ) (seen : List Bool) : Type 0 where
   pub long : length seen ≡ 256
   pub each : (x : ℕ) → x < 256 → getD seen x false ≡ not (upTo i (λ j. not (eqb (getD cs j zeroChannel .number) x)))
-
-not-not : (b : Bool) → not (not b) ≡ b
-not-not true = refl
-not-not false = refl
 
 module _ (cs : List Channel) where
   pub seen-none : Seen cs 0 (replicate 256 false)

@@ -13,6 +13,7 @@ use lib.Seq.{getD-take}
 use Rattle.rows.specs.Definition.Lists.{at, tally, sumTo}
 use Rattle.rows.specs.Definition.Classes.{FREE, SHARED, inChain, timesHeld}
 use Rattle.rows.specs.Definition.Channels.{sumOf}
+use Rattle.rows.specs.Laws.Lists.{or-none}
 use Rattle.rows.specs.Laws.Counts.{one, sum-same, sum-plus, sum-tally, sum-zero, tally-sum}
 use Rattle.rows.specs.declared.Channel.{Channel}
 use Rattle.kernel.specs.Definition.Tables.{classAt, countOf, sharing, lastRow}
@@ -196,10 +197,6 @@ held-size t g =
     let all : sumTo (t .segments) (λ row. tally row c) ≡ length c =
     sum-tally (t .segments) c (λ i h. rw (getD-take (t .held) (t .chain) i 0 (omega arith)) (g .chain .rows i (omega arith))) in
     sym (sum-same (t .segments) (λ row. tally row c) (λ row. timesHeld (classAt t row)) (g .chain .exact)) ∙ all ∙ l
-
-pub or-none : (b : Bool) → b || false ≡ b
-or-none true = refl
-or-none false = refl
 
 -- with a segment shared it may take no further one
 pub offered-shared : (t : Tables) → Good t → sharing t ≡ true → countIn (t .segments) (offered t) ≡ t .held

@@ -9,7 +9,7 @@ use borrow.Author.Tests.{eq-eqb, le-leb, leb-true, eqb-true}
 use lib.Dec.{eqb, leb}
 use lib.ListN.{length}
 use Rattle.rows.specs.Definition.Lists.{at}
-use Rattle.rows.specs.Laws.Lists.{and-left, and-right}
+use Rattle.rows.specs.Laws.Lists.{and-left, and-right, or-none}
 use Rattle.rows.specs.Definition.Classes.{FREE, SHARED}
 use Rattle.rows.specs.Definition.Sizes.{chainLength, boundaryAt}
 use Rattle.rows.specs.Laws.Sizes.{chain-most}
@@ -23,7 +23,7 @@ use Rattle.kernel.specs.declared.Tables.{Tables}
 use Rattle.history.specs.Room.Sums.{total}
 use Rattle.history.specs.Definition.Layout.{Layout}
 use Rattle.history.specs.Definition.Places.{countIn, offered, inSystem, Outside}
-use Rattle.history.specs.Room.Counts.{outside-exists, or-none, offered-shared, offered-apart}
+use Rattle.history.specs.Room.Counts.{outside-exists, offered-shared, offered-apart}
 use Rattle.history.specs.Room.Bounds.{line-sum, top-in, top-alone}
 use Rattle.history.specs.Definition.Room.{Clear}
 

@@ -11,8 +11,7 @@ use lib.Dec.{leb, eqb}
 use borrow.Author.Tests.{le-leb, leb-true, eq-eqb, eqb-true, eqb-false, ne-eqb, not-false}
 use native.Mathlib.Omega.{arith}
 use native.Mathlib.Numerals.{add-one}
-use Rattle.names.specs.Definition.Grammar.{All, FileByte, UnitPart, no-unit, plain, dashed, Reading, file-only, full, unit-text, spell}
-use Rattle.names.specs.Definition.Grammar.{DeviceRule, DigitsRule, UnitRule, FileRule, Rule, Reads}
+use Rattle.names.specs.Definition.Grammar.{All, FileByte, UnitPart, no-unit, plain, dashed, Reading, file-only, full, unit-text, spell, DeviceRule, DigitsRule, UnitRule, FileRule, Rule, Reads}
 use Rattle.names.specs.Definition.Tests.{runOf, fileTest}
 use Rattle.names.specs.Definition.Read.{digitsTest, withDigits, withUnit, withHead, withColon, withoutColon, reading}
 use Rattle.names.specs.Laws.Runs.{kindRule, run-le, run-front, run-next, run-all, run-stop, file-right, file-finds}

@@ -1,6 +1,5 @@
 -- `Tables::free_good` meets its contract.
-use mathlib.Core.Path.{refl}
-use mathlib.Core.Path.{_∙_, sym}
+use mathlib.Core.Path.{refl, _∙_, sym}
 use Rattle.kernel.proofs.Allocating.{free-caller, free-absent, free-own, free-shared, free-other}
 use borrow.Author.Needs.{needs}
 use Rattle.kernel.proofs.Tables.free_good.Statement.{statement}

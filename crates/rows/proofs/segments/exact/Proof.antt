@@ -7,7 +7,7 @@ use native.Mathlib.Omega.{arith}
 use lib.Dec.{leb, eqb}
 use borrow.Author.Tests.{le-leb, lt-leb}
 use Rattle.rows.specs.Definition.Lists.{at, upTo}
-use Rattle.rows.specs.Laws.Lists.{row-more, upTo-rest, upTo-same}
+use Rattle.rows.specs.Laws.Lists.{or-none, row-more, upTo-rest, upTo-same}
 use Rattle.rows.specs.Definition.Classes.{SHARED, inChain}
 use Rattle.rows.specs.Definition.Tests.{exactRow, standsRow}
 use Rattle.rows.proofs.segments.exact.Statement.{statement}
@@ -16,10 +16,6 @@ use Rattle.rows.proofs.segments.exact.Tie as tie
 -- the code asks for each count in turn
 once : (b : Bool) (k : ℕ) → (b && eqb k 1) || (not b && eqb k 0) ≡ eqb k (cond b 1 0)
 once true k = or-none (eqb k 1)
-  where
-    or-none : (b : Bool) → b || false ≡ b
-    or-none true = refl
-    or-none false = refl
 once false k = refl
 
 stands : (c k last n i : ℕ) → leb n i ≡ false
