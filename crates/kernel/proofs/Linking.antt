@@ -87,8 +87,8 @@ module _ (t : Tables) (m : ℕ) (name : List ℕ) (ok : Bool) (n : ok ≡ linkNa
           record {
             named = link-right name (sym n ∙ not-false _ named);
             few = few;
-            least = ltb-false _ _ (or-left _ _ (room-rule h));
-            room = not-false _ (or-right _ _ (room-rule h));
+            least = ltb-false _ _ (or-left (ltb (t .room) (256 + m)) _ (room-rule h));
+            room = not-false _ (or-right (ltb (t .room) (256 + m)) _ (room-rule h));
           }
 
 -- the line moved
