@@ -1,7 +1,6 @@
 -- What stands at the front of the input, by its length.
 use mathlib.Core.Path.{_≡_, refl, _∙_, sym}
-use mathlib.Core.Bool.{Bool, true, false}
-use mathlib.Core.Logic.{_⊎_, inl, inr}
+use mathlib.Core.Logic.{inl, inr}
 use mathlib.Core.List.{List, _++_}
 use Prim.Native.Nat.{ℕ, _+_, _-_, _<_, _≤_}
 use native.Mathlib.Omega.{arith}
@@ -9,6 +8,7 @@ use lib.ListN.{length, take, drop, length-append, length-drop, List·getD-append
 use lib.Seq.{take-append-le, drop-append-le}
 use lib.Dec.{ltb}
 use borrow.Author.Tests.{ne-eqb, lt-ltb, le-ltb, ltb-true, ltb-false}
+use Rattle.text.specs.Laws.Text.{split}
 use Rattle.events.specs.Definition.Records.{u16At, broken, next}
 use Rattle.events.specs.Laws.Next.{next-cut, next-low, next-high, next-short, next-whole}
 use Rattle.events.proofs.Laws.{rest-of}
@@ -54,10 +54,6 @@ module _ (xs : List ℕ) (n : ℕ) (e : n ≡ u16At xs 0) (l : 2 ≤ length xs) 
             next-whole (xs ++ ys) n (size ys) (long 2 ys l) h g (long (n + 2) ys c)
             ∙ rw (field ys 2 (omega arith), ← f, drop-append-le 4 xs ys d, take-append-le (n - 2) (drop 4 xs) ys b, drop-append-le (n + 2) xs ys c, m);
       }
-
-split : (b : Bool) → (b ≡ true) ⊎ (b ≡ false)
-split true = inl refl
-split false = inr refl
 
 -- what stands there is as the definition says
 pub stands : (xs : List ℕ) → Stands xs (frontOf xs)

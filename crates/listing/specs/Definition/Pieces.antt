@@ -26,7 +26,8 @@ pub record Stepped (t : Tables) (ram out : List ℕ) (kind : ℕ) (body text : L
   pub put : Put text text′ used used′ (lineAfter kind (logStep t ram out kind body))
   pub room : used′ ≤ length text′
 
--- what stands at the front of xs: less than a record, a bad length, or a record of this kind whose body has so many bytes
+-- what stands at the front of xs: less than a record, a bad length, or a record of this kind whose body has so many bytes. It is `next` of the crate
+-- events, with what may still become a record told from what never will: `stands`, in proofs/Fronts.antt
 unfoldable pub frontOf : List ℕ → Front
 frontOf xs =
     let n = u16At xs 0 in
