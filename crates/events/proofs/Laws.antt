@@ -1,17 +1,17 @@
 -- A body taken apart, and what the call in it leaves.
 use mathlib.Core.Path.{_≡_, refl, sym, ap, _∙_}
-use mathlib.Core.Bool.{Bool, true, false, cond}
 use mathlib.Core.List.{List}
 use Prim.Native.Nat.{ℕ, _-_, _<_}
 use native.Mathlib.Omega.{arith}
 use lib.ListN.{length, take, drop, length-drop}
 use lib.Seq.{take-all}
 use borrow.Author.Tests.{lt-ltb}
-use Rattle.kernel.specs.Definition.Answers.{gives, granted}
+use Rattle.kernel.specs.Definition.Answers.{gives, _changing_}
 use Rattle.kernel.specs.Definition.Calls.{Call, no-call}
 use Rattle.kernel.specs.Definition.Good.{Good}
 use Rattle.kernel.specs.Definition.Tables.{ramSize}
-use Rattle.kernel.specs.Definition.Step.{Result, heard, decided, ramAfter, outputAfter, result, completed, step}
+use Rattle.kernel.specs.Definition.Bytes.{nothing}
+use Rattle.kernel.specs.Definition.Step.{Result, heard, decided, result, completed, step}
 use Rattle.kernel.specs.Laws.Ready.{ready-heard}
 use Rattle.kernel.specs.declared.Tables.{Tables}
 use Rattle.kernel.specs.declared.Outcome.{Outcome}
@@ -23,12 +23,12 @@ pub rest-of : (n : ℕ) (xs : List ℕ) → take (length xs - n) (drop n xs) ≡
 rest-of n xs = take-all (length xs - n) (drop n xs) (simp length-drop (omega arith))
 
 module _ (t : Tables) (ram : List ℕ) (out : List ℕ) (g : Good t) (s : length ram ≡ ramSize t) where
-  step-heard : (c : Call) → step t ram c out ≡ completed t (heard t (length ram) (length out) c) ram c out
+  step-heard : (c : Call) → step t ram c out ≡ completed t (heard t (length ram) (length out) c) ram out
   unfolding step
   step-heard c = rw (ready-heard t (length ram) (length out) c (record { good = g; size = s }))
 
   -- the call c that was made is the call in the body
-  pub done : (c d : Call) (r : Outcome) (ram' out' : List ℕ) → d ≡ c → result r ram' out' ≡ completed t (heard t (length ram) (length out) c) ram c out
+  pub done : (c d : Call) (r : Outcome) (ram' out' : List ℕ) → d ≡ c → result r ram' out' ≡ completed t (heard t (length ram) (length out) c) ram out
       → result r ram' out' ≡ step t ram d out
   done c d r ram' out' e q = q ∙ sym (ap (λ x. step t ram x out) e ∙ step-heard c)
 
@@ -38,14 +38,9 @@ module _ (t : Tables) (ram : List ℕ) (out : List ℕ) (g : Good t) (s : length
   bad-call d r e q = done no-call d r ram out e (rw q)
 
   -- a call that touches neither the RAM nor the output
-  pub quiet : (c d : Call) (r : Outcome) → d ≡ c → ramAfter t (r .tables) ram c ≡ ram → outputAfter t ram c out ≡ out
-      → r ≡ heard t (length ram) (length out) c → result r ram out ≡ step t ram d out
+  pub quiet : (c d : Call) (r : Outcome) → d ≡ c → r changing nothing ≡ heard t (length ram) (length out) c → result r ram out ≡ step t ram d out
   unfolding completed
-  quiet c d r e p q h = done c d r ram out e (rw (← h) (sym (same (granted (r .answer)))))
-    where
-      same : (b : Bool) → result r (cond b (ramAfter t (r .tables) ram c) ram) (cond b (outputAfter t ram c out) out) ≡ result r ram out
-      same true = rw (p, q)
-      same false = refl
+  quiet c d r e h = done c d r ram out e (rw (← h))
 
 -- a start is heard on any tables
 module _ (t : Tables) (ram : List ℕ) (body : List ℕ) (out : List ℕ) where

@@ -16,7 +16,7 @@ use Rattle.kernel.specs.Definition.Tables.{rowOf, channelAt}
 use Rattle.kernel.specs.Definition.Line.{sizeAt, bufferAt}
 use Rattle.kernel.specs.Definition.Segments.{mayReach, reachOf, guarded}
 use Rattle.kernel.specs.Definition.Answers.{gives}
-use Rattle.kernel.specs.Definition.Calls.{onRead, onWrite, onStore, onLoad, read, write, store, load}
+use Rattle.kernel.specs.Definition.Calls.{onRead, onWrite, onStore, onLoad}
 use Rattle.kernel.specs.Definition.Step.{completed, result, accepted}
 use Rattle.kernel.specs.Definition.Lend.{lentOnGood, partOnGood, lentOn, partOn}
 use Rattle.kernel.specs.declared.Tables.{Tables}
@@ -27,7 +27,7 @@ use Rattle.kernel.proofs.Spans.{Open, Reached}
 
 module _ (t : Tables) (ram out : List ℕ) (channel offset size : ℕ) where
   pub read-closed : t .opened ≤ channelAt t channel
-      → result (gives NoChannel t) ram out ≡ completed t (onRead t (length out) channel offset size) ram (read channel offset size) out
+      → result (gives NoChannel t) ram out ≡ completed t (onRead t (length out) channel offset size) ram out
   unfolding completed onRead
   read-closed h = rw (le-leb (t .opened) (channelAt t channel) h)
 
@@ -37,13 +37,13 @@ module _ (t : Tables) (ram out : List ℕ) (channel offset size : ℕ) where
     read-test = rw (b, is, e, f)
 
     pub read-beyond : far || ltb (length out) count ≡ true
-        → result (gives BadRange t) ram out ≡ completed t (onRead t (length out) channel offset size) ram (read channel offset size) out
+        → result (gives BadRange t) ram out ≡ completed t (onRead t (length out) channel offset size) ram out
     unfolding completed onRead
     read-beyond h = rw (o .found, o .here, sym read-test ∙ h)
 
     pub read-done : far || ltb (length out) count ≡ false → (room start : ℕ) (after : List ℕ) → room ≡ t .room → start ≡ bufferAt t i
         → after ≡ filled count (lineFrom (t .chain) room ram (start + from) count) out
-        → result (gives (Done 0 size) t) ram after ≡ completed t (onRead t (length out) channel offset size) ram (read channel offset size) out
+        → result (gives (Done 0 size) t) ram after ≡ completed t (onRead t (length out) channel offset size) ram out
     unfolding completed onRead
     read-done h room start after r s a = rw (o .found, o .here, sym read-test ∙ h, a, e, f, r, s)
 
@@ -51,7 +51,7 @@ module _ (t : Tables) (ram out : List ℕ) (channel offset size : ℕ) where
 
 module _ (t : Tables) (ram bytes : List ℕ) (channel offset : ℕ) where
   pub write-closed : t .opened ≤ channelAt t channel → (out : List ℕ)
-      → result (gives NoChannel t) ram out ≡ completed t (onWrite t channel offset (length bytes)) ram (write channel offset bytes) out
+      → result (gives NoChannel t) ram out ≡ completed t (onWrite t channel offset bytes) ram out
   unfolding completed onWrite
   write-closed h out = rw (le-leb (t .opened) (channelAt t channel) h)
 
@@ -60,12 +60,12 @@ module _ (t : Tables) (ram bytes : List ℕ) (channel offset : ℕ) where
     write-test = rw (b, is, e)
 
     pub write-beyond : far ≡ true → (out : List ℕ)
-        → result (gives BadRange t) ram out ≡ completed t (onWrite t channel offset (length bytes)) ram (write channel offset bytes) out
+        → result (gives BadRange t) ram out ≡ completed t (onWrite t channel offset bytes) ram out
     unfolding completed onWrite
     write-beyond h out = rw (o .found, o .here, sym write-test ∙ h)
 
     pub write-done : far ≡ false → (room start : ℕ) (after : List ℕ) → room ≡ t .room → start ≡ bufferAt t i → after ≡ putLine (t .chain) room ram (start + from) bytes
-        → (out : List ℕ) → result (gives (Done 0 (length bytes)) t) after out ≡ completed t (onWrite t channel offset (length bytes)) ram (write channel offset bytes) out
+        → (out : List ℕ) → result (gives (Done 0 (length bytes)) t) after out ≡ completed t (onWrite t channel offset bytes) ram out
     unfolding completed onWrite
     write-done h room start after r s a out = rw (o .found, o .here, sym write-test ∙ h, a, e, r, s)
 
@@ -111,7 +111,7 @@ module _ (t : Tables) (channel : ℕ) where
 
 module _ (t : Tables) (ram bytes : List ℕ) (segment offset : ℕ) where
   pub store-other : (n row : ℕ) (may : Bool) → n ≡ t .segments → row ≡ firstOf segment (take n (t .list)) → may ≡ mayReach t row → not may ≡ true → (out : List ℕ)
-      → result (gives NotOwner t) ram out ≡ completed t (onStore t segment offset (length bytes)) ram (store segment offset bytes) out
+      → result (gives NotOwner t) ram out ≡ completed t (onStore t segment offset bytes) ram out
   unfolding completed onStore
   store-other n row may e f m h out =
       let here : rowOf t segment ≡ row = sym (rw e at f) in
@@ -124,7 +124,7 @@ module _ (t : Tables) (ram bytes : List ℕ) (segment offset : ℕ) where
     store-test = rw (b, k, e)
 
     pub store-beyond : far ≡ true → (out : List ℕ)
-        → result (gives BadRange t) ram out ≡ completed t (onStore t segment offset (length bytes)) ram (store segment offset bytes) out
+        → result (gives BadRange t) ram out ≡ completed t (onStore t segment offset bytes) ram out
     unfolding completed onStore
     store-beyond h out = rw (x .here, x .may, sym store-test ∙ h)
 
@@ -133,12 +133,12 @@ module _ (t : Tables) (ram bytes : List ℕ) (segment offset : ℕ) where
       store-guard = rw (q, e)
 
       pub store-guarded : hit ≡ true → (out : List ℕ)
-          → result (gives Guarded t) ram out ≡ completed t (onStore t segment offset (length bytes)) ram (store segment offset bytes) out
+          → result (gives Guarded t) ram out ≡ completed t (onStore t segment offset bytes) ram out
       unfolding completed onStore
       store-guarded y out = rw (x .here, x .may, sym store-test ∙ h, sym store-guard ∙ y)
 
       pub store-done : hit ≡ false → (after : List ℕ) → after ≡ putAt ram (16384 * row + from) bytes → (out : List ℕ)
-          → result (gives (Done 0 (length bytes)) t) after out ≡ completed t (onStore t segment offset (length bytes)) ram (store segment offset bytes) out
+          → result (gives (Done 0 (length bytes)) t) after out ≡ completed t (onStore t segment offset bytes) ram out
       unfolding completed onStore
       store-done y after a out = rw (x .here, x .may, sym store-test ∙ h, sym store-guard ∙ y, a, e)
 
@@ -146,7 +146,7 @@ module _ (t : Tables) (ram bytes : List ℕ) (segment offset : ℕ) where
 
 module _ (t : Tables) (ram out : List ℕ) (segment offset size : ℕ) where
   pub load-other : (n row : ℕ) (may : Bool) → n ≡ t .segments → row ≡ firstOf segment (take n (t .list)) → may ≡ mayReach t row → not may ≡ true
-      → result (gives NotOwner t) ram out ≡ completed t (onLoad t (length out) segment offset size) ram (load segment offset size) out
+      → result (gives NotOwner t) ram out ≡ completed t (onLoad t (length out) segment offset size) ram out
   unfolding completed onLoad
   load-other n row may e f m h =
       let here : rowOf t segment ≡ row = sym (rw e at f) in
@@ -159,11 +159,11 @@ module _ (t : Tables) (ram out : List ℕ) (segment offset size : ℕ) where
     load-test = rw (b, k, e, f)
 
     pub load-beyond : far || ltb (length out) count ≡ true
-        → result (gives BadRange t) ram out ≡ completed t (onLoad t (length out) segment offset size) ram (load segment offset size) out
+        → result (gives BadRange t) ram out ≡ completed t (onLoad t (length out) segment offset size) ram out
     unfolding completed onLoad
     load-beyond h = rw (x .here, x .may, sym load-test ∙ h)
 
     pub load-done : far || ltb (length out) count ≡ false → (after : List ℕ) → after ≡ filled count (take count (drop (16384 * row + from) ram)) out
-        → result (gives (Done 0 size) t) ram after ≡ completed t (onLoad t (length out) segment offset size) ram (load segment offset size) out
+        → result (gives (Done 0 size) t) ram after ≡ completed t (onLoad t (length out) segment offset size) ram out
     unfolding completed onLoad
     load-done h after a = rw (x .here, x .may, sym load-test ∙ h, a, e, f)

@@ -15,9 +15,10 @@ use Rattle.kernel.specs.Definition.Tables.{SEGMENT, numberAt, rowOf, las
 use Rattle.kernel.specs.Definition.Good.{Good}
 use Rattle.kernel.specs.Definition.Line.{boundaryOf}
 use Rattle.kernel.specs.Definition.Segments.{classFor, granting, sharingLast, freeing, bounding}
-use Rattle.kernel.specs.Definition.Answers.{gives}
-use Rattle.kernel.specs.Definition.Calls.{onBoundary, onSetUserBoundary, onAllocate, onFree, onStatus, status}
-use Rattle.kernel.specs.Definition.Step.{completed, result, countsOf}
+use Rattle.kernel.specs.Definition.Answers.{gives, _changing_}
+use Rattle.kernel.specs.Definition.Calls.{onBoundary, onSetUserBoundary, onAllocate, onFree, onStatus}
+use Rattle.kernel.specs.Definition.Bytes.{nothing, countsOf}
+use Rattle.kernel.specs.Definition.Step.{completed, result}
 use Rattle.kernel.specs.declared.Tables.{Tables}
 use Rattle.kernel.specs.declared.Answer.the-variants.{Done, BadCall, NoSegment, NotOwner, BadBoundary, BadRange, Shared}
 
@@ -30,7 +31,7 @@ last-below t n last g e f =
     let l : last ≡ lastRow t = last-of t n last e f in
     omega (arith, g .chain .rows (t .held - 1) (omega (arith, g .chain .holds)), g .list .most)
 
-pub boundary-done : (t : Tables) (last edge : ℕ) → last ≡ lastRow t → edge ≡ boundaryOf t → gives (Done (numberAt t last) edge) t ≡ onBoundary t
+pub boundary-done : (t : Tables) (last edge : ℕ) → last ≡ lastRow t → edge ≡ boundaryOf t → gives (Done (numberAt t last) edge) t changing nothing ≡ onBoundary t
 unfolding onBoundary
 boundary-done t last edge e f = rw (e, f)
 
@@ -42,35 +43,35 @@ found-some : (xs : List ℕ) (k m n row : ℕ) → n ≡ m → row ≡ firstOf k
 found-some xs k m n row e f h = rw (f, e) at h
 
 module _ (t : Tables) (n : ℕ) (count : n ≡ t .segments) where
-  pub bound-none : (value row : ℕ) → row ≡ firstOf SHARED (take n (t .classes)) → n ≤ row → gives BadBoundary t ≡ onSetUserBoundary t value
+  pub bound-none : (value row : ℕ) → row ≡ firstOf SHARED (take n (t .classes)) → n ≤ row → gives BadBoundary t changing nothing ≡ onSetUserBoundary t value
   unfolding onSetUserBoundary
   bound-none value row f h = rw (le-ltb _ _ (found-none (t .classes) SHARED (t .segments) n row count f h))
 
   pub bound-above : (value row edge : ℕ) → row ≡ firstOf SHARED (take n (t .classes)) → row < n → edge ≡ boundaryOf t → edge < value
-      → gives BadBoundary t ≡ onSetUserBoundary t value
+      → gives BadBoundary t changing nothing ≡ onSetUserBoundary t value
   unfolding onSetUserBoundary
   bound-above value row edge f h e l =
       let g : boundaryOf t < value = rw e at l in
       rw (lt-ltb _ _ (found-some (t .classes) SHARED (t .segments) n row count f h), lt-ltb _ _ g)
 
   pub bound-done : (value row edge : ℕ) → row ≡ firstOf SHARED (take n (t .classes)) → row < n → edge ≡ boundaryOf t → value ≤ edge
-      → gives (Done 0 0) (withSegments t (t .classes) (t .held) (t .chain) value) ≡ onSetUserBoundary t value
+      → gives (Done 0 0) (withSegments t (t .classes) (t .held) (t .chain) value) changing nothing ≡ onSetUserBoundary t value
   unfolding onSetUserBoundary bounding
   bound-done value row edge f h e l =
       let g : value ≤ boundaryOf t = rw e at l in
       rw (lt-ltb _ _ (found-some (t .classes) SHARED (t .segments) n row count f h), le-ltb _ _ g)
 
   pub allocate-free : (caller row : ℕ) → caller ≤ 1 → row ≡ firstOf FREE (take n (t .classes)) → row < n
-      → gives (Done (numberAt t row) SEGMENT) (withSegments t (set (t .classes) row (classFor caller)) (t .held) (t .chain) (t .user)) ≡ onAllocate t caller
+      → gives (Done (numberAt t row) SEGMENT) (withSegments t (set (t .classes) row (classFor caller)) (t .held) (t .chain) (t .user)) changing nothing ≡ onAllocate t caller
   unfolding onAllocate granting
   allocate-free caller row who f h = rw (f, count, le-ltb 1 caller who, lt-ltb _ _ (found-some (t .classes) FREE (t .segments) n row count f h))
 
-  pub allocate-device : (caller row : ℕ) → caller ≤ 1 → row ≡ firstOf FREE (take n (t .classes)) → n ≤ row → caller ≡ 1 → gives NoSegment t ≡ onAllocate t caller
+  pub allocate-device : (caller row : ℕ) → caller ≤ 1 → row ≡ firstOf FREE (take n (t .classes)) → n ≤ row → caller ≡ 1 → gives NoSegment t changing nothing ≡ onAllocate t caller
   unfolding onAllocate
   allocate-device caller row who f h e = rw (e, le-ltb _ _ (found-none (t .classes) FREE (t .segments) n row count f h))
 
   pub allocate-shared : (caller row part : ℕ) → caller ≤ 1 → row ≡ firstOf FREE (take n (t .classes)) → n ≤ row → (caller ≡ 1 → ⊥)
-      → part ≡ firstOf SHARED (take n (t .classes)) → part < n → gives NoSegment t ≡ onAllocate t caller
+      → part ≡ firstOf SHARED (take n (t .classes)) → part < n → gives NoSegment t changing nothing ≡ onAllocate t caller
   unfolding onAllocate
   allocate-shared caller row part who f h c g l =
       let z : caller ≡ 0 = omega arith in
@@ -78,7 +79,7 @@ module _ (t : Tables) (n : ℕ) (count : n ≡ t .segments) where
 
   module _ (caller row part edge : ℕ) (who : caller ≤ 1) (f : row ≡ firstOf FREE (take n (t .classes))) (h : n ≤ row) (c : caller ≡ 1 → ⊥)
       (g : part ≡ firstOf SHARED (take n (t .classes))) (l : n ≤ part) (e : edge ≡ boundaryOf t) where
-    pub allocate-edge : edge ≡ 0 → gives NoSegment t ≡ onAllocate t caller
+    pub allocate-edge : edge ≡ 0 → gives NoSegment t changing nothing ≡ onAllocate t caller
     unfolding onAllocate
     allocate-edge k =
         let z : caller ≡ 0 = omega arith in
@@ -86,7 +87,7 @@ module _ (t : Tables) (n : ℕ) (count : n ≡ t .segments) where
         rw (z, le-ltb _ _ (found-none (t .classes) FREE (t .segments) n row count f h), le-ltb _ _ (found-none (t .classes) SHARED (t .segments) n part count g l), b)
 
     pub allocate-share : (edge ≡ 0 → ⊥) → (last : ℕ) → last ≡ lastRow t
-        → gives (Shared (numberAt t last) edge) (withSegments t (set (t .classes) last SHARED) (t .held) (t .chain) edge) ≡ onAllocate t caller
+        → gives (Shared (numberAt t last) edge) (withSegments t (set (t .classes) last SHARED) (t .held) (t .chain) edge) changing nothing ≡ onAllocate t caller
     unfolding onAllocate sharingLast
     allocate-share k last r =
         let z : caller ≡ 0 = omega arith in
@@ -94,15 +95,15 @@ module _ (t : Tables) (n : ℕ) (count : n ≡ t .segments) where
         let b : 0 < boundaryOf t = rw e at p in
         rw (z, le-ltb _ _ (found-none (t .classes) FREE (t .segments) n row count f h), le-ltb _ _ (found-none (t .classes) SHARED (t .segments) n part count g l), lt-ltb _ _ b, r, e)
 
-  pub free-absent : (caller segment row : ℕ) → caller ≤ 1 → row ≡ firstOf segment (take n (t .list)) → n ≤ row → gives NotOwner t ≡ onFree t caller segment
+  pub free-absent : (caller segment row : ℕ) → caller ≤ 1 → row ≡ firstOf segment (take n (t .list)) → n ≤ row → gives NotOwner t changing nothing ≡ onFree t caller segment
   unfolding onFree
   free-absent caller segment row who f h = rw (le-ltb 1 caller who, le-ltb _ _ (found-none (t .list) segment (t .segments) n row count f h))
 
-pub allocate-caller : (t : Tables) (caller : ℕ) → 1 < caller → gives BadCall t ≡ onAllocate t caller
+pub allocate-caller : (t : Tables) (caller : ℕ) → 1 < caller → gives BadCall t changing nothing ≡ onAllocate t caller
 unfolding onAllocate
 allocate-caller t caller h = rw (lt-ltb 1 caller h)
 
-pub free-caller : (t : Tables) (caller segment : ℕ) → 1 < caller → gives BadCall t ≡ onFree t caller segment
+pub free-caller : (t : Tables) (caller segment : ℕ) → 1 < caller → gives BadCall t changing nothing ≡ onFree t caller segment
 unfolding onFree
 free-caller t caller segment h = rw (lt-ltb 1 caller h)
 
@@ -115,7 +116,7 @@ module _ (t : Tables) (n caller segment row class : ℕ) (count : n ≡ t .segme
   within : row < t .segments
   within = rw count at h
 
-  pub free-own : class ≡ classFor caller → gives (Done 0 0) (withSegments t (set (t .classes) row FREE) (t .held) (t .chain) (t .user)) ≡ onFree t caller segment
+  pub free-own : class ≡ classFor caller → gives (Done 0 0) (withSegments t (set (t .classes) row FREE) (t .held) (t .chain) (t .user)) changing nothing ≡ onFree t caller segment
   unfolding onFree freeing
   free-own e =
       let c : at (t .classes) row ≡ classFor caller = sym k ∙ e in
@@ -126,14 +127,14 @@ module _ (t : Tables) (n caller segment row class : ℕ) (count : n ≡ t .segme
       apart-of true = refl
       apart-of false = refl
 
-  pub free-shared : eqb caller 0 && eqb class SHARED ≡ true → gives (Done 0 0) (withSegments t (set (t .classes) row SYSTEM) (t .held) (t .chain) 0) ≡ onFree t caller segment
+  pub free-shared : eqb caller 0 && eqb class SHARED ≡ true → gives (Done 0 0) (withSegments t (set (t .classes) row SYSTEM) (t .held) (t .chain) 0) changing nothing ≡ onFree t caller segment
   unfolding onFree freeing
   free-shared e =
       let z : caller ≡ 0 = eqb-true caller 0 (and-left (eqb caller 0) (eqb class SHARED) e) in
       let c : at (t .classes) row ≡ SHARED = sym k ∙ eqb-true class SHARED (and-right (eqb caller 0) (eqb class SHARED) e) in
       rw (here, z, lt-ltb _ _ within, c)
 
-  pub free-other : (class ≡ classFor caller → ⊥) → eqb caller 0 && eqb class SHARED ≡ false → gives NotOwner t ≡ onFree t caller segment
+  pub free-other : (class ≡ classFor caller → ⊥) → eqb caller 0 && eqb class SHARED ≡ false → gives NotOwner t changing nothing ≡ onFree t caller segment
   unfolding onFree
   free-other e z =
       let y : eqb caller 0 && eqb (at (t .classes) row) SHARED ≡ false = rw k at z in
@@ -144,11 +145,11 @@ pub count-byte : (t : Tables) (class n k : ℕ) → n ≡ t .segments → k ≡ 
 count-byte t class n k e f h = let z : k % 256 ≡ k = omega arith in z ∙ rw (f, e)
 
 module _ (t : Tables) (ram out : List ℕ) where
-  pub status-short : length out < 5 → result (gives BadRange t) ram out ≡ completed t (onStatus t (length out)) ram status out
+  pub status-short : length out < 5 → result (gives BadRange t) ram out ≡ completed t (onStatus t (length out)) ram out
   unfolding completed onStatus
   status-short h = rw (lt-ltb _ _ h)
 
   pub status-done : (counts after : List ℕ) → 5 ≤ length out → counts ≡ countsOf t → after ≡ filled 5 (take 5 (drop 0 counts)) out
-      → result (gives (Done 0 5) t) ram after ≡ completed t (onStatus t (length out)) ram status out
+      → result (gives (Done 0 5) t) ram after ≡ completed t (onStatus t (length out)) ram out
   unfolding completed onStatus
   status-done counts after h e f = rw (f, e, le-ltb _ _ h)

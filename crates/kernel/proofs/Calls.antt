@@ -9,9 +9,10 @@ use lib.ListN.{length}
 use Rattle.rows.specs.Laws.Lists.{and-right}
 use Rattle.kernel.specs.Definition.Tables.{ramSize}
 use Rattle.kernel.specs.Definition.Good.{Good, goodTest}
-use Rattle.kernel.specs.Definition.Answers.{gives, granted}
+use Rattle.kernel.specs.Definition.Answers.{gives, Decision, _changing_}
 use Rattle.kernel.specs.Definition.Calls.{Call, isStart}
-use Rattle.kernel.specs.Definition.Step.{accepted, heard, decided, ramAfter, outputAfter, result, completed, step}
+use Rattle.kernel.specs.Definition.Bytes.{nothing}
+use Rattle.kernel.specs.Definition.Step.{accepted, heard, decided, result, completed, step}
 use Rattle.kernel.specs.declared.Tables.{Tables}
 use Rattle.kernel.specs.declared.Outcome.{Outcome}
 use Rattle.kernel.specs.declared.Answer.the-variants.{BadTables}
@@ -28,24 +29,19 @@ module _ (t : Tables) (ram : List ℕ) (c : Call) (out : List ℕ) (b : Bool) (e
   unfolding step decided completed
   call-refused s n r q = let a : accepted t (length ram) ≡ false = sym e ∙ not-true b n in rw (q, s, a)
 
-  heard-by : (s : Bool) → accepted t (length ram) ≡ true → (o : Outcome) → cond (not (s || accepted t (length ram))) (gives BadTables t) o ≡ o
-  heard-by true a o = refl
-  heard-by false a o = rw a
+  heard-by : (s : Bool) → accepted t (length ram) ≡ true → (d : Decision) → cond (not (s || accepted t (length ram))) (gives BadTables t changing nothing) d ≡ d
+  heard-by true a d = refl
+  heard-by false a d = rw a
 
-  step-heard : not b ≡ false → completed t (heard t (length ram) (length out) c) ram c out ≡ step t ram c out
+  step-heard : not b ≡ false → completed t (heard t (length ram) (length out) c) ram out ≡ step t ram c out
   unfolding step decided
   step-heard n = rw (heard-by (isStart c) (sym e ∙ not-false b n) (heard t (length ram) (length out) c))
 
-  pub call-done : not b ≡ false → (r : Outcome) (ram' out' : List ℕ) → result r ram' out' ≡ completed t (heard t (length ram) (length out) c) ram c out
+  pub call-done : not b ≡ false → (r : Outcome) (ram' out' : List ℕ) → result r ram' out' ≡ completed t (heard t (length ram) (length out) c) ram out
       → result r ram' out' ≡ step t ram c out
   call-done n r ram' out' q = q ∙ step-heard n
 
   -- a call that touches neither the RAM nor the output
-  pub call-quiet : not b ≡ false → (r : Outcome) → ramAfter t (r .tables) ram c ≡ ram → outputAfter t ram c out ≡ out
-      → r ≡ heard t (length ram) (length out) c → result r ram out ≡ step t ram c out
+  pub call-quiet : not b ≡ false → (r : Outcome) → r changing nothing ≡ heard t (length ram) (length out) c → result r ram out ≡ step t ram c out
   unfolding completed
-  call-quiet n r p q h = call-done n r ram out (rw (← h) (sym (quiet (granted (r .answer)))))
-    where
-      quiet : (d : Bool) → result r (cond d (ramAfter t (r .tables) ram c) ram) (cond d (outputAfter t ram c out) out) ≡ result r ram out
-      quiet true = rw (p, q)
-      quiet false = refl
+  call-quiet n r h = call-done n r ram out (rw (← h))

@@ -16,8 +16,9 @@ use Rattle.kernel.specs.Definition.Tables.{channelAt, ramSize, withChann
 use Rattle.kernel.specs.Definition.Good.{Good}
 use Rattle.kernel.specs.Definition.Line.{recordAt, sizeAt, shrunk, closing}
 use Rattle.kernel.specs.Definition.Answers.{gives}
-use Rattle.kernel.specs.Definition.Calls.{onClose, close}
-use Rattle.kernel.specs.Definition.Step.{completed, result, ramClosed}
+use Rattle.kernel.specs.Definition.Calls.{onClose}
+use Rattle.kernel.specs.Definition.Bytes.{ramClosed}
+use Rattle.kernel.specs.Definition.Step.{completed, result}
 use Rattle.kernel.specs.Within.{Fit}
 use Rattle.kernel.specs.Laws.Facts.{fit}
 use Rattle.kernel.specs.Laws.Chains.{good-chain}
@@ -51,11 +52,11 @@ module _ (t : Tables) (i start n opened line room : ℕ) (s : start ≡ recordAt
 -- the channel's row, as the code finds it
 
 module _ (t : Tables) (channel : ℕ) (ram out : List ℕ) where
-  pub close-gone : t .opened ≤ channelAt t channel → result (gives NoChannel t) ram out ≡ completed t (onClose t channel) ram (close channel) out
+  pub close-gone : t .opened ≤ channelAt t channel → result (gives NoChannel t) ram out ≡ completed t (onClose t channel) ram out
   unfolding completed onClose
   close-gone h = rw (le-leb _ _ h)
 
   pub close-done : (i : ℕ) (next : Tables) (after : List ℕ) → channelAt t channel ≡ i → i < t .opened → next ≡ closing t i → after ≡ ramClosed t ram i
-      → result (gives (Done 0 0) next) after out ≡ completed t (onClose t channel) ram (close channel) out
+      → result (gives (Done 0 0) next) after out ≡ completed t (onClose t channel) ram out
   unfolding completed onClose
   close-done i next after e h n a = rw (n, a, e, lt-leb _ _ h)

@@ -11,18 +11,19 @@ use Rattle.names.specs.Definition.Words.{wordOf}
 use Rattle.names.specs.Definition.Tests.{defaultNameTest}
 use Rattle.names.specs.Laws.Runs.{default-right}
 use Rattle.kernel.specs.Definition.Tables.{withDefault}
-use Rattle.kernel.specs.Definition.Answers.{gives}
+use Rattle.kernel.specs.Definition.Bytes.{nothing}
+use Rattle.kernel.specs.Definition.Answers.{gives, _changing_}
 use Rattle.kernel.specs.Definition.Calls.{onDefault}
 use Rattle.kernel.specs.declared.Tables.{Tables}
 use Rattle.kernel.specs.declared.Answer.the-variants.{Done, BadName}
 
 module _ (t : Tables) (unit : ℕ) (name : List ℕ) (fine : Bool) (e : fine ≡ defaultNameTest name) where
-  pub default-refused : not fine ≡ true → gives BadName t ≡ onDefault t unit name
+  pub default-refused : not fine ≡ true → gives BadName t changing nothing ≡ onDefault t unit name
   unfolding onDefault
   default-refused n = let f : defaultNameTest name ≡ false = sym e ∙ not-true fine n in rw f
 
   pub default-done : not fine ≡ false → (capitals : List ℕ) → capitals ≡ wordOf (take (length name) name)
-      → gives (Done 0 0) (withDefault t capitals (length name % 256) unit) ≡ onDefault t unit name
+      → gives (Done 0 0) (withDefault t capitals (length name % 256) unit) changing nothing ≡ onDefault t unit name
   unfolding onDefault
   default-done n capitals w =
       let f : defaultNameTest name ≡ true = sym e ∙ not-false fine n in

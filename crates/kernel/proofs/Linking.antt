@@ -21,8 +21,9 @@ use Rattle.kernel.specs.Definition.Tables.{ramSize, withDevices}
 use Rattle.kernel.specs.Definition.Good.{Good}
 use Rattle.kernel.specs.Definition.Line.{totalOf, grown, roomFor}
 use Rattle.kernel.specs.Definition.Devices.{linking}
-use Rattle.kernel.specs.Definition.Answers.{gives}
-use Rattle.kernel.specs.Definition.Calls.{link, onLink}
+use Rattle.kernel.specs.Definition.Bytes.{nothing, moved}
+use Rattle.kernel.specs.Definition.Answers.{gives, _changing_}
+use Rattle.kernel.specs.Definition.Calls.{onLink}
 use Rattle.kernel.specs.Definition.Step.{completed, result}
 use Rattle.kernel.specs.Within.{Links, roomToLink}
 use Rattle.kernel.specs.Laws.Links.{linking-room, linking-held, linking-chain}
@@ -59,17 +60,17 @@ module _ (t : Tables) (m room size : ℕ) (a : room ≡ t .room) (b : size ≡ m
 
 -- the name, the number of devices, and the room
 module _ (t : Tables) (m : ℕ) (name : List ℕ) (ok : Bool) (n : ok ≡ linkNameTest name) where
-  pub link-unnamed : not ok ≡ true → onLink t m name ≡ gives BadName t
+  pub link-unnamed : not ok ≡ true → onLink t m name ≡ gives BadName t changing nothing
   unfolding onLink
   link-unnamed h = rw (← n, h)
 
   module _ (named : not ok ≡ false) where
-    pub link-full : 16 ≤ t .known → onLink t m name ≡ gives Full t
+    pub link-full : 16 ≤ t .known → onLink t m name ≡ gives Full t changing nothing
     unfolding onLink
     link-full h = rw (← n, named, le-leb _ _ h)
 
     module _ (few : t .known < 16) (fits : Bool) (r : fits ≡ roomToLink t m) where
-      pub link-none : not fits ≡ true → onLink t m name ≡ gives NoRoom t
+      pub link-none : not fits ≡ true → onLink t m name ≡ gives NoRoom t changing nothing
       unfolding onLink
       link-none h =
           let k : (ltb (t .room) (256 + m) || not (roomFor t (t .room - m) (totalOf t))) ≡ true = not-false _ (sym r ∙ not-true _ h) in
@@ -78,7 +79,7 @@ module _ (t : Tables) (m : ℕ) (name : List ℕ) (ok : Bool) (n : ok ≡ linkNa
       room-rule : not fits ≡ false → (ltb (t .room) (256 + m) || not (roomFor t (t .room - m) (totalOf t))) ≡ false
       room-rule h = not-true _ (sym r ∙ not-false _ h)
 
-      pub link-answer : not fits ≡ false → onLink t m name ≡ gives (Done (t .known) (t .room - m)) (linking t m (wordOf name) (length name))
+      pub link-answer : not fits ≡ false → onLink t m name ≡ gives (Done (t .known) (t .room - m)) (linking t m (wordOf name) (length name)) changing moved m
       unfolding onLink
       link-answer h = rw (← n, named, lt-leb _ _ few, room-rule h)
 
@@ -98,7 +99,7 @@ module _ (t : Tables) (m : ℕ) (name : List ℕ) (g : Good t) (l : Links t m na
   link-chain bytes h = (omega (arith, l .least), rw (a, b, d, e) (linking-chain t m name g l bytes h))
 
   pub link-done : (ram after out : List ℕ) → after ≡ afterLink (next .chain) room size ram total
-      → onLink t m name ≡ gives (Done (t .known) (t .room - m)) (linking t m (wordOf name) (length name))
-      → result (gives (Done (t .known) (next .room)) next) after out ≡ completed t (onLink t m name) ram (link m name) out
+      → onLink t m name ≡ gives (Done (t .known) (t .room - m)) (linking t m (wordOf name) (length name)) changing moved m
+      → result (gives (Done (t .known) (next .room)) next) after out ≡ completed t (onLink t m name) ram out
   unfolding completed
   link-done ram after out h o = rw (h, a, b, d, o, e, linking-room t m name g l)

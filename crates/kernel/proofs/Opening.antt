@@ -28,28 +28,20 @@ use Rattle.kernel.specs.Definition.Tables.{ramSize, channelAt, withChann
 use Rattle.kernel.specs.Definition.Good.{Good}
 use Rattle.kernel.specs.Definition.Line.{totalOf, grown, roomFor, opening}
 use Rattle.kernel.specs.Definition.Names.{unitOr, wantedBy}
-use Rattle.kernel.specs.Definition.Answers.{gives}
-use Rattle.kernel.specs.Definition.Calls.{«open», onOpen, onOpenNamed, onOpenTo}
-use Rattle.kernel.specs.Definition.Step.{Result, completed, result, ramOpened}
+use Rattle.kernel.specs.Definition.Bytes.{nothing, appended}
+use Rattle.kernel.specs.Definition.Answers.{gives, Decision, _changing_}
+use Rattle.kernel.specs.Definition.Calls.{onOpen, onOpenNamed, onOpenTo}
+use Rattle.kernel.specs.Definition.Step.{Result, completed, result}
 use Rattle.kernel.specs.Within.{New, Fits, onOpenRow}
-use Rattle.kernel.specs.Laws.Opens.{opening-held, opening-row, opening-chain}
+use Rattle.kernel.specs.Laws.Opens.{opening-held, opening-chain}
 use Rattle.kernel.specs.Laws.Wants.{parts-few, meant}
 use Rattle.kernel.specs.declared.Tables.{Tables}
 use Rattle.kernel.specs.declared.Wanted.{Wanted}
 use Rattle.kernel.specs.declared.Answer.the-variants.{Done, NoChannel, Exists, BadName, NoDevice, Driver, Full, NoRoom}
-use Rattle.kernel.specs.declared.Outcome.{Outcome}
 
--- a call's body says no more than its answer and the next tables
-pub onward : (t : Tables) (o p : Outcome) (r : Result) (ram out : List ℕ) (a b c d e f : ℕ) (s u : List ℕ) → p ≡ o → r ≡ completed t o ram («open» a b c s) out
-    → r ≡ completed t p ram («open» d e f u) out
-unfolding completed
-onward t o p r ram out a b c d e f s u q h = rw q h
-
--- the RAM after an open that was done is what the next tables say
-done : (t : Tables) (o : Outcome) (u : Tables) (a b : ℕ) (ram after out : List ℕ) (d e f : ℕ) (s : List ℕ) → o ≡ gives (Done a b) u → after ≡ ramOpened t u ram
-    → result (gives (Done a b) u) after out ≡ completed t o ram («open» d e f s) out
-unfolding completed
-done t o u a b ram after out d e f s q h = rw (q, h)
+-- what a part of open decides is what all of it does
+pub onward : (t : Tables) (d e : Decision) (r : Result) (ram out : List ℕ) → e ≡ d → r ≡ completed t d ram out → r ≡ completed t e ram out
+onward t d e r ram out q h = rw q h
 
 module _ (t : Tables) (channel n : ℕ) (place : Lookup) (count : n ≡ t .opened) (f : place ≡ foundAt (rowIn (take n (t .channels)) channel) n) where
   pub open-yes : (i : ℕ) → place ≡ At i → true ≡ ltb (channelAt t channel) (t .opened)
@@ -105,7 +97,7 @@ module _ (t : Tables) (c : Channel) (total size long held more : ℕ) (b : total
 
 -- the row, against the number of channels and the room
 module _ (t : Tables) (c : Channel) where
-  pub row-full : 32 ≤ t .opened → onOpenRow t c ≡ gives Full t
+  pub row-full : 32 ≤ t .opened → onOpenRow t c ≡ gives Full t changing nothing
   unfolding onOpenRow
   row-full h = rw (le-leb _ _ h)
 
@@ -114,7 +106,7 @@ module _ (t : Tables) (c : Channel) where
     room-is : ok ≡ roomFor t (t .room) (totalOf t + (16 + c .n))
     room-is = rw (r, d, b)
 
-    pub row-none : not ok ≡ true → onOpenRow t c ≡ gives NoRoom t
+    pub row-none : not ok ≡ true → onOpenRow t c ≡ gives NoRoom t changing nothing
     unfolding onOpenRow
     row-none n = rw (lt-leb _ _ few, ← room-is, n)
 
@@ -127,24 +119,20 @@ module _ (t : Tables) (c : Channel) where
         let z : total + 16 + c .n ≡ totalOf t + (16 + c .n) = omega arith in
         rw (z, a, e) (opening-chain t c g new fits size d)
 
-    row-answer : onOpenRow t c ≡ gives (Done (c .device) (c .unit)) next
+    row-answer : onOpenRow t c ≡ gives (Done (c .device) (c .unit)) next changing appended c
     unfolding onOpenRow
     row-answer = rw (lt-leb _ _ (fits .few), fits .room, e)
 
-    row-ram : (ram : List ℕ) → afterOpen (next .chain) (t .room) ram (totalOf t) (c .number) (c .device) (c .unit) (c .n) ≡ ramOpened t next ram
-    row-ram ram = rw (e, opening-row t c g new fits)
-
     pub row-done : (room total : ℕ) (ram after out : List ℕ) → room ≡ t .room → total ≡ totalOf t
         → after ≡ afterOpen (next .chain) room ram total (c .number) (c .device) (c .unit) (c .n)
-        → result (gives (Done (c .device) (c .unit)) next) after out ≡ completed t (onOpenRow t c) ram («open» (c .number) 0 (c .n) []) out
-    row-done room total ram after out a b h =
-        let k : afterOpen (next .chain) room ram total (c .number) (c .device) (c .unit) (c .n) ≡ ramOpened t next ram = rw (a, b) (row-ram ram) in
-        done t (onOpenRow t c) next (c .device) (c .unit) ram after out (c .number) 0 (c .n) [] row-answer (h ∙ k)
+        → result (gives (Done (c .device) (c .unit)) next) after out ≡ completed t (onOpenRow t c) ram out
+    unfolding completed
+    row-done room total ram after out a b h = rw (row-answer, h, a, b)
 
 -- the device, and the status of its driver
 module _ (t : Tables) (channel driver n : ℕ) (w : Wanted) (known : ℕ) (place : Lookup) (count : known ≡ t .known)
     (f : place ≡ foundAt (deviceIn (take known (t .devices)) (w .name) (w .length)) known) where
-  pub to-none : place ≡ Nowhere → onOpenTo t channel driver n w ≡ gives NoDevice t
+  pub to-none : place ≡ Nowhere → onOpenTo t channel driver n w ≡ gives NoDevice t changing nothing
   unfolding onOpenTo
   to-none e =
       let h : t .known ≤ deviceIn (take (t .known) (t .devices)) (w .name) (w .length) = rw count at (found-nowhere _ known (sym f ∙ e)) in
@@ -158,7 +146,7 @@ module _ (t : Tables) (channel driver n : ℕ) (w : Wanted) (known : ℕ) (place
         let b : deviceIn (take (t .known) (t .devices)) (w .name) (w .length) < t .known = rw count at (h .1) in
         (a, rw a at b)
 
-    pub to-driver : (driver ≡ 0 → ⊥) → onOpenTo t channel driver n w ≡ gives (Driver driver) t
+    pub to-driver : (driver ≡ 0 → ⊥) → onOpenTo t channel driver n w ≡ gives (Driver driver) t changing nothing
     unfolding onOpenTo
     to-driver z = rw (row-is .0, lt-leb _ _ (row-is .1), ne-eqb driver 0 z)
 
@@ -179,7 +167,7 @@ pub letters-few : (s : List ℕ) (parts : Parts) → parts ≡ partsOf (reading 
 letters-few s parts f letters unit file e = parts-few s letters unit file (sym f ∙ e)
 
 module _ (t : Tables) (channel driver n : ℕ) (s : List ℕ) (parts : Parts) (f : parts ≡ partsOf (reading s)) where
-  pub named-none : parts ≡ Refused → onOpenNamed t channel driver n (reading s) ≡ gives BadName t
+  pub named-none : parts ≡ Refused → onOpenNamed t channel driver n (reading s) ≡ gives BadName t changing nothing
   unfolding onOpenNamed
   named-none e = rw (parts-refused (reading s) (sym f ∙ e))
 
@@ -195,12 +183,12 @@ pub absent : (t : Tables) (channel : ℕ) (found : Bool) → found ≡ ltb (chan
 absent t channel found f e = ltb-false _ _ (sym f ∙ e)
 
 module _ (t : Tables) (channel driver n : ℕ) (s : List ℕ) where
-  pub good-none : channel ≡ 255 → onOpen t channel driver n s ≡ gives NoChannel t
+  pub good-none : channel ≡ 255 → onOpen t channel driver n s ≡ gives NoChannel t changing nothing
   unfolding onOpen
   good-none e = rw e
 
   module _ (some : channel ≡ 255 → ⊥) (found : Bool) (f : found ≡ ltb (channelAt t channel) (t .opened)) where
-    pub good-exists : found ≡ true → onOpen t channel driver n s ≡ gives Exists t
+    pub good-exists : found ≡ true → onOpen t channel driver n s ≡ gives Exists t changing nothing
     unfolding onOpen
     good-exists e = rw (ne-eqb channel 255 some, sym f ∙ e)
 

@@ -1,17 +1,16 @@
 -- What a refused call leaves.
 use mathlib.Core.Path.{_≡_}
-use mathlib.Core.Bool.{false}
 use mathlib.Core.List.{List}
 use Prim.Native.Nat.{ℕ}
-use Rattle.kernel.specs.Definition.Answers.{granted, gives}
-use Rattle.kernel.specs.Definition.Calls.{Call}
+use Rattle.kernel.specs.Definition.Bytes.{nothing}
+use Rattle.kernel.specs.Definition.Answers.{gives, Decision, _changing_}
 use Rattle.kernel.specs.Definition.Step.{completed, result}
 use Rattle.kernel.specs.declared.Tables.{Tables}
 use Rattle.kernel.specs.declared.Answer.{Answer}
 use Rattle.kernel.specs.declared.Outcome.{Outcome}
 
 -- a refusal changes nothing
-pub refused : (t : Tables) (answer : Answer) (o r : Outcome) (ram : List ℕ) (call : Call) (out : List ℕ) → r ≡ gives answer t → granted answer ≡ false
-    → o ≡ gives answer t → result r ram out ≡ completed t o ram call out
+pub refused : (t : Tables) (answer : Answer) (d : Decision) (r : Outcome) (ram out : List ℕ) → r ≡ gives answer t → d ≡ gives answer t changing nothing
+    → result r ram out ≡ completed t d ram out
 unfolding completed
-refused t answer o r ram call out q n e = rw (q, e, n)
+refused t answer d r ram out q e = rw (q, e)

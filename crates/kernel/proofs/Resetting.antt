@@ -18,8 +18,9 @@ use Rattle.kernel.specs.Definition.Good.{Good}
 use Rattle.kernel.specs.Definition.Line.{totalOf, shrunk}
 use Rattle.kernel.specs.Definition.Reset.{otherBits, bit5, bit6, closesAll, emptying, restoring, releasing, resetting}
 use Rattle.kernel.specs.Definition.Answers.{gives}
-use Rattle.kernel.specs.Definition.Calls.{onReset, reset}
-use Rattle.kernel.specs.Definition.Step.{completed, result, ramReset}
+use Rattle.kernel.specs.Definition.Calls.{onReset}
+use Rattle.kernel.specs.Definition.Bytes.{ramReset}
+use Rattle.kernel.specs.Definition.Step.{completed, result}
 use Rattle.kernel.specs.Within.{Fit}
 use Rattle.kernel.specs.Laws.Facts.{fit}
 use Rattle.kernel.specs.Laws.Chains.{good-chain}
@@ -121,11 +122,11 @@ module _ (t : Tables) (flags : ℕ) (ram between : List ℕ)
   ram-reset after b = rw (b, a)
 
 module _ (t : Tables) (flags : ℕ) (ram out : List ℕ) where
-  pub reset-refused : otherBits flags ≡ true → result (gives BadFlags t) ram out ≡ completed t (onReset t flags) ram (reset flags) out
+  pub reset-refused : otherBits flags ≡ true → result (gives BadFlags t) ram out ≡ completed t (onReset t flags) ram out
   unfolding completed onReset
   reset-refused h = rw h
 
   pub reset-done : otherBits flags ≡ false → (next : Tables) (after : List ℕ) → next ≡ resetting t flags → after ≡ ramReset t ram flags
-      → result (gives (Done 0 0) next) after out ≡ completed t (onReset t flags) ram (reset flags) out
+      → result (gives (Done 0 0) next) after out ≡ completed t (onReset t flags) ram out
   unfolding completed onReset
   reset-done h next after n a = rw (n, a, h)

@@ -19,7 +19,8 @@ use Rattle.rows.specs.declared.Device.{Device}
 use Rattle.kernel.specs.Definition.Start.{startTest, started}
 use Rattle.kernel.specs.Definition.Answers.{gives}
 use Rattle.kernel.specs.Definition.Calls.{start, onStart}
-use Rattle.kernel.specs.Definition.Step.{heard, decided, ramAfter, outputAfter, completed, result, step}
+use Rattle.kernel.specs.Definition.Bytes.{ramAfter, outputAfter}
+use Rattle.kernel.specs.Definition.Step.{heard, decided, completed, result, step}
 use Rattle.kernel.specs.declared.Tables.{Tables}
 use Rattle.kernel.specs.declared.Answer.the-variants.{Done, BadStart}
 

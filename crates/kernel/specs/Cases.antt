@@ -11,11 +11,10 @@ use Rattle.rows.specs.Laws.Lists.{every-at, and-left, and-right}
 use Rattle.rows.specs.Definition.Sizes.{chainLength, boundaryAt}
 use Rattle.kernel.specs.Definition.Line.{grown, shrunk}
 use Rattle.kernel.specs.Definition.Start.{noTables}
-use Rattle.kernel.specs.Definition.Answers.{numberOf, aOf, bOf}
+use Rattle.kernel.specs.Definition.Answers.{numberOf, aOf, bOf, Decision}
 use Rattle.kernel.specs.Definition.Calls.{Call, start, «open», close, boundary, set-user-boundary, allocate, load}
 use Rattle.kernel.specs.Definition.Step.{decided}
 use Rattle.kernel.specs.declared.Tables.{Tables}
-use Rattle.kernel.specs.declared.Outcome.{Outcome}
 
 -- a call, and the number, a and b that it must answer
 pub record Expected : Type 0 where
@@ -28,7 +27,7 @@ abbrev pub asks : Call → (number a b : ℕ) → Expected
 asks call number a b = record { call = call; number = number; a = a; b = b }
 
 -- four segments of RAM and 4,096 bytes of output are lent
-unfoldable pub answered : Tables → Call → Outcome
+unfoldable pub answered : Tables → Call → Decision
 unfolding decided
 answered t c = decided t 65536 4096 c
 

@@ -8,6 +8,7 @@ pub mod Devices
 pub mod Reset
 pub mod Start
 pub mod Names
+pub mod Bytes
 pub mod Answers
 pub mod Calls
 pub mod Fields

@@ -9,10 +9,10 @@ use Rattle.rows.specs.Definition.Lists.{at}
 use Rattle.rows.specs.declared.Channel.{Channel}
 use Rattle.kernel.specs.Definition.Tables.{channelAt}
 use Rattle.kernel.specs.Definition.Line.{totalOf, roomFor, opening}
-use Rattle.kernel.specs.Definition.Answers.{gives, unless, _when_}
+use Rattle.kernel.specs.Definition.Bytes.{appended}
+use Rattle.kernel.specs.Definition.Answers.{gives, Decision, _changing_, unless, _when_}
 use Rattle.kernel.specs.declared.Tables.{Tables}
 use Rattle.kernel.specs.declared.Answer.the-variants.{Done, Full, NoRoom}
-use Rattle.kernel.specs.declared.Outcome.{Outcome}
 
 -- what the code of the calls needs: the counts are within the arrays, and the chain's entries are rows
 pub record Fit (t : Tables) : Type 0 where
@@ -36,11 +36,11 @@ pub record Fits (t : Tables) (c : Channel) : Type 0 where
   pub room : roomFor t (t .room) (totalOf t + (16 + c .n)) ≡ true
 
 -- open, once the row is known
-unfoldable pub onOpenRow : Tables → Channel → Outcome
+unfoldable pub onOpenRow : Tables → Channel → Decision
 unfolding roomFor opening
 onOpenRow t c =
     unless (Full when leb 32 (t .opened) ∷ NoRoom when not (roomFor t (t .room) (totalOf t + (16 + c .n))) ∷ []) t
-    (gives (Done (c .device) (c .unit)) (opening t c))
+    (gives (Done (c .device) (c .unit)) (opening t c) changing appended c)
 
 -- the room rule for a device with m bytes
 abbrev pub roomToLink : Tables → (m : ℕ) → Bool

@@ -69,7 +69,7 @@ impl Tables {
         out: &mut [u8],
     ) -> Outcome
         requires { ⌜ Good self × (length (now ram) ≡ ramSize self) ⌝ }
-        ensures { λ r. ⌜ result r (now (ram .entry)) (now (out .exit)) ≡ completed self (onRead self (length (now (out .entry))) channel offset size) (now (ram .entry)) (calls.read channel offset size) (now (out .entry)) ⌝ }
+        ensures { λ r. ⌜ result r (now (ram .entry)) (now (out .exit)) ≡ completed self (onRead self (length (now (out .entry))) channel offset size) (now (ram .entry)) (now (out .entry)) ⌝ }
     {
         let channels = self.channels;
         let opened = wide(self.opened);
@@ -102,7 +102,7 @@ impl Tables {
 
     pub fn write_good(self, ram: &mut [u8], channel: u8, offset: u16, bytes: &[u8]) -> Outcome
         requires { ⌜ Good self × (length (now ram) ≡ ramSize self) ⌝ }
-        ensures { λ r. ⌜ ((out : List ℕ) → result r (now (ram .exit)) out ≡ completed self (onWrite self channel offset (length (now (bytes .entry)))) (now (ram .entry)) (calls.write channel offset (now (bytes .entry))) out) ⌝ }
+        ensures { λ r. ⌜ ((out : List ℕ) → result r (now (ram .exit)) out ≡ completed self (onWrite self channel offset (now (bytes .entry))) (now (ram .entry)) out) ⌝ }
     {
         let channels = self.channels;
         let opened = wide(self.opened);
@@ -159,7 +159,7 @@ impl Tables {
 
     pub fn store_good(self, ram: &mut [u8], segment: u8, offset: u16, bytes: &[u8]) -> Outcome
         requires { ⌜ Good self × (length (now ram) ≡ ramSize self) ⌝ }
-        ensures { λ r. ⌜ ((out : List ℕ) → result r (now (ram .exit)) out ≡ completed self (onStore self segment offset (length (now (bytes .entry)))) (now (ram .entry)) (calls.store segment offset (now (bytes .entry))) out) ⌝ }
+        ensures { λ r. ⌜ ((out : List ℕ) → result r (now (ram .exit)) out ≡ completed self (onStore self segment offset (now (bytes .entry))) (now (ram .entry)) out) ⌝ }
     {
         let list = self.list;
         let segments = wide(self.segments);
@@ -200,7 +200,7 @@ impl Tables {
         out: &mut [u8],
     ) -> Outcome
         requires { ⌜ Good self × (length (now ram) ≡ ramSize self) ⌝ }
-        ensures { λ r. ⌜ result r (now (ram .entry)) (now (out .exit)) ≡ completed self (onLoad self (length (now (out .entry))) segment offset size) (now (ram .entry)) (calls.load segment offset size) (now (out .entry)) ⌝ }
+        ensures { λ r. ⌜ result r (now (ram .entry)) (now (out .exit)) ≡ completed self (onLoad self (length (now (out .entry))) segment offset size) (now (ram .entry)) (now (out .entry)) ⌝ }
     {
         let list = self.list;
         let segments = wide(self.segments);

@@ -8,7 +8,8 @@ ghost use Rattle.kernel.specs.Definition.Good.{Good};
 ghost use Rattle.kernel.specs.Definition.Line.{closing};
 ghost use Rattle.kernel.specs.Definition.Calls.{onClose};
 ghost use Rattle.kernel.specs.Definition.Calls as calls;
-ghost use Rattle.kernel.specs.Definition.Step.{step, completed, result, ramClosed};
+ghost use Rattle.kernel.specs.Definition.Bytes.{ramClosed};
+ghost use Rattle.kernel.specs.Definition.Step.{step, completed, result};
 use super::Answer;
 use super::Outcome;
 use super::Tables;
@@ -67,7 +68,7 @@ impl Tables {
 
     pub fn close_good(self, ram: &mut [u8], channel: u8) -> Outcome
         requires { ⌜ Good self × (length (now ram) ≡ ramSize self) ⌝ }
-        ensures { λ r. ⌜ ((out : List ℕ) → result r (now (ram .exit)) out ≡ completed self (onClose self channel) (now (ram .entry)) (calls.close channel) out) ⌝ }
+        ensures { λ r. ⌜ ((out : List ℕ) → result r (now (ram .exit)) out ≡ completed self (onClose self channel) (now (ram .entry)) out) ⌝ }
     {
         let channels = self.channels;
         let opened = wide(self.opened);

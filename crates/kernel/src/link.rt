@@ -77,7 +77,7 @@ impl Tables {
 
     pub fn link_good(self, ram: &mut [u8], m: u16, name: &[u8]) -> Outcome
         requires { ⌜ Good self × (length (now ram) ≡ ramSize self) ⌝ }
-        ensures { λ r. ⌜ ((out : List ℕ) → result r (now (ram .exit)) out ≡ completed self (onLink self m (now (name .entry))) (now (ram .entry)) (calls.link m (now (name .entry))) out) ⌝ }
+        ensures { λ r. ⌜ ((out : List ℕ) → result r (now (ram .exit)) out ≡ completed self (onLink self m (now (name .entry))) (now (ram .entry)) out) ⌝ }
     {
         if !link_name(name) {
             return self.refuse(Answer::BadName);

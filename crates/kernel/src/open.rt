@@ -1,6 +1,6 @@
 // Open: a channel to the device that a string means.
 ghost use mathlib.Core.Path.{_≡_};
-ghost use mathlib.Core.List.{List, []};
+ghost use mathlib.Core.List.{List};
 ghost use Prim.Native.Nat.{ℕ, _≤_, _<_};
 ghost use lib.Dec.{ltb};
 ghost use lib.ListN.{length, take};
@@ -97,7 +97,7 @@ impl Tables {
     // Open, once the row is known.
     fn open_row(self, ram: &mut [u8], c: Channel) -> Outcome
         requires { ⌜ Good self × (length (now ram) ≡ ramSize self) × New self c ⌝ }
-        ensures { λ r. ⌜ ((out : List ℕ) → result r (now (ram .exit)) out ≡ completed self (onOpenRow self c) (now (ram .entry)) (calls.«open» (c .number) 0 (c .n) []) out) ⌝ }
+        ensures { λ r. ⌜ ((out : List ℕ) → result r (now (ram .exit)) out ≡ completed self (onOpenRow self c) (now (ram .entry)) out) ⌝ }
     {
         if 32 <= self.opened {
             return self.refuse(Answer::Full);
@@ -129,7 +129,7 @@ impl Tables {
     // Open, once the string is read.
     fn open_to(self, ram: &mut [u8], channel: u8, driver: u8, n: u16, w: Wanted) -> Outcome
         requires { ⌜ Good self × (length (now ram) ≡ ramSize self) × (channel < 255) × (self .opened ≤ channelAt self channel) ⌝ }
-        ensures { λ r. ⌜ ((out : List ℕ) → result r (now (ram .exit)) out ≡ completed self (onOpenTo self channel driver n w) (now (ram .entry)) (calls.«open» channel driver n []) out) ⌝ }
+        ensures { λ r. ⌜ ((out : List ℕ) → result r (now (ram .exit)) out ≡ completed self (onOpenTo self channel driver n w) (now (ram .entry)) out) ⌝ }
     {
         let devices = self.devices;
         let name = w.name;
@@ -151,7 +151,7 @@ impl Tables {
     // Open, once the channel is known to be a new one.
     fn open_named(self, ram: &mut [u8], channel: u8, driver: u8, n: u16, name: &[u8]) -> Outcome
         requires { ⌜ Good self × (length (now ram) ≡ ramSize self) × (channel < 255) × (self .opened ≤ channelAt self channel) ⌝ }
-        ensures { λ r. ⌜ ((out : List ℕ) → result r (now (ram .exit)) out ≡ completed self (onOpenNamed self channel driver n (reading (now (name .entry)))) (now (ram .entry)) (calls.«open» channel driver n (now (name .entry))) out) ⌝ }
+        ensures { λ r. ⌜ ((out : List ℕ) → result r (now (ram .exit)) out ≡ completed self (onOpenNamed self channel driver n (reading (now (name .entry)))) (now (ram .entry)) out) ⌝ }
     {
         let Parts::Read {
             letters,
@@ -176,7 +176,7 @@ impl Tables {
 
     pub fn open_good(self, ram: &mut [u8], channel: u8, driver: u8, n: u16, name: &[u8]) -> Outcome
         requires { ⌜ Good self × (length (now ram) ≡ ramSize self) ⌝ }
-        ensures { λ r. ⌜ ((out : List ℕ) → result r (now (ram .exit)) out ≡ completed self (onOpen self channel driver n (now (name .entry))) (now (ram .entry)) (calls.«open» channel driver n (now (name .entry))) out) ⌝ }
+        ensures { λ r. ⌜ ((out : List ℕ) → result r (now (ram .exit)) out ≡ completed self (onOpen self channel driver n (now (name .entry))) (now (ram .entry)) out) ⌝ }
     {
         if channel == 255 {
             return self.refuse(Answer::NoChannel);

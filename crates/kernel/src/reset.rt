@@ -10,7 +10,8 @@ ghost use Rattle.kernel.specs.Definition.Line.{totalOf};
 ghost use Rattle.kernel.specs.Definition.Reset.{closesAll, bit5, bit6, emptying, restoring, releasing, resetting};
 ghost use Rattle.kernel.specs.Definition.Calls.{onReset};
 ghost use Rattle.kernel.specs.Definition.Calls as calls;
-ghost use Rattle.kernel.specs.Definition.Step.{step, completed, result, ramReset};
+ghost use Rattle.kernel.specs.Definition.Bytes.{ramReset};
+ghost use Rattle.kernel.specs.Definition.Step.{step, completed, result};
 use super::Answer;
 use super::Outcome;
 use super::Tables;
@@ -125,7 +126,7 @@ impl Tables {
 
     pub fn reset_good(self, ram: &mut [u8], flags: u8) -> Outcome
         requires { ⌜ Good self × (length (now ram) ≡ ramSize self) ⌝ }
-        ensures { λ r. ⌜ ((out : List ℕ) → result r (now (ram .exit)) out ≡ completed self (onReset self flags) (now (ram .entry)) (calls.reset flags) out) ⌝ }
+        ensures { λ r. ⌜ ((out : List ℕ) → result r (now (ram .exit)) out ≡ completed self (onReset self flags) (now (ram .entry)) out) ⌝ }
     {
         if (0 < flags % 16) | (128 <= flags) {
             return self.refuse(Answer::BadFlags);

@@ -7,7 +7,9 @@ ghost use Rattle.kernel.specs.Definition.Good.{Good};
 ghost use Rattle.kernel.specs.Definition.Segments.{classFor};
 ghost use Rattle.kernel.specs.Definition.Calls.{onBoundary, onSetUserBoundary, onAllocate, onFree, onStatus};
 ghost use Rattle.kernel.specs.Definition.Calls as calls;
-ghost use Rattle.kernel.specs.Definition.Step.{step, completed, result, countsOf};
+ghost use Rattle.kernel.specs.Definition.Bytes.{nothing, countsOf};
+ghost use Rattle.kernel.specs.Definition.Answers.{_changing_};
+ghost use Rattle.kernel.specs.Definition.Step.{step, completed, result};
 use super::Answer;
 use super::Outcome;
 use super::Tables;
@@ -34,7 +36,7 @@ impl Tables {
 
     pub fn boundary_good(self) -> Outcome
         requires { ⌜ Good self ⌝ }
-        ensures { λ r. ⌜ r ≡ onBoundary self ⌝ }
+        ensures { λ r. ⌜ (r changing nothing) ≡ onBoundary self ⌝ }
     {
         let held = wide(self.held);
         let last = wide(self.chain[held - 1]);
@@ -58,7 +60,7 @@ impl Tables {
 
     pub fn set_user_boundary_good(self, value: u16) -> Outcome
         requires { ⌜ Good self ⌝ }
-        ensures { λ r. ⌜ r ≡ onSetUserBoundary self value ⌝ }
+        ensures { λ r. ⌜ (r changing nothing) ≡ onSetUserBoundary self value ⌝ }
     {
         let classes = self.classes;
         let segments = wide(self.segments);
@@ -88,7 +90,7 @@ impl Tables {
 
     pub fn allocate_good(self, caller: u8) -> Outcome
         requires { ⌜ Good self ⌝ }
-        ensures { λ r. ⌜ r ≡ onAllocate self caller ⌝ }
+        ensures { λ r. ⌜ (r changing nothing) ≡ onAllocate self caller ⌝ }
     {
         if 1 < caller {
             return self.refuse(Answer::BadCall);
@@ -139,7 +141,7 @@ impl Tables {
 
     pub fn free_good(self, caller: u8, segment: u8) -> Outcome
         requires { ⌜ Good self ⌝ }
-        ensures { λ r. ⌜ r ≡ onFree self caller segment ⌝ }
+        ensures { λ r. ⌜ (r changing nothing) ≡ onFree self caller segment ⌝ }
     {
         if 1 < caller {
             return self.refuse(Answer::BadCall);
@@ -199,7 +201,7 @@ impl Tables {
 
     pub fn status_good(self, out: &mut [u8]) -> Outcome
         requires { ⌜ Good self ⌝ }
-        ensures { λ r. ⌜ ((ram : List ℕ) → result r ram (now (out .exit)) ≡ completed self (onStatus self (length (now (out .entry)))) ram calls.status (now (out .entry))) ⌝ }
+        ensures { λ r. ⌜ ((ram : List ℕ) → result r ram (now (out .exit)) ≡ completed self (onStatus self (length (now (out .entry)))) ram (now (out .entry))) ⌝ }
     {
         if out.len() < 5 {
             return self.refuse(Answer::BadRange);

@@ -1,8 +1,9 @@
--- The answers: 01's number and values for each, and the rule that the lowest number wins.
+-- The answers: 01's number and values for each; what a call decides; and the rule that the lowest number wins.
 use mathlib.Core.Bool.{Bool, cond, _||_}
 use mathlib.Core.List.{List, [], _∷_}
 use Prim.Native.Nat.{ℕ}
 use lib.Dec.{eqb}
+use Rattle.kernel.specs.Definition.Bytes.{Change, nothing, Filling, none}
 use Rattle.kernel.specs.declared.Tables.{Tables}
 use Rattle.kernel.specs.declared.Answer.{Answer}
 use Rattle.kernel.specs.declared.Answer.the-variants.{Done, BadTables, BadCall, NoChannel, Exists, BadName, NoDevice, Driver, Full, NoRoom, NoSegment, NotOwner, BadBoundary, BadRange, Guarded, BadFlags, BadStart, Shared}
@@ -76,13 +77,29 @@ granted answer = eqb (numberOf answer) 0 || eqb (numberOf answer) 17
 abbrev pub gives : Answer → Tables → Outcome
 gives answer t = record { answer = answer; tables = t }
 
+-- what a call decides before a byte is touched: its answer, the next tables, the change of the RAM, and what fills the lent output
+pub record Decision : Type 0 where
+  pub answer : Answer
+  pub tables : Tables
+  pub ram : Change
+  pub output : Filling
+
+-- an answer and the next tables, with a change of the RAM and the output as it was, or with the output filled and the RAM as it was
+abbrev pub _changing_ : Outcome → Change → Decision
+o changing change = record { answer = o .answer; tables = o .tables; ram = change; output = none }
+
+abbrev pub _filling_ : Outcome → Filling → Decision
+o filling bytes = record { answer = o .answer; tables = o .tables; ram = nothing; output = bytes }
+
+infixl 60 _changing_ _filling_
 -- a refusal, and the test that tells when it is given
 pub data Refusal : Type 0 where
   _when_ : Answer → Bool → Refusal
 
 infixl 70 _when_
 -- "Several at once: the lowest number wins." The refusals of a call stand in the order of their numbers: the first that holds
--- is the answer, and the tables stay; where none holds, the call is done.
-abbrev pub unless : List Refusal → Tables → Outcome → Outcome
+-- is the answer, the tables stay and no byte changes; where none holds, the call is done. "A refused call returns the refusal's fixed values and changes
+-- no table, no RAM byte and no byte of the lent output." (The invitation, condition 1.)
+abbrev pub unless : List Refusal → Tables → Decision → Decision
 unless [] t done = done
-unless ((answer when holds) ∷ more) t done = cond holds (gives answer t) (unless more t done)
+unless ((answer when holds) ∷ more) t done = cond holds (gives answer t changing nothing) (unless more t done)

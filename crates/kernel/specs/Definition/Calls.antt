@@ -1,4 +1,4 @@
--- "Calls and their bodies": the calls with what their bodies hold, and of each the answer and the next tables.
+-- "Calls and their bodies": the calls with what their bodies hold, and of each the answer, the next tables and what becomes of the bytes.
 -- A call's refusals stand in the order of their numbers; TABLES comes before them all (Step.antt). Which body holds which call is said in the crate events.
 use mathlib.Core.Bool.{Bool, true, false, cond, not, _&&_, _||_}
 use mathlib.Core.List.{List, [], _∷_}
@@ -10,6 +10,7 @@ use Rattle.names.specs.Definition.Grammar.{Reading}
 use Rattle.names.specs.Definition.Read.{reading}
 use Rattle.names.specs.Definition.Tests.{linkNameTest, defaultNameTest}
 use Rattle.names.specs.Definition.Words.{wordOf}
+use Rattle.rows.specs.declared.Channel.{Channel}
 use Rattle.kernel.specs.Definition.Tables.{SEGMENT, numberAt, rowOf, lowestFree, sharing, lastRow, channelAt, withDefault}
 use Rattle.kernel.specs.Definition.Line.{totalOf, sizeAt, boundaryOf, roomFor, opening, closing}
 use Rattle.kernel.specs.Definition.Segments.{someFree, mayShare, granting, sharingLast, mayFree, freeing, bounding, mayReach, reachOf, guarded}
@@ -18,10 +19,10 @@ use Rattle.kernel.specs.Definition.Reset.{otherBits, resetting}
 use Rattle.kernel.specs.Definition.Start.{startTest, started}
 use Rattle.kernel.specs.Definition.Names.{wanted, deviceFor}
 use Rattle.kernel.specs.declared.Wanted.{Wanted}
-use Rattle.kernel.specs.Definition.Answers.{gives, unless, _when_}
+use Rattle.kernel.specs.Definition.Bytes.{nothing, zeroed, cleared, appended, removed, moved, in-buffer, in-segment, these, from-buffer, from-segment, countsOf}
+use Rattle.kernel.specs.Definition.Answers.{gives, Decision, _changing_, _filling_, unless, _when_}
 use Rattle.kernel.specs.declared.Tables.{Tables}
 use Rattle.kernel.specs.declared.Answer.the-variants.{Done, BadCall, NoChannel, Exists, BadName, NoDevice, Driver, Full, NoRoom, NoSegment, NotOwner, BadBoundary, BadRange, Guarded, BadFlags, BadStart, Shared}
-use Rattle.kernel.specs.declared.Outcome.{Outcome}
 
 pub data Call : Type 0 where
   start : (room : ℕ) (list : List ℕ) → Call
@@ -64,85 +65,86 @@ isStart (load segment offset size) = false
 isStart no-call = false
 isStart short-start = true
 
--- `ram` and `output` are how many bytes are lent. Each call is first its refusals in the order of their numbers, then a, b "when done", quoted above it, and
--- the next tables.
+-- `ram` and `output` are how many bytes are lent. Each call is first its refusals in the order of their numbers, then a, b "when done", quoted above it,
+-- and the next tables, and last what it changes in the RAM or what fills the output (Bytes.antt).
 
 -- "segments, R"
-unfoldable pub onStart : Tables → (ram room : ℕ) (list : List ℕ) → Outcome
+unfoldable pub onStart : Tables → (ram room : ℕ) (list : List ℕ) → Decision
 unfolding started
 onStart t ram room list =
     unless (BadStart when not (startTest ram room list) ∷ []) t
-    (gives (Done (length list) room) (started room list))
+    (gives (Done (length list) room) (started room list) changing zeroed)
 
 -- "0, 0"
-unfoldable pub onReset : Tables → (flags : ℕ) → Outcome
+unfoldable pub onReset : Tables → (flags : ℕ) → Decision
 unfolding resetting
-onReset t flags = unless (BadFlags when otherBits flags ∷ []) t (gives (Done 0 0) (resetting t flags))
+onReset t flags = unless (BadFlags when otherBits flags ∷ []) t (gives (Done 0 0) (resetting t flags) changing cleared flags)
 
 -- open, once the string is read: "device, unit"
-unfoldable pub onOpenTo : Tables → (channel driver n : ℕ) → Wanted → Outcome
+unfoldable pub onOpenTo : Tables → (channel driver n : ℕ) → Wanted → Decision
 unfolding roomFor opening
 onOpenTo t channel driver n w =
+    let c : Channel = record { number = channel; device = deviceFor t w; unit = w .unit; n = n } in
     unless
     (NoDevice when leb (t .known) (deviceFor t w)
     ∷ Driver driver when not (eqb driver 0)
     ∷ Full when leb 32 (t .opened)
     ∷ NoRoom when not (roomFor t (t .room) (totalOf t + (16 + n)))
     ∷ []) t
-    (gives (Done (deviceFor t w) (w .unit)) (opening t (record { number = channel; device = deviceFor t w; unit = w .unit; n = n })))
+    (gives (Done (deviceFor t w) (w .unit)) (opening t c) changing appended c)
 
-unfoldable pub onOpenNamed : Tables → (channel driver n : ℕ) → Option Reading → Outcome
+unfoldable pub onOpenNamed : Tables → (channel driver n : ℕ) → Option Reading → Decision
 unfolding onOpenTo
-onOpenNamed t channel driver n none = gives BadName t
+onOpenNamed t channel driver n none = gives BadName t changing nothing
 onOpenNamed t channel driver n (some r) = onOpenTo t channel driver n (wanted t r)
 
-unfoldable pub onOpen : Tables → (channel driver n : ℕ) (name : List ℕ) → Outcome
+unfoldable pub onOpen : Tables → (channel driver n : ℕ) (name : List ℕ) → Decision
 unfolding onOpenNamed reading
 onOpen t channel driver n name =
     unless (NoChannel when eqb channel 255 ∷ Exists when ltb (channelAt t channel) (t .opened) ∷ []) t
     (onOpenNamed t channel driver n (reading name))
 
 -- "The channel is looked up once; a channel not found ends the call." 255 is no channel's number in good tables. "0, 0"
-unfoldable pub onClose : Tables → (channel : ℕ) → Outcome
+unfoldable pub onClose : Tables → (channel : ℕ) → Decision
 unfolding closing
 onClose t channel =
     let i = channelAt t channel in
     unless (NoChannel when leb (t .opened) i ∷ []) t
-    (gives (Done 0 0) (closing t i))
+    (gives (Done 0 0) (closing t i) changing removed i)
 
 -- "0, length"
-unfoldable pub onRead : Tables → (output channel offset size : ℕ) → Outcome
+unfoldable pub onRead : Tables → (output channel offset size : ℕ) → Decision
 onRead t output channel offset size =
     let i = channelAt t channel in
     unless
     (NoChannel when leb (t .opened) i
     ∷ BadRange when (ltb (sizeAt t i) (offset + size) || ltb output size)
     ∷ []) t
-    (gives (Done 0 size) t)
+    (gives (Done 0 size) t filling from-buffer i offset size)
 
 -- "0, length"
-unfoldable pub onWrite : Tables → (channel offset size : ℕ) → Outcome
-onWrite t channel offset size =
+unfoldable pub onWrite : Tables → (channel offset : ℕ) (bytes : List ℕ) → Decision
+onWrite t channel offset bytes =
     let i = channelAt t channel in
     unless
     (NoChannel when leb (t .opened) i
-    ∷ BadRange when ltb (sizeAt t i) (offset + size)
+    ∷ BadRange when ltb (sizeAt t i) (offset + length bytes)
     ∷ []) t
-    (gives (Done 0 size) t)
+    (gives (Done 0 (length bytes)) t changing in-buffer i offset bytes)
 
 -- "default upper-cases what it keeps". "0, 0"
-unfoldable pub onDefault : Tables → (unit : ℕ) (name : List ℕ) → Outcome
+unfoldable pub onDefault : Tables → (unit : ℕ) (name : List ℕ) → Decision
 unfolding wordOf
 onDefault t unit name =
     unless (BadName when not (defaultNameTest name) ∷ []) t
-    (gives (Done 0 0) (withDefault t (wordOf name) (length name) unit))
+    (gives (Done 0 0) (withDefault t (wordOf name) (length name) unit) changing nothing)
 
 -- "0, 5"
-unfoldable pub onStatus : Tables → (output : ℕ) → Outcome
-onStatus t output = unless (BadRange when ltb output 5 ∷ []) t (gives (Done 0 5) t)
+unfoldable pub onStatus : Tables → (output : ℕ) → Decision
+onStatus t output = unless (BadRange when ltb output 5 ∷ []) t (gives (Done 0 5) t filling these (countsOf t))
 
 -- "device, new R"
-unfoldable pub onLink : Tables → (m : ℕ) (name : List ℕ) → Outcome
+unfoldable pub onLink : Tables → (m : ℕ) (name : List ℕ) → Decision
 unfolding wordOf roomFor linking
 onLink t m name =
     unless
@@ -150,21 +152,21 @@ onLink t m name =
     ∷ Full when leb 16 (t .known)
     ∷ NoRoom when (ltb (t .room) (256 + m) || not (roomFor t (t .room - m) (totalOf t)))
     ∷ []) t
-    (gives (Done (t .known) (t .room - m)) (linking t m (wordOf name) (length name)))
+    (gives (Done (t .known) (t .room - m)) (linking t m (wordOf name) (length name)) changing moved m)
 
 -- "last chain segment, EXOS boundary"
-unfoldable pub onBoundary : Tables → Outcome
-onBoundary t = gives (Done (numberAt t (lastRow t)) (boundaryOf t)) t
+unfoldable pub onBoundary : Tables → Decision
+onBoundary t = gives (Done (numberAt t (lastRow t)) (boundaryOf t)) t changing nothing
 
 -- "0, 0"
-unfoldable pub onSetUserBoundary : Tables → (value : ℕ) → Outcome
+unfoldable pub onSetUserBoundary : Tables → (value : ℕ) → Decision
 unfolding bounding
 onSetUserBoundary t value =
     unless (BadBoundary when (not (sharing t) || ltb (boundaryOf t) value) ∷ []) t
-    (gives (Done 0 0) (bounding t value))
+    (gives (Done 0 0) (bounding t value) changing nothing)
 
--- "segment, 16,384"; "17 SHARED is a grant: allocate gave a shared segment, b the user boundary", which becomes the EXOS boundary
-unfoldable pub onAllocate : Tables → (caller : ℕ) → Outcome
+-- "segment, 16,384", its "bytes untouched"; "17 SHARED is a grant: allocate gave a shared segment, b the user boundary", which becomes the EXOS boundary
+unfoldable pub onAllocate : Tables → (caller : ℕ) → Decision
 unfolding granting sharingLast
 onAllocate t caller =
     unless
@@ -172,11 +174,11 @@ onAllocate t caller =
     ∷ NoSegment when (not (someFree t) && not (mayShare t caller))
     ∷ []) t
     (cond (someFree t)
-    (gives (Done (numberAt t (lowestFree t)) SEGMENT) (granting t caller))
-    (gives (Shared (numberAt t (lastRow t)) (boundaryOf t)) (sharingLast t)))
+    (gives (Done (numberAt t (lowestFree t)) SEGMENT) (granting t caller) changing nothing)
+    (gives (Shared (numberAt t (lastRow t)) (boundaryOf t)) (sharingLast t) changing nothing))
 
 -- "0, 0"
-unfoldable pub onFree : Tables → (caller segment : ℕ) → Outcome
+unfoldable pub onFree : Tables → (caller segment : ℕ) → Decision
 unfolding freeing
 onFree t caller segment =
     let row = rowOf t segment in
@@ -184,25 +186,25 @@ onFree t caller segment =
     (BadCall when ltb 1 caller
     ∷ NotOwner when not (mayFree t caller row)
     ∷ []) t
-    (gives (Done 0 0) (freeing t row))
+    (gives (Done 0 0) (freeing t row) changing nothing)
 
 -- "0, length"
-unfoldable pub onStore : Tables → (segment offset size : ℕ) → Outcome
-onStore t segment offset size =
+unfoldable pub onStore : Tables → (segment offset : ℕ) (bytes : List ℕ) → Decision
+onStore t segment offset bytes =
     let row = rowOf t segment in
     unless
     (NotOwner when not (mayReach t row)
-    ∷ BadRange when ltb (reachOf t row) (offset + size)
-    ∷ Guarded when guarded row offset size
+    ∷ BadRange when ltb (reachOf t row) (offset + length bytes)
+    ∷ Guarded when guarded row offset (length bytes)
     ∷ []) t
-    (gives (Done 0 size) t)
+    (gives (Done 0 (length bytes)) t changing in-segment row offset bytes)
 
 -- "0, length"
-unfoldable pub onLoad : Tables → (output segment offset size : ℕ) → Outcome
+unfoldable pub onLoad : Tables → (output segment offset size : ℕ) → Decision
 onLoad t output segment offset size =
     let row = rowOf t segment in
     unless
     (NotOwner when not (mayReach t row)
     ∷ BadRange when (ltb (reachOf t row) (offset + size) || ltb output size)
     ∷ []) t
-    (gives (Done 0 size) t)
+    (gives (Done 0 size) t filling from-segment row offset size)

@@ -21,6 +21,7 @@ use Rattle.kernel.specs.Definition.Line.{totalOf, opening, closing}
 use Rattle.kernel.specs.Definition.Segments.{granting, sharingLast, freeing, bounding}
 use Rattle.kernel.specs.Definition.Devices.{linking}
 use Rattle.kernel.specs.Definition.Reset.{bit4, bit5, bit6, emptying, restoring, releasing, resetting}
+use Rattle.kernel.specs.Definition.Answers.{Decision}
 use Rattle.kernel.specs.Definition.Calls.{Call}
 use Rattle.kernel.specs.Definition.Good.{Good}
 use Rattle.kernel.specs.Laws.Grow.{grown-rest}
@@ -53,10 +54,10 @@ opening-opens t c =
 pub opens-row : {t u : Tables} {c : Channel} → Good t → Opened t u c → t .opened < 32 → getD (u .channels) (t .opened) zeroChannel ≡ c
 opens-row {t} {u} {c} g o few = rw (o .channels) (getD-set-same (t .channels) (t .opened) c zeroChannel (omega (arith, g .sized .channels)))
 
-pub opens-total : {t u : Tables} {c : Channel} → Good t → Opened t u c → t .opened < 32 → totalOf u ≡ totalOf t + 16 + getD (u .channels) (t .opened) zeroChannel .n
+pub opens-total : {t u : Tables} {c : Channel} → Good t → Opened t u c → t .opened < 32 → totalOf u ≡ totalOf t + 16 + c .n
 opens-total {t} {u} {c} g o few =
     let e : totalOf u ≡ totalOf t + (16 + c .n) = rw (o .opened, o .channels) (sum-set (t .channels) (t .opened) c (omega (arith, g .sized .channels))) in
-    rw (opens-row g o few) (omega arith)
+    omega arith
 
 -- "Close removes one": the row j
 pub record Closed (t u : Tables) (j : ℕ) : Type 0 where
@@ -118,7 +119,7 @@ freeing-listed t row =
     ]
 
 -- no call but a start changes the list
-pub effect-listed : {t u : Tables} {c : Call} → Effect t c u → Listed t u
+pub effect-listed : {t : Tables} {c : Call} {d : Decision} → Effect t c d → Listed t (d .tables)
 unfolding granting sharingLast bounding
 effect-listed {t} (resets {flags}) = resetting-listed t flags
 effect-listed {t} (opens c e differs new device few fits) = opening-opens t c .listed

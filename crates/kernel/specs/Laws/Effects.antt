@@ -17,7 +17,7 @@ use Rattle.rows.specs.Laws.Lists.{and-left, and-right, or-left, or-right}
 use Rattle.rows.specs.Laws.Says.{says-lt, says-eq, says-and, says-not, says-false}
 use Rattle.rows.specs.Definition.Classes.{SHARED}
 use Rattle.rows.specs.declared.Channel.{Channel}
-use Rattle.kernel.specs.Definition.Tables.{classAt, rowOf, lowestFree, sharing, channelAt, withDefault}
+use Rattle.kernel.specs.Definition.Tables.{SEGMENT, numberAt, classAt, rowOf, lowestFree, sharing, lastRow, channelAt, withDefault}
 use Rattle.kernel.specs.Definition.Line.{totalOf, sizeAt, boundaryOf, roomFor, opening, closing}
 use Rattle.kernel.specs.Definition.Segments.{classFor, someFree, mayShare, mayFree, granting, sharingLast, freeing, bounding, mayReach, reachOf, guarded}
 use Rattle.kernel.specs.Definition.Devices.{linking}
@@ -25,13 +25,13 @@ use Rattle.kernel.specs.Definition.Reset.{otherBits, resetting}
 use Rattle.kernel.specs.Definition.Start.{startTest, started}
 use Rattle.kernel.specs.Definition.Names.{wanted, deviceFor}
 use Rattle.kernel.specs.declared.Wanted.{Wanted}
-use Rattle.kernel.specs.Definition.Answers.{numberOf, aOf, bOf, granted, gives}
+use Rattle.kernel.specs.Definition.Bytes.{nothing, zeroed, cleared, appended, removed, moved, in-buffer, in-segment, these, from-buffer, from-segment, countsOf}
+use Rattle.kernel.specs.Definition.Answers.{numberOf, aOf, bOf, granted, gives, Decision, _changing_, _filling_}
 use Rattle.kernel.specs.Definition.Calls.{Call, start, reset, «open», close, read, write, default, status, link, boundary, set-user-boundary, allocate, free, store, load, no-call, short-start, isStart, onStart, onReset, onOpenTo, onOpenNamed, onOpen, onClose, onRead, onWrite, onDefault, onStatus, onLink, onBoundary, onSetUserBoundary, onAllocate, onFree, onStore, onLoad}
 use Rattle.kernel.specs.Definition.Step.{accepted, heard, decided}
 use Rattle.kernel.specs.declared.Tables.{Tables}
 use Rattle.kernel.specs.declared.Answer.{Answer}
 use Rattle.kernel.specs.declared.Answer.the-variants.{Done, BadTables, Driver, Shared}
-use Rattle.kernel.specs.declared.Outcome.{Outcome}
 
 -- a refusal, not for the tables and not DRIVER: its values are 0
 pub record Plain (answer : Answer) : Type 0 where
@@ -50,52 +50,56 @@ plain-is answer e =
     let h = says-and (says-and (says-and (says-and (says-lt 1 n) (says-false (granted answer))) (says-not (says-eq n 7))) (says-eq (aOf answer) 0)) (says-eq (bOf answer) 0) .yes e in
     record { high = h .0 .0 .0 .0; refused = h .0 .0 .0 .1; other = h .0 .0 .1; a = h .0 .1; b = h .1 }
 
--- a call, no start, that was done on the tables t, and the tables that it left
-pub data Effect (t : Tables) : Call → Tables → Type 0 where
-  resets : {flags : ℕ} → Effect t (reset flags) (resetting t flags)
+-- a call, no start, that was done on the tables t, and what was decided
+pub data Effect (t : Tables) : Call → Decision → Type 0 where
+  resets : {flags : ℕ} → Effect t (reset flags) (gives (Done 0 0) (resetting t flags) changing cleared flags)
   opens : {channel driver n : ℕ} {name : List ℕ} (c : Channel) → c .number ≡ channel → (channel ≡ 255 → ⊥) → t .opened ≤ channelAt t (c .number) → c .device < t .known
-      → t .opened < 32 → roomFor t (t .room) (totalOf t + (16 + c .n)) ≡ true → Effect t («open» channel driver n name) (opening t c)
-  closes : {channel : ℕ} → channelAt t channel < t .opened → Effect t (close channel) (closing t (channelAt t channel))
-  reads : {channel offset size : ℕ} → channelAt t channel < t .opened → offset + size ≤ sizeAt t (channelAt t channel) → Effect t (read channel offset size) t
+      → t .opened < 32 → roomFor t (t .room) (totalOf t + (16 + c .n)) ≡ true
+      → Effect t («open» channel driver n name) (gives (Done (c .device) (c .unit)) (opening t c) changing appended c)
+  closes : {channel : ℕ} → channelAt t channel < t .opened → Effect t (close channel) (gives (Done 0 0) (closing t (channelAt t channel)) changing removed (channelAt t channel))
+  reads : {channel offset size : ℕ} → channelAt t channel < t .opened → offset + size ≤ sizeAt t (channelAt t channel)
+      → Effect t (read channel offset size) (gives (Done 0 size) t filling from-buffer (channelAt t channel) offset size)
   writes : {channel offset : ℕ} {bytes : List ℕ} → channelAt t channel < t .opened → offset + length bytes ≤ sizeAt t (channelAt t channel)
-      → Effect t (write channel offset bytes) t
-  names : {unit : ℕ} {name : List ℕ} → DefaultName name → Effect t (default unit name) (withDefault t (wordOf name) (length name) unit)
-  counts : Effect t status t
+      → Effect t (write channel offset bytes) (gives (Done 0 (length bytes)) t changing in-buffer (channelAt t channel) offset bytes)
+  names : {unit : ℕ} {name : List ℕ} → DefaultName name
+      → Effect t (default unit name) (gives (Done 0 0) (withDefault t (wordOf name) (length name) unit) changing nothing)
+  counts : Effect t status (gives (Done 0 5) t filling these (countsOf t))
   links : {m : ℕ} {name : List ℕ} → LinkName name → t .known < 16 → 256 + m ≤ t .room → roomFor t (t .room - m) (totalOf t) ≡ true
-      → Effect t (link m name) (linking t m (wordOf name) (length name))
-  tells : Effect t boundary t
-  bounds : {value : ℕ} → sharing t ≡ true → value ≤ boundaryOf t → Effect t (set-user-boundary value) (bounding t value)
-  grants : {caller : ℕ} → lowestFree t < t .segments → Effect t (allocate caller) (granting t caller)
-  shares : {caller : ℕ} → sharing t ≡ false → Effect t (allocate caller) (sharingLast t)
+      → Effect t (link m name) (gives (Done (t .known) (t .room - m)) (linking t m (wordOf name) (length name)) changing moved m)
+  tells : Effect t boundary (gives (Done (numberAt t (lastRow t)) (boundaryOf t)) t changing nothing)
+  bounds : {value : ℕ} → sharing t ≡ true → value ≤ boundaryOf t
+      → Effect t (set-user-boundary value) (gives (Done 0 0) (bounding t value) changing nothing)
+  grants : {caller : ℕ} → lowestFree t < t .segments
+      → Effect t (allocate caller) (gives (Done (numberAt t (lowestFree t)) SEGMENT) (granting t caller) changing nothing)
+  shares : {caller : ℕ} → sharing t ≡ false
+      → Effect t (allocate caller) (gives (Shared (numberAt t (lastRow t)) (boundaryOf t)) (sharingLast t) changing nothing)
   -- the caller's own segment, or a shared one
   frees : {caller segment : ℕ} → rowOf t segment < t .segments → (classAt t (rowOf t segment) ≡ classFor caller) ⊎ (classAt t (rowOf t segment) ≡ SHARED)
-      → Effect t (free caller segment) (freeing t (rowOf t segment))
+      → Effect t (free caller segment) (gives (Done 0 0) (freeing t (rowOf t segment)) changing nothing)
   stores : {segment offset : ℕ} {bytes : List ℕ} → mayReach t (rowOf t segment) ≡ true → offset + length bytes ≤ reachOf t (rowOf t segment)
-      → Effect t (store segment offset bytes) t
+      → Effect t (store segment offset bytes) (gives (Done 0 (length bytes)) t changing in-segment (rowOf t segment) offset bytes)
   loads : {segment offset size : ℕ} → mayReach t (rowOf t segment) ≡ true → offset + size ≤ reachOf t (rowOf t segment)
-      → Effect t (load segment offset size) t
+      → Effect t (load segment offset size) (gives (Done 0 size) t filling from-segment (rowOf t segment) offset size)
 
 -- of a call on the tables t with `ram` bytes lent
-pub data Verdict (t : Tables) (ram : ℕ) : Call → Outcome → Type 0 where
+pub data Verdict (t : Tables) (ram : ℕ) : Call → Decision → Type 0 where
   -- refused: for the tables or the RAM's length, for the driver's status, and for any other reason
-  bars : {c : Call} → accepted t ram ≡ false → Verdict t ram c (gives BadTables t)
-  drives : {channel driver n : ℕ} {name : List ℕ} → (driver ≡ 0 → ⊥) → Verdict t ram («open» channel driver n name) (gives (Driver driver) t)
-  refuses : {c : Call} (answer : Answer) → Plain answer → Verdict t ram c (gives answer t)
+  bars : {c : Call} → accepted t ram ≡ false → Verdict t ram c (gives BadTables t changing nothing)
+  drives : {channel driver n : ℕ} {name : List ℕ} → (driver ≡ 0 → ⊥) → Verdict t ram («open» channel driver n name) (gives (Driver driver) t changing nothing)
+  refuses : {c : Call} (answer : Answer) → Plain answer → Verdict t ram c (gives answer t changing nothing)
   -- done
-  starts : {room : ℕ} {list : List ℕ} → startTest ram room list ≡ true → Verdict t ram (start room list) (gives (Done (length list) room) (started room list))
-  does : {c : Call} {u : Tables} (answer : Answer) → granted answer ≡ true → Effect t c u → Verdict t ram c (gives answer u)
+  starts : {room : ℕ} {list : List ℕ} → startTest ram room list ≡ true
+      → Verdict t ram (start room list) (gives (Done (length list) room) (started room list) changing zeroed)
+  does : {c : Call} {d : Decision} → granted (d .answer) ≡ true → Effect t c d → Verdict t ram c d
 
 module _ (t : Tables) (ram : ℕ) where
-  done : {c : Call} {u : Tables} {a b : ℕ} → Effect t c u → Verdict t ram c (gives (Done a b) u)
-  done e = does _ refl e
-
-  either : {c : Call} (b : Bool) {o p : Outcome} → (b ≡ true → Verdict t ram c o) → (b ≡ false → Verdict t ram c p) → Verdict t ram c (cond b o p)
+  either : {c : Call} (b : Bool) {o p : Decision} → (b ≡ true → Verdict t ram c o) → (b ≡ false → Verdict t ram c p) → Verdict t ram c (cond b o p)
   either true f g = f refl
   either false f g = g refl
 
   -- one row of `unless`: the refusal, or what follows where it does not hold
-  past : {c : Call} (holds : Bool) (answer : Answer) {else : Outcome} → plain answer ≡ true → (holds ≡ false → Verdict t ram c else)
-      → Verdict t ram c (cond holds (gives answer t) else)
+  past : {c : Call} (holds : Bool) (answer : Answer) {else : Decision} → plain answer ≡ true → (holds ≡ false → Verdict t ram c else)
+      → Verdict t ram c (cond holds (gives answer t changing nothing) else)
   past holds answer o f = either holds (λ _. refuses answer (plain-is answer o)) f
 
   -- open, with a channel that is not open
@@ -107,19 +111,22 @@ module _ (t : Tables) (ram : ℕ) where
         either (not (eqb driver 0)) (λ e. drives (eqb-false driver 0 (not-true _ e))) (λ _.
         past (leb 32 (t .opened)) _ refl (λ few.
         past (not (roomFor t (t .room) (totalOf t + (16 + n)))) _ refl (λ fits.
-        done (opens (record { number = channel; device = deviceFor t w; unit = w .unit; n = n }) refl differs new (leb-false _ _ device) (leb-false _ _ few) (not-false _ fits))))))
+        does refl (opens (record { number = channel; device = deviceFor t w; unit = w .unit; n = n }) refl differs new (leb-false _ _ device) (leb-false _ _ few) (not-false _ fits))))))
 
     open-named : (r : Option Reading) → Verdict t ram («open» channel driver n name) (onOpenNamed t channel driver n r)
     unfolding onOpenNamed
     open-named none = refuses _ (plain-is _ refl)
     open-named (some r) = open-to (wanted t r)
 
-  allocated : (caller a b c d : ℕ) (some-free : Bool) → someFree t ≡ some-free → not some-free && not (mayShare t caller) ≡ false
-      → Verdict t ram (allocate caller) (cond some-free (gives (Done a b) (granting t caller)) (gives (Shared c d) (sharingLast t)))
-  allocated caller a b c d true e n = done (grants (ltb-true _ _ e))
-  allocated caller a b c d false e n =
+  allocated : (caller : ℕ) (some-free : Bool) → someFree t ≡ some-free → not some-free && not (mayShare t caller) ≡ false
+      → Verdict t ram (allocate caller)
+      (cond some-free
+      (gives (Done (numberAt t (lowestFree t)) SEGMENT) (granting t caller) changing nothing)
+      (gives (Shared (numberAt t (lastRow t)) (boundaryOf t)) (sharingLast t) changing nothing))
+  allocated caller true e n = does refl (grants (ltb-true _ _ e))
+  allocated caller false e n =
       let may : eqb caller 0 && not (sharing t) ≡ true = and-left _ (ltb 0 (boundaryOf t)) (not-false (mayShare t caller) n) in
-      does _ refl (shares (not-true (sharing t) (and-right (eqb caller 0) _ may)))
+      does refl (shares (not-true (sharing t) (and-right (eqb caller 0) _ may)))
 
   freed : (caller row : ℕ) (own : Bool) → eqb (classAt t row) (classFor caller) ≡ own → own || (eqb caller 0 && eqb (classAt t row) SHARED) ≡ true
       → (classAt t row ≡ classFor caller) ⊎ (classAt t row ≡ SHARED)
@@ -129,70 +136,70 @@ module _ (t : Tables) (ram : ℕ) where
   heard-verdict : (output : ℕ) (c : Call) → Verdict t ram c (heard t ram output c)
   unfolding heard onStart onReset onOpen onClose onRead onWrite onDefault onStatus onLink onBoundary onSetUserBoundary onAllocate onFree onStore onLoad
   heard-verdict output (start room list) = past (not (startTest ram room list)) _ refl (λ e. starts (not-false _ e))
-  heard-verdict output (reset flags) = past (otherBits flags) _ refl (λ _. done resets)
+  heard-verdict output (reset flags) = past (otherBits flags) _ refl (λ _. does refl resets)
   heard-verdict output («open» channel driver n name) =
       past (eqb channel 255) _ refl (λ differs.
       past (ltb (channelAt t channel) (t .opened)) _ refl (λ new.
       open-named channel driver n name (eqb-false channel 255 differs) (ltb-false _ _ new) (reading name)))
-  heard-verdict output (close channel) = past (leb (t .opened) (channelAt t channel)) _ refl (λ e. done (closes (leb-false _ _ e)))
+  heard-verdict output (close channel) = past (leb (t .opened) (channelAt t channel)) _ refl (λ e. does refl (closes (leb-false _ _ e)))
   heard-verdict output (read channel offset size) =
       past (leb (t .opened) (channelAt t channel)) _ refl (λ e.
       past (ltb (sizeAt t (channelAt t channel)) (offset + size) || ltb output size) _ refl (λ f.
-      done (reads (leb-false _ _ e) (ltb-false _ _ (or-left _ (ltb output size) f)))))
+      does refl (reads (leb-false _ _ e) (ltb-false _ _ (or-left _ (ltb output size) f)))))
   heard-verdict output (write channel offset bytes) =
       past (leb (t .opened) (channelAt t channel)) _ refl (λ e.
-      past (ltb (sizeAt t (channelAt t channel)) (offset + length bytes)) _ refl (λ f. done (writes (leb-false _ _ e) (ltb-false _ _ f))))
-  heard-verdict output (default unit name) = past (not (defaultNameTest name)) _ refl (λ e. done (names (default-right name (not-false _ e))))
-  heard-verdict output status = past (ltb output 5) _ refl (λ _. done counts)
+      past (ltb (sizeAt t (channelAt t channel)) (offset + length bytes)) _ refl (λ f. does refl (writes (leb-false _ _ e) (ltb-false _ _ f))))
+  heard-verdict output (default unit name) = past (not (defaultNameTest name)) _ refl (λ e. does refl (names (default-right name (not-false _ e))))
+  heard-verdict output status = past (ltb output 5) _ refl (λ _. does refl counts)
   heard-verdict output (link m name) =
       past (not (linkNameTest name)) _ refl (λ e.
       past (leb 16 (t .known)) _ refl (λ few.
       past (ltb (t .room) (256 + m) || not (roomFor t (t .room - m) (totalOf t))) _ refl (λ fits.
-      done (links (link-right name (not-false _ e)) (leb-false _ _ few)
+      does refl (links (link-right name (not-false _ e)) (leb-false _ _ few)
       (ltb-false _ _ (or-left _ (not (roomFor t (t .room - m) (totalOf t))) fits)) (not-false _ (or-right (ltb (t .room) (256 + m)) _ fits))))))
-  heard-verdict output boundary = done tells
+  heard-verdict output boundary = does refl tells
   heard-verdict output (set-user-boundary value) =
       past (not (sharing t) || ltb (boundaryOf t) value) _ refl (λ e.
-      done (bounds (not-false _ (or-left _ (ltb (boundaryOf t) value) e)) (ltb-false _ _ (or-right (not (sharing t)) _ e))))
+      does refl (bounds (not-false _ (or-left _ (ltb (boundaryOf t) value) e)) (ltb-false _ _ (or-right (not (sharing t)) _ e))))
   heard-verdict output (allocate caller) =
       past (ltb 1 caller) _ refl (λ _.
-      past (not (someFree t) && not (mayShare t caller)) _ refl (λ e. allocated caller _ _ _ _ (someFree t) refl e))
+      past (not (someFree t) && not (mayShare t caller)) _ refl (λ e. allocated caller (someFree t) refl e))
   heard-verdict output (free caller segment) =
       let row = rowOf t segment in
       past (ltb 1 caller) _ refl (λ _.
       past (not (mayFree t caller row)) _ refl (λ e.
       let may = not-false (mayFree t caller row) e in
-      done (frees (ltb-true _ _ (and-left (ltb row (t .segments)) _ may))
+      does refl (frees (ltb-true _ _ (and-left (ltb row (t .segments)) _ may))
       (freed caller row (eqb (classAt t row) (classFor caller)) refl (and-right (ltb row (t .segments)) _ may)))))
   heard-verdict output (store segment offset bytes) =
       past (not (mayReach t (rowOf t segment))) _ refl (λ e.
       past (ltb (reachOf t (rowOf t segment)) (offset + length bytes)) _ refl (λ f.
-      past (guarded (rowOf t segment) offset (length bytes)) _ refl (λ _. done (stores (not-false _ e) (ltb-false _ _ f)))))
+      past (guarded (rowOf t segment) offset (length bytes)) _ refl (λ _. does refl (stores (not-false _ e) (ltb-false _ _ f)))))
   heard-verdict output (load segment offset size) =
       past (not (mayReach t (rowOf t segment))) _ refl (λ e.
       past (ltb (reachOf t (rowOf t segment)) (offset + size) || ltb output size) _ refl (λ f.
-      done (loads (not-false _ e) (ltb-false _ _ (or-left _ (ltb output size) f)))))
+      does refl (loads (not-false _ e) (ltb-false _ _ (or-left _ (ltb output size) f)))))
   heard-verdict output no-call = refuses _ (plain-is _ refl)
   heard-verdict output short-start = refuses _ (plain-is _ refl)
 
-  barred : {c : Call} (starting right : Bool) (o : Outcome) → accepted t ram ≡ right → Verdict t ram c o
-      → Verdict t ram c (cond (not (starting || right)) (gives BadTables t) o)
+  barred : {c : Call} (starting right : Bool) (o : Decision) → accepted t ram ≡ right → Verdict t ram c o
+      → Verdict t ram c (cond (not (starting || right)) (gives BadTables t changing nothing) o)
   barred true right o e f = f
   barred false true o e f = f
   barred false false o e f = bars e
 
-  -- every call has one of these outcomes
+  -- every call decides one of these
   pub verdict : (output : ℕ) (c : Call) → Verdict t ram c (decided t ram output c)
   unfolding decided
   verdict output c = barred (isStart c) (accepted t ram) (heard t ram output c) refl (heard-verdict output c)
 
 -- of a call that is no start and is done
-effect-of : {t : Tables} {ram : ℕ} {c : Call} {o : Outcome} → isStart c ≡ false → granted (o .answer) ≡ true → Verdict t ram c o → Effect t c (o .tables)
+effect-of : {t : Tables} {ram : ℕ} {c : Call} {d : Decision} → isStart c ≡ false → granted (d .answer) ≡ true → Verdict t ram c d → Effect t c d
 effect-of s g (bars e) = absurd (false≢true g)
 effect-of s g (drives h) = absurd (false≢true g)
 effect-of s g (refuses answer p) = absurd (false≢true (sym (p .refused) ∙ g))
 effect-of s g (starts e) = absurd (false≢true (sym s))
-effect-of s g (does answer d e) = e
+effect-of s g (does d e) = e
 
-pub effect : (t : Tables) (ram output : ℕ) (c : Call) → isStart c ≡ false → granted (decided t ram output c .answer) ≡ true → Effect t c (decided t ram output c .tables)
+pub effect : (t : Tables) (ram output : ℕ) (c : Call) → isStart c ≡ false → granted (decided t ram output c .answer) ≡ true → Effect t c (decided t ram output c)
 effect t ram output c s g = effect-of s g (verdict t ram output c)

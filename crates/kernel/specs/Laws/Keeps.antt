@@ -10,7 +10,8 @@ use Rattle.names.specs.Definition.Words.{wordOf}
 use Rattle.rows.specs.Definition.Lists.{upTo}
 use Rattle.kernel.specs.Definition.Tables.{rowOf, channelAt}
 use Rattle.kernel.specs.Definition.Start.{startTest, started}
-use Rattle.kernel.specs.Definition.Answers.{granted, gives}
+use Rattle.kernel.specs.Definition.Bytes.{nothing, zeroed}
+use Rattle.kernel.specs.Definition.Answers.{granted, gives, Decision, _changing_}
 use Rattle.kernel.specs.Definition.Calls.{Call, start, onStart}
 use Rattle.kernel.specs.Definition.Good.{Good}
 use Rattle.kernel.specs.Definition.Step.{heard, decided, completed, step}
@@ -25,9 +26,8 @@ use Rattle.kernel.specs.Definition.Fields.{Fields}
 use Rattle.kernel.specs.Laws.Effects.{Effect, resets, opens, closes, reads, writes, names, counts, links, tells, bounds, grants, shares, frees, stores, loads, Verdict, bars, drives, refuses, starts, does, verdict}
 use Rattle.kernel.specs.declared.Tables.{Tables}
 use Rattle.kernel.specs.declared.Answer.the-variants.{Done, BadStart}
-use Rattle.kernel.specs.declared.Outcome.{Outcome}
 
-effect-keeps : {t u : Tables} {c : Call} → Good t → Fields c → Effect t c u → Good u
+effect-keeps : {t : Tables} {c : Call} {d : Decision} → Good t → Fields c → Effect t c d → Good (d .tables)
 effect-keeps {t} g f (resets {flags}) = resetting-keeps t flags g
 effect-keeps {t} g f (opens c e differs new device few fits) =
     opening-keeps t c g few (omega (arith, f .0)) device
@@ -48,12 +48,12 @@ effect-keeps {t} g f (frees {caller} {segment} h (inr e)) = freeing-shared t (ro
 effect-keeps g f (stores m h) = g
 effect-keeps g f (loads m h) = g
 
-verdict-keeps : {t : Tables} {ram : ℕ} {c : Call} {o : Outcome} → Good t → Fields c → Verdict t ram c o → Good (o .tables)
+verdict-keeps : {t : Tables} {ram : ℕ} {c : Call} {d : Decision} → Good t → Fields c → Verdict t ram c d → Good (d .tables)
 verdict-keeps g f (bars e) = g
 verdict-keeps g f (drives h) = g
 verdict-keeps g f (refuses answer p) = g
 verdict-keeps {ram = ram} g f (starts {room} {list} e) = start-good ram room list e
-verdict-keeps g f (does answer d e) = effect-keeps g f e
+verdict-keeps g f (does d e) = effect-keeps g f e
 
 -- a call on good tables leaves good tables
 pub decided-keeps : (t : Tables) (ram output : ℕ) (c : Call) → Good t → Fields c → Good (decided t ram output c .tables)
@@ -69,12 +69,12 @@ pub start-passed : (t : Tables) (ram output room : ℕ) (list : List ℕ) → gr
 unfolding decided heard onStart
 start-passed t ram output room list d = go (startTest ram room list) d
   where
-    go : (right : Bool) → granted (cond (not right) (gives BadStart t) (gives (Done (length list) room) (started room list)) .answer) ≡ true → right ≡ true
+    go : (right : Bool) → granted (cond (not right) (gives BadStart t changing nothing) (gives (Done (length list) room) (started room list) changing zeroed) .answer) ≡ true → right ≡ true
     go true e = refl
     go false e = e
 
 pub start-is : (t : Tables) (ram output room : ℕ) (list : List ℕ) → startTest ram room list ≡ true
-    → decided t ram output (start room list) ≡ gives (Done (length list) room) (started room list)
+    → decided t ram output (start room list) ≡ gives (Done (length list) room) (started room list) changing zeroed
 unfolding decided heard onStart
 start-is t ram output room list e = rw e
 

@@ -2,9 +2,7 @@
 use mathlib.Core.Path.{_≡_, _∙_}
 use Prim.Native.Nat.{ℕ, _+_, _-_, _≤_}
 use native.Mathlib.Omega.{arith}
-use lib.ListN.{getD, set}
-use lib.Seq.{getD-set-same}
-use Rattle.rows.specs.Definition.Channels.{zeroChannel}
+use lib.ListN.{set}
 use Rattle.rows.specs.Laws.ChannelRows.{sum-set, place-none}
 use Rattle.rows.specs.Definition.Sizes.{chainLength}
 use Rattle.rows.specs.declared.Channel.{Channel}
@@ -33,9 +31,6 @@ module _ (t : Tables) (c : Channel) (g : Good t) (new : New t c) (fits : Fits t 
   -- there are as many segments as the chain grows by
   pub opening-held : t .held + (chainLength (t .room) (totalOf t + (16 + c .n)) - t .held) ≤ 32
   opening-held = omega (arith, opening-good .chain .most, opening-rest .held)
-
-  pub opening-row : getD (opening t c .channels) (t .opened) zeroChannel ≡ c
-  opening-row = rw (opening-rest .keeps .channels) (getD-set-same (t .channels) (t .opened) c zeroChannel (omega (arith, g .sized .channels, fits .few)))
 
   pub opening-chain : (size : ℕ) → size ≡ ramSize t → Chain (opening t c .chain) (t .room) (totalOf t + (16 + c .n)) size
   opening-chain size e =

@@ -12,7 +12,8 @@ use Rattle.rows.specs.Laws.Lists.{and-right}
 use Rattle.rows.specs.Definition.Tests.{listTest}
 use Rattle.kernel.specs.Definition.Tables.{SEGMENT, ramSize}
 use Rattle.kernel.specs.Definition.Start.{startTest, started}
-use Rattle.kernel.specs.Definition.Answers.{numberOf, granted, gives}
+use Rattle.kernel.specs.Definition.Bytes.{nothing}
+use Rattle.kernel.specs.Definition.Answers.{numberOf, granted, gives, Decision, _changing_}
 use Rattle.kernel.specs.Definition.Calls.{Call, start, isStart}
 use Rattle.kernel.specs.Definition.Good.{Good}
 use Rattle.kernel.specs.Definition.Step.{accepted, heard, decided}
@@ -24,7 +25,6 @@ use Rattle.kernel.specs.Laws.Changes.{effect-listed}
 use Rattle.kernel.specs.Laws.Keeps.{decided-keeps, start-passed, start-is}
 use Rattle.kernel.specs.declared.Tables.{Tables}
 use Rattle.kernel.specs.declared.Answer.the-variants.{BadTables}
-use Rattle.kernel.specs.declared.Outcome.{Outcome}
 
 -- good tables, and as much RAM lent as they say
 pub record Ready (t : Tables) (ram : ℕ) : Type 0 where
@@ -34,21 +34,21 @@ pub record Ready (t : Tables) (ram : ℕ) : Type 0 where
 pub ready-accepted : {t : Tables} {ram : ℕ} → Ready t ram → accepted t ram ≡ true
 ready-accepted {t} {ram} r = rw (good-says t (r .good .sized) .make (r .good), eq-eqb ram (ramSize t) (r .size))
 
-heard-by : (starting : Bool) (t : Tables) (o : Outcome) → cond (not (starting || true)) (gives BadTables t) o ≡ o
-heard-by true t o = refl
-heard-by false t o = refl
+heard-by : (starting : Bool) (t : Tables) (d : Decision) → cond (not (starting || true)) (gives BadTables t changing nothing) d ≡ d
+heard-by true t d = refl
+heard-by false t d = refl
 
 -- every call is heard
 pub ready-heard : (t : Tables) (ram output : ℕ) (c : Call) → Ready t ram → decided t ram output c ≡ heard t ram output c
 unfolding decided
 ready-heard t ram output c r = rw (ready-accepted r) (heard-by (isStart c) t (heard t ram output c))
 
-never : {t : Tables} {ram : ℕ} {c : Call} {o : Outcome} → Ready t ram → Verdict t ram c o → numberOf (o .answer) ≡ 1 → ⊥
+never : {t : Tables} {ram : ℕ} {c : Call} {d : Decision} → Ready t ram → Verdict t ram c d → numberOf (d .answer) ≡ 1 → ⊥
 never r (bars e) q = false≢true (sym e ∙ ready-accepted r)
 never r (drives h) q = omega arith
 never r (refuses answer p) q = omega (arith, p .high)
 never r (starts e) q = omega arith
-never r (does answer d e) q = false≢true (rw q at d)
+never r (does d e) q = false≢true (rw q at d)
 
 pub never-tables : (t : Tables) (ram output : ℕ) (c : Call) → Ready t ram → decided t ram output c .answer ≡ BadTables → ⊥
 never-tables t ram output c r e = never r (verdict t ram output c) (ap numberOf e)
@@ -59,12 +59,12 @@ started-size ram room list e =
     eqb-true ram (SEGMENT * length list) (and-right (listTest (padded 32 list) (length list) && leb 256 room && leb room 16128) _ e)
 
 -- how many segments there are stays, but for a start
-verdict-size : {t : Tables} {ram : ℕ} {c : Call} {o : Outcome} → ram ≡ ramSize t → Verdict t ram c o → ram ≡ ramSize (o .tables)
+verdict-size : {t : Tables} {ram : ℕ} {c : Call} {d : Decision} → ram ≡ ramSize t → Verdict t ram c d → ram ≡ ramSize (d .tables)
 verdict-size s (bars e) = s
 verdict-size s (drives h) = s
 verdict-size s (refuses answer p) = s
 verdict-size {ram = ram} s (starts {room} {list} e) = started-size ram room list e
-verdict-size s (does answer d e) = rw (effect-listed e .segments) s
+verdict-size s (does d e) = rw (effect-listed e .segments) s
 
 pub decided-ready : (t : Tables) (ram output : ℕ) (c : Call) → Ready t ram → Fields c → Ready (decided t ram output c .tables) ram
 decided-ready t ram output c r f = record {

@@ -85,7 +85,7 @@ before (suc k) = decided (before k) 65536 4096 (callAt k) .tables
 -- what record k leaves of a RAM and an output
 left : (k : ℕ) (ram out : List ℕ) → Result
 unfolding before completed
-left k ram out = completed (before k) (decided (before k) 65536 4096 (callAt k)) ram (callAt k) out
+left k ram out = completed (before k) (decided (before k) 65536 4096 (callAt k)) ram out
 
 -- from record k on the text is 01's, whatever the RAM's bytes, if they are such
 abbrev Says : (List ℕ → Type 0) → ℕ → Type 0

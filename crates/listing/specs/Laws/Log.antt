@@ -54,7 +54,7 @@ text-finished t ram out = refl
 
 -- a call that is lent all four segments: what it leaves, by their length alone
 pub log-full : (t : Tables) (ram out : List ℕ) (kind : ℕ) (body : List ℕ) → lentTo (t .segments) kind (length body) ≡ 65536 → length ram ≡ 65536
-    → logStep t ram out kind body ≡ completed t (decided t 65536 (length out) (callIn kind body)) ram (callIn kind body) out
+    → logStep t ram out kind body ≡ completed t (decided t 65536 (length out) (callIn kind body)) ram out
 unfolding logStep step
 log-full t ram out kind body e h =
     rw (e, take-all 65536 ram (omega arith), h, nothing 65536 ram (omega arith), append-nil)

@@ -1,12 +1,13 @@
 -- What the listing answers before a start is accepted, and to a start that it can't serve.
-use mathlib.Core.Path.{_≡_, refl}
+use mathlib.Core.Path.{_≡_, refl, ap}
 use mathlib.Core.Bool.{Bool, true, false, _&&_}
 use mathlib.Core.List.{List}
 use Prim.Native.Nat.{ℕ, _-_, _*_, _<_, min}
 use native.Mathlib.Omega.{arith}
 use borrow.Author.Tests.{lt-ltb, le-ltb, ne-eqb}
 use lib.ListN.{length, take, drop, length-take, length-drop}
-use Rattle.kernel.specs.Definition.Answers.{granted, gives}
+use Rattle.kernel.specs.Definition.Bytes.{nothing}
+use Rattle.kernel.specs.Definition.Answers.{granted, gives, Decision, _changing_}
 use Rattle.kernel.specs.Definition.Calls.{Call, isStart, start}
 use Rattle.kernel.specs.Definition.Step.{decided, completed, step}
 use Rattle.kernel.specs.Laws.Refused.{refused-stays}
@@ -17,7 +18,7 @@ use Rattle.events.specs.Laws.Bodies.{no-start}
 use Rattle.kernel.specs.Definition.Start.{noTables}
 use Rattle.listing.specs.Definition.Log.{lentTo, logStep}
 
-barred : (ram output : ℕ) (c : Call) → isStart c ≡ false → decided noTables ram output c ≡ gives BadTables noTables
+barred : (ram output : ℕ) (c : Call) → isStart c ≡ false → decided noTables ram output c ≡ gives BadTables noTables changing nothing
 unfolding decided noTables
 barred ram output c e = rw e
 
@@ -30,7 +31,7 @@ before-start ram out kind body h = rw (barred _ (length out) (callIn kind body) 
 pub refused-leaves : (t : Tables) (ram out : List ℕ) (kind : ℕ) (body : List ℕ) → granted (logStep t ram out kind body .answer) ≡ false
     → logStep t ram out kind body .tables ≡ t
 unfolding logStep step completed
-refused-leaves t ram out kind body f = refused-stays t _ (length out) (callIn kind body) f
+refused-leaves t ram out kind body f = ap (λ (d : Decision). d .tables) (refused-stays t _ (length out) (callIn kind body) f)
 
 -- kind 256 with a body short of R answers 2
 pub short-answers : (t : Tables) (ram out body : List ℕ) → length body < 2 → logStep t ram out 256 body .answer ≡ BadCall
@@ -41,7 +42,7 @@ no-and : (b : Bool) → b && false ≡ false
 no-and true = refl
 no-and false = refl
 
-wrong-ram : (t : Tables) (ram output room : ℕ) (list : List ℕ) → (ram ≡ 16384 * length list → ⊥) → decided t ram output (start room list) ≡ gives BadStart t
+wrong-ram : (t : Tables) (ram output room : ℕ) (list : List ℕ) → (ram ≡ 16384 * length list → ⊥) → decided t ram output (start room list) ≡ gives BadStart t changing nothing
 unfolding decided
 wrong-ram t ram output room list h = rw (ne-eqb ram (16384 * length list) h, no-and)
 

@@ -13,7 +13,7 @@ use Rattle.kernel.specs.Definition.Step.{Result, heard, decided, completed, ste
 use Rattle.events.specs.Definition.Records.{Next, finished, broken, found, next}
 use Rattle.events.specs.Laws.Next.{next-found}
 use Rattle.events.specs.Laws.Bodies.{Bytes, call-fields}
-use Rattle.history.specs.Definition.Runs.{State, History, after, event, stay, then, Run, lastWritten}
+use Rattle.history.specs.Definition.Runs.{State, History, after, event, stay, then, Run, LastWritten}
 use Rattle.history.specs.Bytes.BytesRead.{bytes-read}
 use Rattle.replay.specs.Definition.Replay.{EventRecord, recordsTo, recordsIn, records, asked, replayed}
 use Rattle.replay.specs.Definition.Runs.{stateOf, callOf, eventOf, starts, since, Starts}
@@ -118,7 +118,7 @@ replayed-last m (r ∷ rs) q = replayed-last (asked m r) rs q
 -- opening, or zero if none was.
 pub last-read : (m : Result) (xs : List ℕ) (rs : List EventRecord) (q : EventRecord) → ((i : ℕ) → getD xs i 0 < 256) → records xs ≡ rs ++ (q ∷ []) → Starts m rs
     → (channel offset size : ℕ) → callOf q ≡ read channel offset size → granted (replayed m (records xs) .answer) ≡ true
-    → (i : ℕ) → i < size → getD (replayed m (records xs) .output) i 0 ≡ lastWritten (since [] m rs) channel (offset + i)
+    → (i : ℕ) → i < size → LastWritten channel (offset + i) (since [] m rs) (getD (replayed m (records xs) .output) i 0)
 last-read m xs rs q b e s channel offset size is done i h =
     let all = before-last rs q (subst OfBytes e (records-bytes xs b)) in
     let last = replayed-last m rs q in

@@ -1,7 +1,7 @@
 -- `events::segments::allocate_event` meets its contract.
 use mathlib.Core.Path.{refl}
 use Rattle.kernel.specs.Definition.Calls.{allocate}
-use Rattle.kernel.specs.Definition.Step.{heard, ramAfter, outputAfter}
+use Rattle.kernel.specs.Definition.Step.{heard}
 use Rattle.events.proofs.Laws.{bad-call, quiet}
 use Rattle.events.proofs.Taken.{allocate-bad, allocate-taken}
 use borrow.Author.Needs.{needs}
@@ -21,8 +21,8 @@ allocate-good-requires : tie.Need-allocate-good-requires
 allocate-good-requires c κs = search needs
 
 returns-2 : tie.Need-returns-2
-unfolding heard ramAfter outputAfter
-returns-2 c = λ ram out s. quiet _ ram out (c .before .before .before .before .pre) s (allocate _) _ _ (allocate-taken _ (c .before .before .if1 .left)) refl refl (c .allocate-good .ensures)
+unfolding heard
+returns-2 c = λ ram out s. quiet _ ram out (c .before .before .before .before .pre) s (allocate _) _ _ (allocate-taken _ (c .before .before .if1 .left)) (c .allocate-good .ensures)
 
 pub allocate-event-spec : {M : Type 1} → statement M
 allocate-event-spec =

@@ -1,7 +1,7 @@
 -- `events::segments::free_event` meets its contract.
 use mathlib.Core.Path.{refl}
 use Rattle.kernel.specs.Definition.Calls.{free}
-use Rattle.kernel.specs.Definition.Step.{heard, ramAfter, outputAfter}
+use Rattle.kernel.specs.Definition.Step.{heard}
 use Rattle.events.proofs.Laws.{bad-call, quiet}
 use Rattle.events.proofs.Taken.{free-bad, free-taken}
 use borrow.Author.Needs.{needs}
@@ -24,8 +24,8 @@ free-good-requires : tie.Need-free-good-requires
 free-good-requires c κs = search needs
 
 returns-2 : tie.Need-returns-2
-unfolding heard ramAfter outputAfter
-returns-2 c = λ ram out s. quiet _ ram out (c .before .before .before .before .before .pre) s (free _ _) _ _ (free-taken _ (c .before .before .before .if1 .left)) refl refl (c .free-good .ensures)
+unfolding heard
+returns-2 c = λ ram out s. quiet _ ram out (c .before .before .before .before .before .pre) s (free _ _) _ _ (free-taken _ (c .before .before .before .if1 .left)) (c .free-good .ensures)
 
 pub free-event-spec : {M : Type 1} → statement M
 free-event-spec =

@@ -1,7 +1,7 @@
 -- `events::system::default_event` meets its contract.
 use mathlib.Core.Path.{refl}
 use Rattle.kernel.specs.Definition.Calls.{default}
-use Rattle.kernel.specs.Definition.Step.{heard, ramAfter, outputAfter}
+use Rattle.kernel.specs.Definition.Step.{heard}
 use Rattle.events.proofs.Laws.{bad-call, quiet}
 use Rattle.events.proofs.Taken.{default-bad, default-taken}
 use borrow.Author.Needs.{needs}
@@ -30,8 +30,8 @@ default-good-requires : tie.Need-default-good-requires
 default-good-requires c κs = search needs
 
 returns-2 : tie.Need-returns-2
-unfolding heard ramAfter outputAfter
-returns-2 c = λ ram out s. quiet _ ram out (c .before .before .before .before .before .pre) s (default _ _) _ _ (default-taken _ (c .before .before .before .if1 .left)) refl refl (c .default-good .ensures)
+unfolding heard
+returns-2 c = λ ram out s. quiet _ ram out (c .before .before .before .before .before .pre) s (default _ _) _ _ (default-taken _ (c .before .before .before .if1 .left)) (c .default-good .ensures)
 
 pub default-event-spec : {M : Type 1} → statement M
 default-event-spec =

@@ -1,7 +1,7 @@
 -- `Tables::allocate` meets its contract.
 use mathlib.Core.Path.{refl}
 use Rattle.kernel.specs.Definition.Calls.{allocate}
-use Rattle.kernel.specs.Definition.Step.{heard, ramAfter, outputAfter}
+use Rattle.kernel.specs.Definition.Step.{heard}
 use Rattle.kernel.proofs.Calls.{accepted-good, call-refused, call-quiet}
 use borrow.Author.Needs.{needs}
 use Rattle.kernel.proofs.Tables.allocate.Statement.{statement}
@@ -20,8 +20,8 @@ allocate-good-requires : tie.Need-allocate-good-requires
 allocate-good-requires c κs = accepted-good _ _ (c .before .accepts .ensures .1) (c .if1 .left)
 
 returns-2 : tie.Need-returns-2
-unfolding heard ramAfter outputAfter
-returns-2 c = λ out. call-quiet _ _ (allocate _) out _ (c .before .before .accepts .ensures .0) (c .before .if1 .left) _ refl refl (c .allocate-good .ensures)
+unfolding heard
+returns-2 c = λ out. call-quiet _ _ (allocate _) out _ (c .before .before .accepts .ensures .0) (c .before .if1 .left) _ (c .allocate-good .ensures)
 
 pub allocate-spec : {M : Type 1} → statement M
 allocate-spec =

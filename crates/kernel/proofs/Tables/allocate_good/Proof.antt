@@ -9,7 +9,7 @@ refuse-requires : tie.Need-refuse-requires
 refuse-requires c κs = search needs
 
 returns : tie.Need-returns
-returns c = c .refuse .ensures ∙ allocate-caller _ _ (c .before .if1 .taken)
+returns c = rw (c .refuse .ensures) (allocate-caller _ _ (c .before .if1 .taken))
 
 wide-requires : tie.Need-wide-requires
 wide-requires c κs = search needs
@@ -33,7 +33,7 @@ refuse-requires-2 : tie.Need-refuse-requires-2
 refuse-requires-2 c κs = search needs
 
 returns-3 : tie.Need-returns-3
-returns-3 c = c .refuse2 .ensures ∙ allocate-device _ _ (c .before .before .before .before .wide .ensures .0) _ _ (c .before .before .before .before .before .before .if1 .left) (c .before .before .before .first-of .ensures) (c .before .before .if2 .left) (c .before .if3 .taken)
+returns-3 c = rw (c .refuse2 .ensures) (allocate-device _ _ (c .before .before .before .before .wide .ensures .0) _ _ (c .before .before .before .before .before .before .if1 .left) (c .before .before .before .first-of .ensures) (c .before .before .if2 .left) (c .before .if3 .taken))
 
 first-of-requires-2 : tie.Need-first-of-requires-2
 first-of-requires-2 c κs = search needs
@@ -42,7 +42,7 @@ refuse-requires-3 : tie.Need-refuse-requires-3
 refuse-requires-3 c κs = search needs
 
 returns-4 : tie.Need-returns-4
-returns-4 c = c .refuse3 .ensures ∙ allocate-shared _ _ (c .before .before .before .before .before .before .wide .ensures .0) _ _ _ (c .before .before .before .before .before .before .before .before .if1 .left) (c .before .before .before .before .before .first-of .ensures) (c .before .before .before .before .if2 .left) (c .before .before .before .if3 .left) (c .before .before .first-of2 .ensures) (c .before .if4 .taken)
+returns-4 c = rw (c .refuse3 .ensures) (allocate-shared _ _ (c .before .before .before .before .before .before .wide .ensures .0) _ _ _ (c .before .before .before .before .before .before .before .before .if1 .left) (c .before .before .before .before .before .first-of .ensures) (c .before .before .before .before .if2 .left) (c .before .before .before .if3 .left) (c .before .before .first-of2 .ensures) (c .before .if4 .taken))
 
 exos-boundary-requires : tie.Need-exos-boundary-requires
 exos-boundary-requires c κs = search needs
@@ -51,7 +51,7 @@ refuse-requires-4 : tie.Need-refuse-requires-4
 refuse-requires-4 c κs = search needs
 
 returns-5 : tie.Need-returns-5
-returns-5 c = c .refuse4 .ensures ∙ allocate-edge _ _ (c .before .before .before .before .before .before .before .before .wide .ensures .0) _ _ _ _ (c .before .before .before .before .before .before .before .before .before .before .if1 .left) (c .before .before .before .before .before .before .before .first-of .ensures) (c .before .before .before .before .before .before .if2 .left) (c .before .before .before .before .before .if3 .left) (c .before .before .before .before .first-of2 .ensures) (c .before .before .before .if4 .left) (c .before .before .exos-boundary .ensures) (c .before .if5 .taken)
+returns-5 c = rw (c .refuse4 .ensures) (allocate-edge _ _ (c .before .before .before .before .before .before .before .before .wide .ensures .0) _ _ _ _ (c .before .before .before .before .before .before .before .before .before .before .if1 .left) (c .before .before .before .before .before .before .before .first-of .ensures) (c .before .before .before .before .before .before .if2 .left) (c .before .before .before .before .before .if3 .left) (c .before .before .before .before .first-of2 .ensures) (c .before .before .before .if4 .left) (c .before .before .exos-boundary .ensures) (c .before .if5 .taken))
 
 wide-requires-2 : tie.Need-wide-requires-2
 wide-requires-2 c κs = search needs

@@ -12,7 +12,7 @@ refuse-requires : tie.Need-refuse-requires
 refuse-requires c κs = search needs
 
 returns : tie.Need-returns
-returns c = c .refuse .ensures ∙ default-refused _ _ _ _ (c .before .before .default-name .ensures) (c .before .if1 .taken)
+returns c = rw (c .refuse .ensures) (default-refused _ _ _ _ (c .before .before .default-name .ensures) (c .before .if1 .taken))
 
 word-requires : tie.Need-word-requires
 word-requires c κs = search needs

@@ -9,7 +9,7 @@ refuse-requires : tie.Need-refuse-requires
 refuse-requires c κs = search needs
 
 returns : tie.Need-returns
-returns c = c .refuse .ensures ∙ free-caller _ _ _ (c .before .if1 .taken)
+returns c = rw (c .refuse .ensures) (free-caller _ _ _ (c .before .if1 .taken))
 
 wide-requires : tie.Need-wide-requires
 wide-requires c κs = search needs
@@ -21,7 +21,7 @@ refuse-requires-2 : tie.Need-refuse-requires-2
 refuse-requires-2 c κs = search needs
 
 returns-2 : tie.Need-returns-2
-returns-2 c = c .refuse2 .ensures ∙ free-absent _ _ (c .before .before .before .wide .ensures .0) _ _ _ (c .before .before .before .before .before .if1 .left) (c .before .before .first-of .ensures) (c .before .if2 .taken)
+returns-2 c = rw (c .refuse2 .ensures) (free-absent _ _ (c .before .before .before .wide .ensures .0) _ _ _ (c .before .before .before .before .before .if1 .left) (c .before .before .first-of .ensures) (c .before .if2 .taken))
 
 element-copy-out-class : tie.Need-element-copy-out-class
 element-copy-out-class c = search needs
@@ -45,7 +45,7 @@ refuse-requires-3 : tie.Need-refuse-requires-3
 refuse-requires-3 c κs = search needs
 
 returns-5 : tie.Need-returns-5
-returns-5 c = c .refuse3 .ensures ∙ free-other _ _ _ _ _ _ (c .before .before .before .before .before .before .before .wide .ensures .0) (c .before .before .before .before .before .before .before .before .before .if1 .left) (c .before .before .before .before .before .before .first-of .ensures) (c .before .before .before .before .before .if2 .left) refl (λ e. c .before .before .if3 .left (e ∙ sym (c .before .before .before .class-for .ensures))) (c .before .if4 .left)
+returns-5 c = rw (c .refuse3 .ensures) (free-other _ _ _ _ _ _ (c .before .before .before .before .before .before .before .wide .ensures .0) (c .before .before .before .before .before .before .before .before .before .if1 .left) (c .before .before .before .before .before .before .first-of .ensures) (c .before .before .before .before .before .if2 .left) refl (λ e. c .before .before .if3 .left (e ∙ sym (c .before .before .before .class-for .ensures))) (c .before .if4 .left))
 
 pub free-good-spec : {M : Type 1} → statement M
 free-good-spec =

@@ -28,13 +28,13 @@ refuse-requires : tie.Need-refuse-requires
 refuse-requires c κs = search needs
 
 returns : tie.Need-returns
-returns c = λ out. refused (c .before .before .before .before .before .args .self) _ _ _ _ _ out (c .refuse .ensures) refl (link-unnamed _ _ _ _ (c .before .before .link-name .ensures) (c .before .if1 .taken))
+returns c = λ out. refused (c .before .before .before .before .before .args .self) _ _ _ _ out (c .refuse .ensures) (link-unnamed _ _ _ _ (c .before .before .link-name .ensures) (c .before .if1 .taken))
 
 refuse-requires-2 : tie.Need-refuse-requires-2
 refuse-requires-2 c κs = search needs
 
 returns-2 : tie.Need-returns-2
-returns-2 c = λ out. refused (c .before .before .before .before .before .before .before .args .self) _ _ _ _ _ out (c .refuse2 .ensures) refl (link-full _ _ _ _ (c .before .before .before .before .link-name .ensures) (c .before .before .before .if1 .left) (c .before .if2 .taken))
+returns-2 c = λ out. refused (c .before .before .before .before .before .before .before .args .self) _ _ _ _ out (c .refuse2 .ensures) (link-full _ _ _ _ (c .before .before .before .before .link-name .ensures) (c .before .before .before .if1 .left) (c .before .if2 .taken))
 
 wide-requires : tie.Need-wide-requires
 wide-requires c κs = search needs
@@ -51,7 +51,7 @@ refuse-requires-3 c κs = search needs
 returns-3 : tie.Need-returns-3
 returns-3 c =
     let s = c .before .before .before .before .before .before .before .before .before .before .before .before in
-    λ out. refused (s .args .self) _ _ _ _ _ out (c .refuse3 .ensures) refl
+    λ out. refused (s .args .self) _ _ _ _ out (c .refuse3 .ensures)
     (link-none _ _ _ _ (c .before .before .before .before .before .before .before .before .before .link-name .ensures) (c .before .before .before .before .before .before .before .before .if1 .left)
     (c .before .before .before .before .before .before .if2 .left) _ (c .before .before .room-to-link .ensures) (c .before .if3 .taken))
 

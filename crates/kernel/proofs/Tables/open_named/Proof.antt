@@ -19,7 +19,7 @@ refuse-requires : tie.Need-refuse-requires
 refuse-requires c κs = search needs
 
 returns : tie.Need-returns
-returns c = λ out. refused (c .before .before .before .before .before .before .args .self) _ _ _ _ _ out (c .refuse .ensures) refl (named-none _ _ _ _ _ _ (c .before .before .before .parse .ensures) (c .before .enum-told .given .1))
+returns c = λ out. refused (c .before .before .before .before .before .before .args .self) _ _ _ _ out (c .refuse .ensures) (named-none _ _ _ _ _ _ (c .before .before .before .parse .ensures) (c .before .enum-told .given .1))
 
 wanted-requires : tie.Need-wanted-requires
 wanted-requires c κs = letters-few _ _ (c .before .before .before .parse .ensures) _ _ _ (c .before .letters .given .1)
@@ -31,7 +31,7 @@ same-length : tie.Need-same-length
 same-length c = search needs
 
 returns-2 : tie.Need-returns-2
-returns-2 c = λ out. onward (c .before .before .before .before .before .before .before .before .before .before .before .args .self) _ _ _ _ out _ _ _ _ _ _ _ _
+returns-2 c = λ out. onward (c .before .before .before .before .before .before .before .before .before .before .before .args .self) _ _ _ _ out
     (named-to _ _ _ _ _ _ (c .before .before .before .before .before .before .before .before .parse .ensures) _ _ _ _ (c .before .before .before .before .before .before .letters .given .1) (c .before .before .before .before .wanted .ensures)) (c .before .before .open-to .ensures out)
 
 pub open-named-spec : {M : Type 1} → statement M

@@ -22,7 +22,7 @@ refuse-requires : tie.Need-refuse-requires
 refuse-requires c κs = search needs
 
 returns : tie.Need-returns
-returns c = λ out. refused (c .before .before .before .before .args .self) _ _ _ _ _ out (c .refuse .ensures) refl (row-full _ _ (c .before .if1 .taken))
+returns c = λ out. refused (c .before .before .before .before .args .self) _ _ _ _ out (c .refuse .ensures) (row-full _ _ (c .before .if1 .taken))
 
 wide-requires : tie.Need-wide-requires
 wide-requires c κs = search needs
@@ -48,7 +48,7 @@ refuse-requires-2 c κs = search needs
 returns-2 : tie.Need-returns-2
 returns-2 c =
     let s = c .before .before .before .before .before .before .before .before .before .before in
-    λ out. refused (s .args .self) _ _ _ _ _ out (c .refuse2 .ensures) refl
+    λ out. refused (s .args .self) _ _ _ _ out (c .refuse2 .ensures)
     (row-none (s .args .self) (s .args .c) _ _ _ (c .before .before .before .before .before .before .before .if1 .left) (total (c .before .before .before .before)) (c .before .before .before .wide16 .ensures .0) (c .before .before .room-for .ensures)
     (c .before .if2 .taken))
 

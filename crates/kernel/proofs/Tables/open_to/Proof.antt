@@ -22,13 +22,13 @@ refuse-requires : tie.Need-refuse-requires
 refuse-requires c κs = search needs
 
 returns : tie.Need-returns
-returns c = λ out. refused (c .before .before .before .before .before .before .before .before .args .self) _ _ _ _ _ out (c .refuse .ensures) refl (to-none _ _ _ _ _ _ _ (c .before .before .before .before .wide .ensures .0) (c .before .before .before .device-row .ensures) (c .before .enum-told .given .1))
+returns c = λ out. refused (c .before .before .before .before .before .before .before .before .args .self) _ _ _ _ out (c .refuse .ensures) (to-none _ _ _ _ _ _ _ (c .before .before .before .before .wide .ensures .0) (c .before .before .before .device-row .ensures) (c .before .enum-told .given .1))
 
 refuse-requires-2 : tie.Need-refuse-requires-2
 refuse-requires-2 c κs = search needs
 
 returns-2 : tie.Need-returns-2
-returns-2 c = λ out. refused (c .before .before .before .before .before .before .before .before .before .before .args .self) _ _ _ _ _ out (c .refuse2 .ensures) refl (to-driver (c .before .before .before .before .before .before .before .before .before .before .args .self) _ _ _ (c .before .before .before .before .before .before .before .before .before .before .args .w) _ _ (c .before .before .before .before .before .before .wide .ensures .0) (c .before .before .before .before .before .device-row .ensures) _ (c .before .before .before .row .given .1) (c .before .if1 .taken))
+returns-2 c = λ out. refused (c .before .before .before .before .before .before .before .before .before .before .args .self) _ _ _ _ out (c .refuse2 .ensures) (to-driver (c .before .before .before .before .before .before .before .before .before .before .args .self) _ _ _ (c .before .before .before .before .before .before .before .before .before .before .args .w) _ _ (c .before .before .before .before .before .before .wide .ensures .0) (c .before .before .before .before .before .device-row .ensures) _ (c .before .before .before .row .given .1) (c .before .if1 .taken))
 
 cast-t16 : tie.Need-cast-t16
 cast-t16 c = search needs
@@ -40,7 +40,7 @@ same-length : tie.Need-same-length
 same-length c = search needs
 
 returns-3 : tie.Need-returns-3
-returns-3 c = λ out. onward (c .before .before .before .before .before .before .before .before .before .before .before .before .before .args .self) _ _ _ _ out _ _ _ _ _ _ _ _
+returns-3 c = λ out. onward (c .before .before .before .before .before .before .before .before .before .before .before .before .before .args .self) _ _ _ _ out
     (to-row (c .before .before .before .before .before .before .before .before .before .before .before .before .before .args .self) _ _ _ (c .before .before .before .before .before .before .before .before .before .before .before .before .before .args .w) _ _ (c .before .before .before .before .before .before .before .before .before .wide .ensures .0) (c .before .before .before .before .before .before .before .before .device-row .ensures) _ (c .before .before .before .before .before .before .row .given .1) (c .before .before .before .before .before .before .before .before .before .before .before .before .before .pre .0) (c .before .before .before .before .if1 .left)) (c .before .before .open-row .ensures out)
 
 pub open-to-spec : {M : Type 1} → statement M

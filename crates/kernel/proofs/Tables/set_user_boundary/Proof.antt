@@ -1,7 +1,7 @@
 -- `Tables::set_user_boundary` meets its contract.
 use mathlib.Core.Path.{refl}
 use Rattle.kernel.specs.Definition.Calls.{set-user-boundary}
-use Rattle.kernel.specs.Definition.Step.{heard, ramAfter, outputAfter}
+use Rattle.kernel.specs.Definition.Step.{heard}
 use Rattle.kernel.proofs.Calls.{accepted-good, call-refused, call-quiet}
 use borrow.Author.Needs.{needs}
 use Rattle.kernel.proofs.Tables.set_user_boundary.Statement.{statement}
@@ -20,8 +20,8 @@ set-user-boundary-good-requires : tie.Need-set-user-boundary-good-requires
 set-user-boundary-good-requires c κs = accepted-good _ _ (c .before .accepts .ensures .1) (c .if1 .left)
 
 returns-2 : tie.Need-returns-2
-unfolding heard ramAfter outputAfter
-returns-2 c = λ out. call-quiet _ _ (set-user-boundary _) out _ (c .before .before .accepts .ensures .0) (c .before .if1 .left) _ refl refl (c .set-user-boundary-good .ensures)
+unfolding heard
+returns-2 c = λ out. call-quiet _ _ (set-user-boundary _) out _ (c .before .before .accepts .ensures .0) (c .before .if1 .left) _ (c .set-user-boundary-good .ensures)
 
 pub set-user-boundary-spec : {M : Type 1} → statement M
 set-user-boundary-spec =

@@ -15,7 +15,7 @@ refuse-requires : tie.Need-refuse-requires
 refuse-requires c κs = search needs
 
 returns : tie.Need-returns
-returns c = c .refuse .ensures ∙ bound-none _ _ (c .before .before .before .wide .ensures .0) _ _ (c .before .before .first-of .ensures) (c .before .if1 .taken)
+returns c = rw (c .refuse .ensures) (bound-none _ _ (c .before .before .before .wide .ensures .0) _ _ (c .before .before .first-of .ensures) (c .before .if1 .taken))
 
 exos-boundary-requires : tie.Need-exos-boundary-requires
 exos-boundary-requires c κs = search needs
@@ -24,7 +24,7 @@ refuse-requires-2 : tie.Need-refuse-requires-2
 refuse-requires-2 c κs = search needs
 
 returns-2 : tie.Need-returns-2
-returns-2 c = c .refuse2 .ensures ∙ bound-above _ _ (c .before .before .before .before .before .wide .ensures .0) _ _ _ (c .before .before .before .before .first-of .ensures) (c .before .before .before .if1 .left) (c .before .before .exos-boundary .ensures) (c .before .if2 .taken)
+returns-2 c = rw (c .refuse2 .ensures) (bound-above _ _ (c .before .before .before .before .before .wide .ensures .0) _ _ _ (c .before .before .before .before .first-of .ensures) (c .before .before .before .if1 .left) (c .before .before .exos-boundary .ensures) (c .before .if2 .taken))
 
 returns-3 : tie.Need-returns-3
 returns-3 c = bound-done _ _ (c .before .before .before .before .wide .ensures .0) _ _ _ (c .before .before .before .first-of .ensures) (c .before .before .if1 .left) (c .before .exos-boundary .ensures) (c .if2 .left)
