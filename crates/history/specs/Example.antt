@@ -20,16 +20,17 @@ use Rattle.kernel.specs.Cases.{opens}
 use Rattle.kernel.specs.Definition.Tables.{ramSize, classAt, rowOf}
 use Rattle.kernel.specs.Definition.Line.{grown, shrunk}
 use Rattle.kernel.specs.Definition.Start.{noTables}
-use Rattle.kernel.specs.Definition.Answers.{numberOf, granted}
+use Rattle.kernel.specs.Definition.Answers.{numberOf, granted, Decision}
 use Rattle.kernel.specs.Definition.Calls.{Call, start, close, read, write, link, set-user-boundary, allocate, store, isStart}
 use Rattle.kernel.specs.Definition.Step.{decided, completed, step}
 use Rattle.kernel.specs.Definition.Lend.{lentOnGood, lentOn, partOn}
 use Rattle.kernel.specs.Definition.Fields.{Fields}
 use Rattle.kernel.specs.Laws.Ready.{Ready, decided-ready, start-ready}
 use Rattle.kernel.specs.declared.Tables.{Tables}
-use Rattle.kernel.specs.declared.Outcome.{Outcome}
 use Rattle.kernel.specs.declared.Answer.the-variants.{NoRoom}
-use Rattle.history.specs.Definition.Runs.{State, Event, History, after, event, Started, Runs, stay, then, Any, Run, patched, written, lastWritten, stored, lastStored}
+use Rattle.history.specs.Definition.Runs.{State, Event, History, after, event, Started, Runs, stay, then, Any, Run}
+use Rattle.history.specs.Bytes.Patched.{patched}
+use Rattle.history.specs.Bytes.Words.{written, lastWritten, last-written, written-one, stored, lastStored, last-stored, stored-one}
 use Rattle.history.specs.Definition.Users.{shared, UsersIn, userByte}
 use Rattle.history.specs.Definition.Lent.{sizeOf}
 use Rattle.history.specs.Bytes.Steps.{step-sound, start-sound}
@@ -47,7 +48,7 @@ use Rattle.history.specs.Reachable.{reachable, reachable-fewest, reachab
 abbrev lent : List ℕ
 lent = 0 ∷ 0 ∷ 0 ∷ []
 
-abbrev answered : Tables → Call → Outcome
+abbrev answered : Tables → Call → Decision
 answered t c = decided t 65536 3 c
 
 -- the tables that the calls leave, and the numbers that they answer
@@ -250,17 +251,18 @@ module _ (ram : List ℕ) (four : length ram ≡ 65536) where
 
   pub byte-zero : getD (event s₁ (read 2 0 3) lent .output) 0 0 ≡ 0
   unfolding lastWritten written patched decided noTables lettersTest upTo chainLength boundaryAt grown shrunk
-  byte-zero = bytes-read sequence 2 0 3 lent gave 0 (omega arith) ∙ last 0
+  byte-zero = written-one 2 0 (bytes-read sequence 2 0 3 lent gave 0 (omega arith)) (last-written 2 0 _) ∙ last 0
 
   pub byte-one : getD (event s₁ (read 2 0 3) lent .output) 1 0 ≡ 7
   unfolding lastWritten written patched decided noTables lettersTest upTo chainLength boundaryAt grown shrunk
-  byte-one = bytes-read sequence 2 0 3 lent gave 1 (omega arith) ∙ last 1
+  byte-one = written-one 2 1 (bytes-read sequence 2 0 3 lent gave 1 (omega arith)) (last-written 2 1 _) ∙ last 1
 
   -- 2: byte 5 of the shared segment is the 9 that was stored
   pub byte-stored : userByte (leads s₁ more) 255 5 ≡ 9
   unfolding lastStored stored patched decided noTables lettersTest upTo chainLength boundaryAt grown shrunk
   byte-stored =
-      user-bytes sequence 255 5 (runs [] s₁ more fit-more (users-all 255 5 k₁ more fit-more shared-all) (stay (users 255 5 k₁ shared-here)))
+      stored-one 255 5 (user-bytes sequence 255 5 (runs [] s₁ more fit-more (users-all 255 5 k₁ more fit-more shared-all) (stay (users 255 5 k₁ shared-here))))
+      (last-stored 255 5 _ _)
       ∙ alike-stored (alike none k₁ more fit-more) 255 5 _
 
   -- 3: the one channel's record lies in one segment
@@ -294,5 +296,5 @@ module _ (ram : List ℕ) (four : length ram ≡ 65536) where
   unfolding lastWritten written patched decided noTables lettersTest upTo chainLength boundaryAt grown shrunk
   byte-lent =
       ap (λ (n : ℕ). getD (partOn (s₁ .tables) (s₁ .ram) 2) (n - 1 - 1) 0) (sym four-bytes)
-      ∙ lent-written sequence 2 60106 lent-on 1 (subst (λ (n : ℕ). 1 < n) (sym four-bytes) (omega arith))
+      ∙ written-one 2 1 (lent-written sequence 2 60106 lent-on 1 (subst (λ (n : ℕ). 1 < n) (sym four-bytes) (omega arith))) (last-written 2 1 _)
       ∙ last 1

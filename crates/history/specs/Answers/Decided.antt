@@ -8,7 +8,8 @@ use Rattle.rows.specs.Laws.Lists.{is-false}
 use Rattle.rows.specs.Laws.Says.{Says, says-eq, says-and, says-or, says-not, says-as, says-true}
 use Rattle.kernel.specs.Definition.Tables.{ramSize}
 use Rattle.kernel.specs.Definition.Good.{Sized, Good}
-use Rattle.kernel.specs.Definition.Answers.{gives}
+use Rattle.kernel.specs.Definition.Bytes.{nothing}
+use Rattle.kernel.specs.Definition.Answers.{gives, _changing_}
 use Rattle.kernel.specs.Definition.Calls.{Call, start, reset, «open», close, read, write, default, status, link, boundary, set-user-boundary, allocate, free, store, load, no-call, short-start, isStart, onBoundary}
 use Rattle.kernel.specs.Definition.Refusals.{Row, tables-bad, ram-wrong, call-unknown, start-short}
 use Rattle.kernel.specs.Definition.Step.{accepted, heard, decided}
@@ -50,10 +51,10 @@ module _ (t : Tables) (ram output : ℕ) where
   unfolding onBoundary
   boundary-lowest = by-none boundary _ refl refl
 
-  unknown-lowest : Below (Row t ram output no-call) 2 → Lowest (Row t ram output no-call) (gives BadCall t)
+  unknown-lowest : Below (Row t ram output no-call) 2 → Lowest (Row t ram output no-call) (gives BadCall t changing nothing)
   unknown-lowest low = record { answer = refused call-unknown low }
 
-  short-lowest : Below (Row t ram output short-start) 2 → Lowest (Row t ram output short-start) (gives BadCall t)
+  short-lowest : Below (Row t ram output short-start) 2 → Lowest (Row t ram output short-start) (gives BadCall t changing nothing)
   short-lowest low = record { answer = refused start-short low }
 
   heard-good : (c : Call) → isStart c ≡ false → Heard t ram c → Good t

@@ -10,10 +10,10 @@ use borrow.Author.Tests.{not-true, ltb-true}
 use lib.Dec.{leb, ltb}
 use Rattle.rows.specs.Laws.Lists.{and-left, and-right}
 use Rattle.rows.specs.Laws.Says.{Says, says-le, says-lt, says-or}
-use Rattle.kernel.specs.Definition.Answers.{numberOf, granted, gives, Refusal, _when_, unless}
+use Rattle.kernel.specs.Definition.Bytes.{nothing}
+use Rattle.kernel.specs.Definition.Answers.{numberOf, granted, gives, Decision, _changing_, Refusal, _when_, unless}
 use Rattle.kernel.specs.declared.Tables.{Tables}
 use Rattle.kernel.specs.declared.Answer.{Answer}
-use Rattle.kernel.specs.declared.Outcome.{Outcome}
 use Rattle.history.specs.Definition.ExactlyOne.{IsAnswer, refused, passed, refusal}
 
 -- k is one of the numbers
@@ -45,9 +45,9 @@ over-none from (n ∷ ns) e j a (inr h) = over-none from ns (and-right (ltb n fr
 abbrev pub Below : (ℕ → Type 0) → ℕ → Type 0
 Below C n = (j : ℕ) → j < n → ¬ C j
 
--- the answer of the outcome is the lowest row that holds
-pub record Lowest (C : ℕ → Type 0) (o : Outcome) : Type 0 where
-  pub answer : IsAnswer C (refusal (o .answer))
+-- the answer that is decided is the lowest row that holds
+pub record Lowest (C : ℕ → Type 0) (d : Decision) : Type 0 where
+  pub answer : IsAnswer C (refusal (d .answer))
 
 -- a refusal whose number is the next of the numbers, from `from` on
 abbrev pub next : (from : ℕ) → List ℕ → Answer → Bool
@@ -72,13 +72,13 @@ module _ (C : ℕ → Type 0) (ns : List ℕ) (rows : (k : ℕ) → C k → Amon
   below-suc : (n : ℕ) → Below C n → ¬ C n → Below C (suc n)
   below-suc n low c j h d = elim (decLt j n) [ yes q ↦ low j q d | no q ↦ let e : j ≡ n = omega arith in c (rw e at d) ]
 
-  first : (t : Tables) (answer : Answer) (else : Outcome) (holds : Bool) → granted answer ≡ false → Below C (numberOf answer)
-      → Says holds (C (numberOf answer)) → (Below C (suc (numberOf answer)) → Lowest C else) → Lowest C (cond holds (gives answer t) else)
+  first : (t : Tables) (answer : Answer) (else : Decision) (holds : Bool) → granted answer ≡ false → Below C (numberOf answer)
+      → Says holds (C (numberOf answer)) → (Below C (suc (numberOf answer)) → Lowest C else) → Lowest C (cond holds (gives answer t changing nothing) else)
   first t answer else true g low says rest = record { answer = rw g (refused (says .yes refl) low) }
   first t answer else false g low says rest = rest (below-suc (numberOf answer) low (λ c. false≢true (says .make c)))
 
   -- the first that holds is the lowest that holds
-  pub unless-lowest : {from to : ℕ} {rs : List Refusal} (t : Tables) (done : Outcome) → Rising C ns from rs to
+  pub unless-lowest : {from to : ℕ} {rs : List Refusal} (t : Tables) (done : Decision) → Rising C ns from rs to
       → (Below C to → Lowest C done) → Below C from → Lowest C (unless rs t done)
   unless-lowest t done end rest low = rest low
   unless-lowest {from} t done (rule {holds = holds} {more = others} answer e says more) rest low =
@@ -87,6 +87,6 @@ module _ (C : ℕ → Type 0) (ns : List ℕ) (rows : (k : ℕ) → C k → Amon
       (λ past. unless-lowest t done more rest past)
 
   -- where none of the numbers is left, no row holds
-  pub none-holds : {from : ℕ} (o : Outcome) → granted (o .answer) ≡ true → over from ns ≡ true → Below C from → Lowest C o
-  none-holds {from} o g e low =
+  pub none-holds : {from : ℕ} (d : Decision) → granted (d .answer) ≡ true → over from ns ≡ true → Below C from → Lowest C d
+  none-holds {from} d g e low =
       record { answer = rw g (passed (λ j c. elim (decLt j from) [ yes q ↦ low j q c | no q ↦ over-none from ns e j (omega arith) (rows j c) ])) }

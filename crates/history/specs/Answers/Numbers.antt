@@ -4,11 +4,10 @@ use mathlib.Core.Bool.{true, false, false≢true}
 use mathlib.Core.List.{List, [], _∷_}
 use mathlib.Core.Logic.{inl, inr}
 use Prim.Native.Nat.{ℕ}
-use Rattle.kernel.specs.Definition.Answers.{granted, Refusal, unless}
+use Rattle.kernel.specs.Definition.Answers.{granted, Refusal, unless, Decision}
 use Rattle.kernel.specs.Definition.Calls.{Call, start, reset, «open», close, read, write, default, status, link, boundary, set-user-boundary, allocate, free, store, load, no-call, short-start, isStart}
 use Rattle.kernel.specs.Definition.Refusals.{Row, tables-bad, ram-wrong, call-unknown, start-short, allocate-caller, free-caller, open-channel, close-channel, read-channel, write-channel, open-exists, open-name, link-name, default-name, open-device, open-driver, open-full, link-full, open-room, link-low, link-room, allocate-none, free-owner, store-owner, load-owner, bound-none, bound-above, read-end, read-output, write-end, status-output, store-end, load-end, load-output, store-guard, reset-flags, start-list, start-low, start-high, start-ram}
 use Rattle.kernel.specs.declared.Tables.{Tables}
-use Rattle.kernel.specs.declared.Outcome.{Outcome}
 use Rattle.history.specs.Answers.Lowest.{Among, clear, over, Below, Lowest, Rising, unless-lowest, none-holds}
 
 abbrev pub numbers : Call → List ℕ
@@ -115,9 +114,9 @@ module _ {t : Tables} {ram output : ℕ} where
 
 -- the laws of Lowest.antt for the rows of a call
 module _ {t : Tables} {ram output : ℕ} (c : Call) where
-  pub by-rows : {from to : ℕ} {rs : List Refusal} (done : Outcome) → Rising (Row t ram output c) (numbers c) from rs to
+  pub by-rows : {from to : ℕ} {rs : List Refusal} (done : Decision) → Rising (Row t ram output c) (numbers c) from rs to
       → (Below (Row t ram output c) to → Lowest (Row t ram output c) done) → Below (Row t ram output c) from → Lowest (Row t ram output c) (unless rs t done)
   by-rows done = unless-lowest (Row t ram output c) (numbers c) (row-number c) t done
 
-  pub by-none : {from : ℕ} (o : Outcome) → granted (o .answer) ≡ true → over from (numbers c) ≡ true → Below (Row t ram output c) from → Lowest (Row t ram output c) o
-  by-none o = none-holds (Row t ram output c) (numbers c) (row-number c) o
+  pub by-none : {from : ℕ} (d : Decision) → granted (d .answer) ≡ true → over from (numbers c) ≡ true → Below (Row t ram output c) from → Lowest (Row t ram output c) d
+  by-none d = none-holds (Row t ram output c) (numbers c) (row-number c) d

@@ -28,7 +28,7 @@ use Rattle.kernel.specs.Definition.Tables.{channelAt}
 use Rattle.kernel.specs.Definition.Line.{totalOf, recordAt, sizeAt, bufferAt}
 use Rattle.kernel.specs.Definition.Segments.{mayReach, reachOf}
 use Rattle.kernel.specs.Definition.Reset.{bit4, bit5, bit6, emptying, restoring, releasing, resetting}
-use Rattle.kernel.specs.Definition.Step.{ramOpened, ramClosed, ramReset, segmentAt}
+use Rattle.kernel.specs.Definition.Bytes.{ramOpened, ramClosed, ramReset, segmentAt}
 use Rattle.kernel.specs.Laws.Chains.{good-chain, chain-shift}
 use Rattle.kernel.specs.Laws.Changes.{Opened, opens-row, opens-total, Closed, Linked}
 use Rattle.kernel.specs.Laws.Facts.{room-small}
@@ -36,9 +36,8 @@ use Rattle.kernel.specs.Laws.Records.{record-before, record-within}
 use Rattle.kernel.specs.Laws.KeptReset.{emptying-opened}
 use Rattle.kernel.specs.Laws.Ready.{Ready}
 use Rattle.kernel.specs.declared.Tables.{Tables}
-use Rattle.history.specs.Definition.Runs.{patched}
 use Rattle.history.specs.Answers.Found.{open-at}
-use Rattle.history.specs.Bytes.Patched.{patched-not, patched-by, put-at-is}
+use Rattle.history.specs.Bytes.Patched.{patched, patched-not, patched-by, put-at-is}
 use Rattle.history.specs.Bytes.Steps.{store-fits}
 use Rattle.history.specs.Bytes.Places.{place-same, index-short, reach-users, off-line}
 
@@ -136,13 +135,12 @@ module _ (t : Tables) (ram : List ℕ) (r : Ready t (length ram)) (f : ℕ → �
     starts-same : (i : ℕ) → i ≤ t .opened → recordAt u i ≡ recordAt t i
     starts-same i h = rw (o .channels) (ap sumOf (take-set-le i (t .channels) (t .opened) c h))
 
-    open-chain : Chain (u .chain) (t .room) (totalOf t + 16 + getD (u .channels) (t .opened) zeroChannel .n) (length ram)
+    open-chain : Chain (u .chain) (t .room) (totalOf t + 16 + c .n) (length ram)
     open-chain = rw (opens-total (r .good) o few, o .room) at (good-chain u (length ram) (s .good) (s .size))
 
-    pub open-law : Holds (λ d k. cond (eqb (c .number) d) 0 (f d k)) u (ramOpened t u ram)
+    pub open-law : Holds (λ d k. cond (eqb (c .number) d) 0 (f d k)) u (ramOpened t u ram c)
     open-law i a k b =
-        let d = getD (u .channels) (t .opened) zeroChannel in
-        let points = opened-points (u .chain) (t .room) ram (totalOf t) (d .number) (d .device) (d .unit) (d .n) open-chain in
+        let points = opened-points (u .chain) (t .room) ram (totalOf t) (c .number) (c .device) (c .unit) (c .n) open-chain in
         elim (decLt i (t .opened)) [
           | yes h ↦
               let p = bufferAt t i + k in
@@ -156,7 +154,7 @@ module _ (t : Tables) (ram : List ℕ) (r : Ready t (length ram)) (f : ℕ → �
               (points .kept (placeOf (u .chain) (t .room) p)
               (λ m n e.
               let q : p ≡ totalOf t + m =
-              place-apart (u .chain) (t .room) (totalOf t + 16 + d .n) (length ram) open-chain p (totalOf t + m) (omega arith) (omega arith) e in
+              place-apart (u .chain) (t .room) (totalOf t + 16 + c .n) (length ram) open-chain p (totalOf t + m) (omega arith) (omega arith) e in
               omega arith)
               ∙ ap (λ (x : ℕ). getD ram x 0) (place-same (u .chain) (t .chain) (t .room) p (o .chain (chainIndexOf (t .room) p) (link-held p within)))
               ∙ holds i h k size)
@@ -165,7 +163,7 @@ module _ (t : Tables) (ram : List ℕ) (r : Ready t (length ram)) (f : ℕ → �
               let number : c .number ≡ channelIn u (t .opened) = sym (ap (λ (x : Channel). x .number) new-row) in
               let buffer : bufferAt u (t .opened) ≡ totalOf t + 16 = ap (λ (x : ℕ). x + 16) (starts-same (t .opened) (omega arith)) in
               rw (q, eq-eqb (c .number) (channelIn u (t .opened)) number, buffer, o .room)
-              (points .zeroed k (rw q at b))
+              (points .zeroed k (rw (sizeAt, q, new-row) at b))
         ]
 
   -- close drops one buffer and keeps the others

@@ -21,7 +21,8 @@ use Rattle.kernel.specs.Laws.Chains.{good-chain}
 use Rattle.kernel.specs.Laws.Records.{record-within}
 use Rattle.kernel.specs.Laws.Ready.{Ready, ready-accepted}
 use Rattle.kernel.specs.declared.Tables.{Tables}
-use Rattle.history.specs.Definition.Runs.{State, History, Run, lastWritten}
+use Rattle.history.specs.Definition.Runs.{State, History, Run, LastWritten}
+use Rattle.history.specs.Bytes.Words.{lastWritten, last-written}
 use Rattle.history.specs.Definition.Lent.{bufferOf, sizeOf, OneSegment}
 use Rattle.history.specs.Answers.Found.{open-at}
 use Rattle.history.specs.Bytes.Buffers.{Holds}
@@ -116,5 +117,7 @@ module _ {h : History} {s : State} (r : Run h s) (channel : ℕ) where
 
     -- byte k of the buffer stands in it, the last byte first: the one last written there through that channel since its opening, or zero if none was
     pub lent-written : (k : ℕ) → k < sizeOf (s .tables) channel
-        → getD (partOn (s .tables) (s .ram) channel) (sizeOf (s .tables) channel - 1 - k) 0 ≡ lastWritten h channel k
-    lent-written = let b = run-holds (r .started) (r .runs) in lent-holds (s .tables) (s .ram) (b .0) channel at e (lastWritten h) (b .1)
+        → LastWritten channel k h (getD (partOn (s .tables) (s .ram) channel) (sizeOf (s .tables) channel - 1 - k) 0)
+    lent-written k l =
+        let b = run-holds (r .started) (r .runs) in
+        rw (lent-holds (s .tables) (s .ram) (b .0) channel at e (lastWritten h) (b .1) k l) (last-written channel k h)

@@ -1,14 +1,19 @@
 -- Bytes put at a place: those there are new, those before and behind stay.
 use mathlib.Core.Path.{_≡_, sym, _∙_}
+use mathlib.Core.Bool.{cond, _&&_}
 use mathlib.Core.List.{List, _++_}
 use Prim.Native.Nat.{ℕ, _+_, _-_, _≤_, _<_}
 use native.Mathlib.Decide.{decLe, decLt}
 use native.Mathlib.Omega.{arith}
 use borrow.Author.Tests.{le-leb, lt-leb, lt-ltb, le-ltb}
+use lib.Dec.{leb, ltb}
 use lib.ListN.{length, getD, take, drop, length-take, List·getD-append}
 use lib.Seq.{getD-take, getD-drop, getD-append-add}
 use Rattle.line.specs.Definition.Ram.{putAt}
-use Rattle.history.specs.Definition.Runs.{patched}
+
+-- byte k where `bytes` were put from offset on, and which was `old`
+unfoldable pub patched : (offset : ℕ) (bytes : List ℕ) (k old : ℕ) → ℕ
+patched offset bytes k old = cond (leb offset k && ltb k (offset + length bytes)) (getD bytes (k - offset) 0) old
 
 pub patched-in : (offset : ℕ) (bytes : List ℕ) (k old : ℕ) → offset ≤ k → k < offset + length bytes → patched offset bytes k old ≡ getD bytes (k - offset) 0
 unfolding patched

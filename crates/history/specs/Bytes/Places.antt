@@ -18,7 +18,7 @@ use Rattle.kernel.specs.Definition.Tables.{SEGMENT, classAt}
 use Rattle.kernel.specs.Definition.Line.{totalOf}
 use Rattle.kernel.specs.Definition.Segments.{mayReach, reachOf}
 use Rattle.kernel.specs.Definition.Good.{Good}
-use Rattle.kernel.specs.Definition.Step.{segmentAt}
+use Rattle.kernel.specs.Definition.Bytes.{segmentAt}
 use Rattle.kernel.specs.Laws.Facts.{chain-exactly, chain-once, room-small, user-small}
 use Rattle.kernel.specs.declared.Tables.{Tables}
 use Rattle.history.specs.Definition.Users.{Users, page-zero, own, shared}

@@ -15,11 +15,13 @@ use Rattle.kernel.specs.Definition.Tables.{rowOf}
 use Rattle.kernel.specs.Definition.Line.{totalOf}
 use Rattle.kernel.specs.Definition.Reset.{bit4, bit5}
 use Rattle.kernel.specs.Definition.Segments.{mayReach, reachOf}
-use Rattle.kernel.specs.Definition.Answers.{granted}
+use Rattle.kernel.specs.Definition.Answers.{granted, Decision}
 use Rattle.kernel.specs.Definition.Calls.{Call, isStart}
-use Rattle.kernel.specs.Definition.Step.{segmentAt, ramAfter, Result, completed, step}
+use Rattle.kernel.specs.Definition.Bytes.{segmentAt, ramAfter}
+use Rattle.kernel.specs.Definition.Step.{Result, completed, step}
 use Rattle.kernel.specs.Definition.Fields.{Fields}
 use Rattle.kernel.specs.Laws.Effects.{Effect, resets, opens, closes, reads, writes, names, counts, links, tells, bounds, grants, shares, frees, stores, loads, effect}
+use Rattle.kernel.specs.Laws.Keeps.{start-passed, start-is}
 use Rattle.kernel.specs.Laws.Facts.{reach-small}
 use Rattle.kernel.specs.Laws.Ready.{Ready, decided-ready, start-ready}
 use Rattle.kernel.specs.declared.Tables.{Tables}
@@ -56,7 +58,8 @@ length-reset t ram true false = length-put (placeOf (t .chain) (t .room)) _ ram 
 length-reset t ram false true = length-put (placeOf (t .chain) (t .cold)) _ _ 0 ∙ length-put (placeOf (t .chain) (t .room)) _ ram 0
 length-reset t ram false false = refl
 
-pub done-length : {t u : Tables} {c : Call} (ram : List ℕ) → Ready t (length ram) → Effect t c u → length (ramAfter t u ram c) ≡ length ram
+pub done-length : {t : Tables} {c : Call} {d : Decision} (ram : List ℕ) → Ready t (length ram) → Effect t c d
+    → length (ramAfter t (d .tables) ram (d .ram)) ≡ length ram
 unfolding ramAfter afterOpen afterClose afterLink
 done-length {t} ram r (resets {flags}) = length-reset t ram (bit4 flags) (bit5 flags)
 done-length ram r (opens c e differs new device few fits) = length-put (placeOf _ _) _ ram _
@@ -82,8 +85,8 @@ tables-ready s c output r f = decided-ready (s .tables) (length (s .ram)) (lengt
 -- what is known of a call, no accepted start: it is refused and leaves all as it was, or it is done
 pub data Stepped (s : State) (c : Call) (output : List ℕ) : Type 0 where
   refused : granted (event s c output .answer) ≡ false → after s c output ≡ s → Stepped s c output
-  done : granted (event s c output .answer) ≡ true → Effect (s .tables) c (after s c output .tables)
-      → after s c output .ram ≡ ramAfter (s .tables) (after s c output .tables) (s .ram) c → Stepped s c output
+  done : (d : Decision) → granted (event s c output .answer) ≡ true → Effect (s .tables) c d → after s c output .tables ≡ d .tables
+      → after s c output .ram ≡ ramAfter (s .tables) (d .tables) (s .ram) (d .ram) → Stepped s c output
 
 no-start : (a b : Bool) → a && b ≡ false → b ≡ true → a ≡ false
 no-start true b f e = absurd (false≢true (sym f ∙ e))
@@ -99,7 +102,7 @@ stepped s c output n = go (granted (event s c output .answer)) refl
   where
     go : (b : Bool) → granted (event s c output .answer) ≡ b → Stepped s c output
     go false e = refused e (ap leaves (refused-changes-nothing (s .tables) (s .ram) c output e))
-    go true e = done e (effect (s .tables) (length (s .ram)) (length output) c (no-start (isStart c) _ n e) e) (rw e)
+    go true e = done _ e (effect (s .tables) (length (s .ram)) (length output) c (no-start (isStart c) _ n e) e) refl refl
 
 -- "each made on the tables and RAM the last one left": they stay good, and of one size
 pub step-sound : (s : State) (c : Call) (output : List ℕ) → Sound s → Fields c → NotAccepted (event s c output) → Sound (after s c output)
@@ -107,11 +110,13 @@ step-sound s c output r f n = go (stepped s c output n)
   where
     go : Stepped s c output → Sound (after s c output)
     go (refused e q) = subst Sound (sym q) r
-    go (done e d q) = rw (q, done-length (s .ram) r d) (tables-ready s c output r f)
+    go (done d e m p q) = rw (q, done-length (s .ram) r m) (tables-ready s c output r f)
 
 pub start-sound : (s : State) → Started s → Sound s
 unfolding step completed ramAfter
 start-sound s z =
     let b = z .before in
-    let e = z .accepted in
-    rw (z .left, e, length-replicate {A = ℕ} (length (b .ram)) 0) (start-ready (b .tables) (length (b .ram)) (length (z .output)) (z .room) (z .list) e)
+    let ram = length (b .ram) in
+    let out = length (z .output) in
+    let is = start-is (b .tables) ram out (z .room) (z .list) (start-passed (b .tables) ram out (z .room) (z .list) (z .accepted)) in
+    rw (z .left, is, length-replicate {A = ℕ} ram 0) (rw is at (start-ready (b .tables) ram out (z .room) (z .list) (z .accepted)))

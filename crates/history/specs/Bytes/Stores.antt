@@ -11,7 +11,6 @@ use lib.ListN.{length, getD, replicate, length-append, length-replicate}
 use Rattle.names.specs.Definition.Words.{wordOf}
 use Rattle.rows.specs.Definition.Lists.{at}
 use Rattle.rows.specs.Laws.Lists.{and-left}
-use Rattle.rows.specs.Definition.Channels.{zeroChannel}
 use Rattle.rows.specs.declared.Channel.{Channel}
 use Rattle.line.specs.Within.Chains.{Chain}
 use Rattle.line.specs.Definition.Line.{placeOf, putLine, headingOf, afterOpen, afterLink}
@@ -26,8 +25,9 @@ use Rattle.kernel.specs.Definition.Line.{totalOf, recordAt, sizeAt, bufferAt, o
 use Rattle.kernel.specs.Definition.Segments.{mayReach, reachOf}
 use Rattle.kernel.specs.Definition.Reset.{bit4, bit5}
 use Rattle.kernel.specs.Definition.Good.{Good}
+use Rattle.kernel.specs.Definition.Answers.{Decision}
 use Rattle.kernel.specs.Definition.Calls.{Call}
-use Rattle.kernel.specs.Definition.Step.{ramOpened, ramClosed, segmentAt, ramAfter}
+use Rattle.kernel.specs.Definition.Bytes.{ramOpened, ramClosed, segmentAt, ramAfter}
 use Rattle.kernel.specs.Laws.Chains.{good-chain, chain-shift}
 use Rattle.kernel.specs.Laws.Effects.{Effect, resets, opens, closes, reads, writes, names, counts, links, tells, bounds, grants, shares, frees, stores, loads}
 use Rattle.kernel.specs.Laws.Changes.{Opened, opens-total, opening-opens, Linked, linking-links}
@@ -35,11 +35,11 @@ use Rattle.kernel.specs.Laws.Facts.{reach-small}
 use Rattle.kernel.specs.Laws.Records.{record-within}
 use Rattle.kernel.specs.Laws.Ready.{Ready}
 use Rattle.kernel.specs.declared.Tables.{Tables}
-use Rattle.history.specs.Definition.Runs.{patched, stored}
+use Rattle.history.specs.Bytes.Words.{stored}
 use Rattle.history.specs.Definition.Users.{Users}
 use Rattle.history.specs.Answers.Found.{in-list}
 use Rattle.history.specs.Bytes.Places.{off-line, off-room, users-small}
-use Rattle.history.specs.Bytes.Patched.{patched-in, patched-not, patched-by, put-at-is}
+use Rattle.history.specs.Bytes.Patched.{patched, patched-in, patched-not, patched-by, put-at-is}
 use Rattle.history.specs.Bytes.Steps.{store-fits}
 
 -- the offset taken with the segment's start or without
@@ -67,15 +67,14 @@ module _ (t u : Tables) (ram : List ℕ) (r : Ready t (length ram)) (s : Ready u
   write-user : (p : ℕ) (bytes : List ℕ) → p + length bytes ≤ totalOf t → getD (putLine (t .chain) (t .room) ram p bytes) x 0 ≡ old
   write-user p bytes h = put-elsewhere (placeOf (t .chain) (t .room)) bytes ram p x (λ k l e. off-line t (r .good) row offset before (p + k) (omega arith) e)
 
-  open-user : (c : Channel) → Opened t u c → t .opened < 32 → getD (ramOpened t u ram) x 0 ≡ old
+  open-user : (c : Channel) → Opened t u c → t .opened < 32 → getD (ramOpened t u ram c) x 0 ≡ old
   unfolding afterOpen
   open-user c o few =
-      let d = getD (u .channels) (t .opened) zeroChannel in
-      let heading = headingOf (16 + d .n) (d .number) (d .device) (d .unit) in
+      let heading = headingOf (16 + c .n) (c .number) (c .device) (c .unit) in
       let total = opens-total (r .good) o few in
-      let n : length (heading ++ replicate (d .n) 0) ≡ 16 + d .n =
-      omega (arith, length-append heading (replicate (d .n) 0), length-heading (16 + d .n) (d .number) (d .device) (d .unit), length-replicate {A = ℕ} (d .n) 0) in
-      put-elsewhere (placeOf (u .chain) (t .room)) (heading ++ replicate (d .n) 0) ram (totalOf t) x
+      let n : length (heading ++ replicate (c .n) 0) ≡ 16 + c .n =
+      omega (arith, length-append heading (replicate (c .n) 0), length-heading (16 + c .n) (c .number) (c .device) (c .unit), length-replicate {A = ℕ} (c .n) 0) in
+      put-elsewhere (placeOf (u .chain) (t .room)) (heading ++ replicate (c .n) 0) ram (totalOf t) x
       (λ k l e. off-line u (s .good) row offset later (totalOf t + k) (omega arith) (e ∙ ap (λ (y : ℕ). placeOf (u .chain) y (totalOf t + k)) (sym (o .room))))
 
   close-user : (j : ℕ) → j < t .opened → getD (ramClosed t ram j) x 0 ≡ old
@@ -133,24 +132,24 @@ store-user t ram r a segment o offset bytes user m h =
     ]
 
 -- every done call makes of the byte what `stored` says
-pub done-user : {t u : Tables} {c : Call} (ram : List ℕ) → Ready t (length ram) → Ready u (length ram) → (segment offset : ℕ)
-    → Users t (rowOf t segment) offset → Users u (rowOf t segment) offset → Effect t c u
-    → getD (ramAfter t u ram c) (segmentAt (rowOf t segment) + offset) 0 ≡ stored c segment offset (getD ram (segmentAt (rowOf t segment) + offset) 0)
+pub done-user : {t : Tables} {c : Call} {d : Decision} (ram : List ℕ) → Ready t (length ram) → Ready (d .tables) (length ram) → (segment offset : ℕ)
+    → Users t (rowOf t segment) offset → Users (d .tables) (rowOf t segment) offset → Effect t c d
+    → getD (ramAfter t (d .tables) ram (d .ram)) (segmentAt (rowOf t segment) + offset) 0 ≡ stored c segment offset (getD ram (segmentAt (rowOf t segment) + offset) 0)
 unfolding ramAfter stored
-done-user {t} {u} ram r s segment offset b l (resets {flags}) = flags-user t _ ram r s (rowOf t segment) offset b l (bit4 flags) (bit5 flags)
-done-user {t} {u} ram r s segment offset b l (opens c e differs new device few fits) = open-user t (opening t c) ram r s (rowOf t segment) offset b l c (opening-opens t c) few
-done-user {t} {u} ram r s segment offset b l (closes {channel} h) = close-user t _ ram r s (rowOf t segment) offset b l (channelAt t channel) h
+done-user {t} ram r s segment offset b l (resets {flags}) = flags-user t _ ram r s (rowOf t segment) offset b l (bit4 flags) (bit5 flags)
+done-user {t} ram r s segment offset b l (opens c e differs new device few fits) = open-user t (opening t c) ram r s (rowOf t segment) offset b l c (opening-opens t c) few
+done-user {t} ram r s segment offset b l (closes {channel} h) = close-user t _ ram r s (rowOf t segment) offset b l (channelAt t channel) h
 done-user ram r s segment offset b l (reads h k) = refl
-done-user {t} {u} ram r s segment offset b l (writes {channel} {offset = o} {bytes} h k) =
+done-user {t} ram r s segment offset b l (writes {channel} {offset = o} {bytes} h k) =
     write-user t t ram r s (rowOf t segment) offset b l (bufferAt t (channelAt t channel) + o) bytes (omega (arith, record-within t (channelAt t channel) (r .good) h))
 done-user ram r s segment offset b l (names h) = refl
 done-user ram r s segment offset b l counts = refl
-done-user {t} {u} ram r s segment offset b l (links {m} {name} w few h fits) =
+done-user {t} ram r s segment offset b l (links {m} {name} w few h fits) =
     link-user t _ ram r s (rowOf t segment) offset b l m (linking-links t m (wordOf name) (length name)) (omega arith)
 done-user ram r s segment offset b l tells = refl
 done-user ram r s segment offset b l (bounds a h) = refl
 done-user ram r s segment offset b l (grants h) = refl
 done-user ram r s segment offset b l (shares a) = refl
 done-user ram r s segment offset b l (frees h o) = refl
-done-user {t} {u} ram r s segment offset b l (stores {segment = a} {offset = o} {bytes} m h) = store-user t ram r a segment o offset bytes b m h
+done-user {t} ram r s segment offset b l (stores {segment = a} {offset = o} {bytes} m h) = store-user t ram r a segment o offset bytes b m h
 done-user ram r s segment offset b l (loads m h) = refl

@@ -9,15 +9,17 @@ use lib.Seq.{getD-take, getD-drop}
 use Rattle.line.specs.Definition.Ram.{filled}
 use Rattle.kernel.specs.Definition.Tables.{rowOf}
 use Rattle.kernel.specs.Definition.Segments.{mayReach, reachOf}
-use Rattle.kernel.specs.Definition.Answers.{granted}
+use Rattle.kernel.specs.Definition.Answers.{granted, Decision}
 use Rattle.kernel.specs.Definition.Calls.{Call, load}
-use Rattle.kernel.specs.Definition.Step.{segmentAt, outputAfter, completed, step}
+use Rattle.kernel.specs.Definition.Bytes.{from-segment, segmentAt, outputAfter}
+use Rattle.kernel.specs.Definition.Step.{completed, step}
 use Rattle.kernel.specs.Definition.Fields.{Fields}
 use Rattle.kernel.specs.Laws.Effects.{Effect, loads, effect}
 use Rattle.kernel.specs.Laws.Changes.{effect-listed}
 use Rattle.kernel.specs.Laws.Ready.{Ready}
 use Rattle.kernel.specs.declared.Tables.{Tables}
-use Rattle.history.specs.Definition.Runs.{State, History, after, event, NotAccepted, Runs, stay, then, Run, stored, lastStored}
+use Rattle.history.specs.Definition.Runs.{State, History, after, event, NotAccepted, Runs, stay, then, Run, LastStored}
+use Rattle.history.specs.Bytes.Words.{stored, lastStored, last-stored}
 use Rattle.history.specs.Definition.Users.{Users, UsersIn, userByte}
 use Rattle.history.specs.Bytes.Places.{reach-users}
 use Rattle.history.specs.Bytes.Steps.{Sound, store-fits, done-length, Stepped, refused, done, stepped, step-sound}
@@ -33,12 +35,12 @@ module _ (segment offset : ℕ) where
     where
       go : Stepped s c output → userByte (after s c output) segment offset ≡ lastStored (event s c output ∷ h) segment offset first
       go (refused e q) = rw e (ap (λ (x : State). userByte x segment offset) q ∙ old)
-      go (done e d q) =
-          let there : Ready (after s c output .tables) (length (s .ram)) = rw (q, done-length (s .ram) r d) at (step-sound s c output r f n) in
-          let kept = effect-listed d in
-          let row : rowOf (after s c output .tables) segment ≡ rowOf (s .tables) segment = rw (kept .segments, kept .list) in
-          rw (e, row, q)
-          (done-user (s .ram) r there segment offset b (subst (λ (x : ℕ). Users (after s c output .tables) x offset) row l) d
+      go (done d e m p q) =
+          let there : Ready (d .tables) (length (s .ram)) = rw (p, q, done-length (s .ram) r m) at (step-sound s c output r f n) in
+          let kept = effect-listed m in
+          let row : rowOf (d .tables) segment ≡ rowOf (s .tables) segment = rw (kept .segments, kept .list) in
+          rw (e, p, row, q)
+          (done-user (s .ram) r there segment offset b (rw (p, row) at l) m
           ∙ ap (stored c segment offset) old)
 
   user-runs : {s t : State} {h : History} → Sound s → Runs (UsersIn segment offset) s h t
@@ -52,13 +54,13 @@ module _ (segment offset : ℕ) where
 -- From any state s of a sequence of calls since an accepted start, over any further calls with no second start through which the place stays the user's:
 -- the byte there is the one that the user last stored there since, or the one that it was.
 pub user-bytes : {h : History} {s : State} → Run h s → (segment offset : ℕ) {j : History} {t : State} → Runs (UsersIn segment offset) s j t
-    → userByte t segment offset ≡ lastStored j segment offset (userByte s segment offset)
-user-bytes r segment offset w = user-runs segment offset (run-holds (r .started) (r .runs) .0) w .2
+    → LastStored segment offset (userByte s segment offset) j (userByte t segment offset)
+user-bytes r segment offset w = rw (user-runs segment offset (run-holds (r .started) (r .runs) .0) w .2) (last-stored segment offset _ _)
 
 -- What a done load gives: bytes that are the user's, as they lie.
-load-known : {t u : Tables} {segment offset size : ℕ} → Effect t (load segment offset size) u
-    → (mayReach t (rowOf t segment) ≡ true) × (offset + size ≤ reachOf t (rowOf t segment))
-load-known (loads m h) = (m, h)
+load-known : {t : Tables} {d : Decision} {segment offset size : ℕ} → Effect t (load segment offset size) d
+    → (mayReach t (rowOf t segment) ≡ true) × (offset + size ≤ reachOf t (rowOf t segment)) × (d .output ≡ from-segment (rowOf t segment) offset size)
+load-known (loads m h) = (m, h, refl)
 
 pub user-loads : {h : History} {s : State} → Run h s → (segment offset size : ℕ) (output : List ℕ)
     → granted (event s (load segment offset size) output .answer) ≡ true
@@ -75,7 +77,7 @@ user-loads {s = s} run segment offset size output e i l =
     let n : length (take size xs) ≡ size = omega (arith, length-take size xs, length-drop (segmentAt row + offset) (s .ram)) in
     let at : segmentAt row + offset + i ≡ segmentAt row + (offset + i) = omega arith in (
       reach-users t row (offset + i) (known .0) (omega (arith, known .1)),
-      rw e (List·getD-append (take size xs) (drop size output) 0 i (omega arith))
+      rw (known .2) (List·getD-append (take size xs) (drop size output) 0 i (omega arith))
           ∙ getD-take size xs i 0 l
           ∙ getD-drop (segmentAt row + offset) (s .ram) i 0
           ∙ ap (λ (x : ℕ). getD (s .ram) x 0) at,

@@ -1,12 +1,11 @@
 -- Sequences of calls since an accepted start, each made on the tables and RAM the last one left, and what their own calls and answers say of a byte.
 use mathlib.Core.Path.{_≡_}
-use mathlib.Core.Bool.{true, false, cond, _&&_}
+use mathlib.Core.Bool.{true, false, _&&_}
 use mathlib.Core.List.{List, [], _∷_}
 use Prim.Native.Nat.{ℕ, _+_, _-_, _≤_, _<_}
-use lib.Dec.{leb, ltb, eqb}
 use lib.ListN.{length, getD}
 use Rattle.kernel.specs.Definition.Answers.{granted}
-use Rattle.kernel.specs.Definition.Calls.{Call, start, reset, «open», close, read, write, default, status, link, boundary, set-user-boundary, allocate, free, store, load, no-call, short-start, isStart}
+use Rattle.kernel.specs.Definition.Calls.{Call, start, «open», read, write, store, isStart}
 use Rattle.kernel.specs.Definition.Step.{step}
 use Rattle.kernel.specs.Definition.Fields.{Fields}
 use Rattle.kernel.specs.declared.Tables.{Tables}
@@ -66,83 +65,34 @@ pub record Run (h : History) (t : State) : Type 0 where
   pub started : Started first
   pub runs : Runs Any first h t
 
--- byte k where `bytes` were put from offset on, and which was `old`
-unfoldable pub patched : (offset : ℕ) (bytes : List ℕ) (k old : ℕ) → ℕ
-patched offset bytes k old = cond (leb offset k && ltb k (offset + length bytes)) (getD bytes (k - offset) 0) old
+-- the byte that the events of a history last made, or `first` if none did: Makes e x says that the event e makes it x
+pub data Last (Makes : Event → ℕ → Type 0) (first : ℕ) : History → ℕ → Type 0 where
+  never : Last Makes first [] first
+  now : {e : Event} {h : History} {x : ℕ} → Makes e x → Last Makes first (e ∷ h) x
+  before : {e : Event} {h : History} {x : ℕ} → ((y : ℕ) → ¬ Makes e y) → Last Makes first h x → Last Makes first (e ∷ h) x
 
--- What a done call makes of byte k of a channel's buffer, which was `old`: an open of the channel makes it zero, a write through it what is written there.
-unfoldable pub written : Call → (channel k old : ℕ) → ℕ
-unfolding patched
-written (start room list) channel k old = old
-written (reset flags) channel k old = old
-written («open» c driver n name) channel k old = cond (eqb c channel) 0 old
-written (close c) channel k old = old
-written (read c offset size) channel k old = old
-written (write c offset bytes) channel k old = cond (eqb c channel) (patched offset bytes k old) old
-written (default unit name) channel k old = old
-written status channel k old = old
-written (link m name) channel k old = old
-written boundary channel k old = old
-written (set-user-boundary value) channel k old = old
-written (allocate caller) channel k old = old
-written (free caller segment) channel k old = old
-written (store segment offset bytes) channel k old = old
-written (load segment offset size) channel k old = old
-written no-call channel k old = old
-written short-start channel k old = old
+-- byte k of a channel's buffer: a done open of the channel makes it zero, a done write through it what is written there
+pub data Writes (channel k : ℕ) (e : Event) : ℕ → Type 0 where
+  opened : {driver n : ℕ} {name : List ℕ} → granted (e .answer) ≡ true → e .call ≡ «open» channel driver n name → Writes channel k e 0
+  wrote : {offset : ℕ} {bytes : List ℕ} → granted (e .answer) ≡ true → e .call ≡ write channel offset bytes → offset ≤ k → k < offset + length bytes
+      → Writes channel k e (getD bytes (k - offset) 0)
 
 -- "the one last written there through that channel since its opening, or zero if none was"
-unfoldable pub lastWritten : History → (channel k : ℕ) → ℕ
-unfolding written
-lastWritten [] channel k = 0
-lastWritten (e ∷ h) channel k = cond (granted (e .answer)) (written (e .call) channel k (lastWritten h channel k)) (lastWritten h channel k)
+abbrev pub LastWritten : (channel k : ℕ) → History → ℕ → Type 0
+LastWritten channel k = Last (Writes channel k) 0
 
--- "last .. since its opening": no event of these is a done open of the channel, or a done write through it of byte k
-abbrev pub Unwritten : (channel k : ℕ) → History → Type 0
-Unwritten channel k [] = Unit {0}
-Unwritten channel k (e ∷ h) =
-    ((driver n : ℕ) (name : List ℕ) → granted (e .answer) ≡ true → e .call ≡ «open» channel driver n name → ⊥)
-    × ((offset : ℕ) (bytes : List ℕ) → granted (e .answer) ≡ true → e .call ≡ write channel offset bytes → offset ≤ k → k < offset + length bytes → ⊥)
-    × Unwritten channel k h
+-- byte k of a segment: a done store there makes it what is stored
+pub data Stores (segment k : ℕ) (e : Event) : ℕ → Type 0 where
+  put : {offset : ℕ} {bytes : List ℕ} → granted (e .answer) ≡ true → e .call ≡ store segment offset bytes → offset ≤ k → k < offset + length bytes
+      → Stores segment k e (getD bytes (k - offset) 0)
+
+-- the byte last stored there, or `first` if none was
+abbrev pub LastStored : (segment k first : ℕ) → History → ℕ → Type 0
+LastStored segment k first = Last (Stores segment k) first
 
 -- "A byte read from an open channel is the one last written there": every done read of a history gave the bytes last written before it
 abbrev pub ReadsRight : History → Type 0
 ReadsRight [] = Unit {0}
 ReadsRight (e ∷ h) =
     ((channel offset size : ℕ) → e .call ≡ read channel offset size → granted (e .answer) ≡ true
-    → (i : ℕ) → i < size → getD (e .output) i 0 ≡ lastWritten h channel (offset + i)) × ReadsRight h
-
--- What a done call makes of the byte at an offset of a segment, which was `old`, while that place stays the user's: a store there puts its byte.
-unfoldable pub stored : Call → (segment offset old : ℕ) → ℕ
-unfolding patched
-stored (start room list) segment offset old = old
-stored (reset flags) segment offset old = old
-stored («open» channel driver n name) segment offset old = old
-stored (close channel) segment offset old = old
-stored (read channel o size) segment offset old = old
-stored (write channel o bytes) segment offset old = old
-stored (default unit name) segment offset old = old
-stored status segment offset old = old
-stored (link m name) segment offset old = old
-stored boundary segment offset old = old
-stored (set-user-boundary value) segment offset old = old
-stored (allocate caller) segment offset old = old
-stored (free caller s) segment offset old = old
-stored (store s o bytes) segment offset old = cond (eqb s segment) (patched o bytes offset old) old
-stored (load s o size) segment offset old = old
-stored no-call segment offset old = old
-stored short-start segment offset old = old
-
--- the byte last stored there, or `first` if none was
-unfoldable pub lastStored : History → (segment offset first : ℕ) → ℕ
-unfolding stored
-lastStored [] segment offset first = first
-lastStored (e ∷ h) segment offset first =
-    cond (granted (e .answer)) (stored (e .call) segment offset (lastStored h segment offset first)) (lastStored h segment offset first)
-
--- "changes only by the user's store": no event of these is a done store of this byte
-abbrev pub Unstored : (segment k : ℕ) → History → Type 0
-Unstored segment k [] = Unit {0}
-Unstored segment k (e ∷ h) =
-    ((offset : ℕ) (bytes : List ℕ) → granted (e .answer) ≡ true → e .call ≡ store segment offset bytes → offset ≤ k → k < offset + length bytes → ⊥)
-    × Unstored segment k h
+    → (i : ℕ) → i < size → LastWritten channel (offset + i) h (getD (e .output) i 0)) × ReadsRight h

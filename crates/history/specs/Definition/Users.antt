@@ -4,7 +4,7 @@ use Prim.Native.Nat.{ℕ, _+_, _<_}
 use lib.ListN.{getD}
 use Rattle.rows.specs.Definition.Classes.{USER, SHARED}
 use Rattle.kernel.specs.Definition.Tables.{SEGMENT, classAt, rowOf}
-use Rattle.kernel.specs.Definition.Step.{segmentAt}
+use Rattle.kernel.specs.Definition.Bytes.{segmentAt}
 use Rattle.kernel.specs.declared.Tables.{Tables}
 use Rattle.history.specs.Definition.Runs.{State}
 

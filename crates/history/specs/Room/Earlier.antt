@@ -22,7 +22,8 @@ use Rattle.kernel.specs.Definition.Line.{totalOf, roomFor}
 use Rattle.kernel.specs.Definition.Devices.{linking}
 use Rattle.kernel.specs.Definition.Names.{wanted, deviceFor}
 use Rattle.kernel.specs.declared.Wanted.{Wanted}
-use Rattle.kernel.specs.Definition.Answers.{numberOf, gives}
+use Rattle.kernel.specs.Definition.Bytes.{Change, nothing, moved}
+use Rattle.kernel.specs.Definition.Answers.{numberOf, gives, _changing_}
 use Rattle.kernel.specs.Definition.Good.{Sized, Good, goodTest}
 use Rattle.kernel.specs.Definition.Calls.{Call, «open», link, onOpen, onOpenNamed, onOpenTo, onLink}
 use Rattle.kernel.specs.Definition.Refusals.{Enabled, NotStart, tables-bad, ram-wrong, open-channel, open-exists, open-name, open-device, open-driver, open-full, link-name, link-full}
@@ -38,9 +39,9 @@ is-true : (b : Bool) → (b ≡ false → ⊥) → b ≡ true
 is-true true h = refl
 is-true false h = absurd (h refl)
 
-left-by : (fits : Bool) (x y : ℕ) (t u : Tables) → OnlyRoom (cond (not fits) (gives NoRoom t) (gives (Done x y) u) .answer) (fits ≡ true)
-left-by true x y t u = record { refused = (λ e. absurd (omega (arith, ap numberOf e)), λ e. absurd (e refl)); done = λ _. refl }
-left-by false x y t u = record { refused = (λ _ e. false≢true e, λ _. refl); done = λ e. absurd (false≢true e) }
+left-by : (fits : Bool) (x y : ℕ) (t u : Tables) (change : Change) → OnlyRoom (cond (not fits) (gives NoRoom t changing nothing) (gives (Done x y) u changing change) .answer) (fits ≡ true)
+left-by true x y t u change = record { refused = (λ e. absurd (omega (arith, ap numberOf e)), λ e. absurd (e refl)); done = λ _. refl }
+left-by false x y t u change = record { refused = (λ _ e. false≢true e, λ _. refl); done = λ e. absurd (false≢true e) }
 
 -- 1 TABLES does not hold: the tables are good, and RAM of their size is lent
 pub passes-ready : (t : Tables) (ram output : ℕ) (c : Call) → Sized t → NotStart c → Passes t ram output c → Ready t ram
@@ -84,7 +85,7 @@ module _ (t : Tables) (ram output channel driver n : ℕ) (name : List ℕ) (s :
           let known : leb (t .known) (deviceFor t w) ≡ false =
           is-false _ (λ h. p 6 (omega arith) (open-device (reading-right name r e) (none-enabled t (ready .good) w (leb-true _ _ h)))) in
           rw (ready-heard t ram output («open» channel driver n name) ready, differs, new, e, known, driven, few)
-          (left-by (roomFor t (t .room) (totalOf t + (16 + n))) _ _ t _)
+          (left-by (roomFor t (t .room) (totalOf t + (16 + n))) _ _ t _ _)
 
 module _ (t : Tables) (ram output m : ℕ) (name : List ℕ) (s : Sized t) (p : Passes t ram output (link m name)) where
   link-ready : Ready t ram
@@ -104,12 +105,12 @@ module _ (t : Tables) (ram output m : ℕ) (name : List ℕ) (s : Sized t) (p : 
       (both-by (ltb (t .room) (256 + m)) (roomFor t (t .room - m) (totalOf t)) refl)
     where
       both-by : (low fits : Bool) → ltb (t .room) (256 + m) ≡ low
-          → OnlyRoom (cond (low || not fits) (gives NoRoom t) (gives (Done (t .known) (t .room - m)) (linking t m (wordOf name) (length name))) .answer)
+          → OnlyRoom (cond (low || not fits) (gives NoRoom t changing nothing) (gives (Done (t .known) (t .room - m)) (linking t m (wordOf name) (length name)) changing moved m) .answer)
           ((256 + m ≤ t .room) × (fits ≡ true))
       both-by true fits e =
           let h : t .room < 256 + m = ltb-true _ _ e in
           record { refused = (λ _ b. omega (arith, b .0), λ _. refl); done = λ b. absurd (omega (arith, b .0)) }
       both-by false fits e =
-          let x = left-by fits (t .known) (t .room - m) t (linking t m (wordOf name) (length name)) in
+          let x = left-by fits (t .known) (t .room - m) t (linking t m (wordOf name) (length name)) (moved m) in
           let h : 256 + m ≤ t .room = ltb-false _ _ e in
           record { refused = (λ a b. x .refused .0 a (b .1), λ a. x .refused .1 (λ b. a (h, b))); done = λ b. x .done (b .1) }

@@ -112,7 +112,7 @@ module _ (t : Tables) (g : Good t) (ram output : ℕ) where
       (λ (p, (k, a, b, h)). ((list-one t g segment 0 p, omega arith), touched offset n (k, a, b, h)))
 
   pub store-lowest : (segment offset : ℕ) (bytes : List ℕ) → Below (Row t ram output (store segment offset bytes)) 2
-      → Lowest (Row t ram output (store segment offset bytes)) (onStore t segment offset (length bytes))
+      → Lowest (Row t ram output (store segment offset bytes)) (onStore t segment offset bytes)
   unfolding onStore
   store-lowest segment offset bytes =
       by-rows (store segment offset bytes) _

@@ -70,7 +70,7 @@ module _ (t : Tables) (g : Good t) (ram output : ℕ) where
       (by-none (read channel offset size) _ refl refl)
 
   pub write-lowest : (channel offset : ℕ) (bytes : List ℕ) → Below (Row t ram output (write channel offset bytes)) 2
-      → Lowest (Row t ram output (write channel offset bytes)) (onWrite t channel offset (length bytes))
+      → Lowest (Row t ram output (write channel offset bytes)) (onWrite t channel offset bytes)
   unfolding onWrite
   write-lowest channel offset bytes =
       by-rows (write channel offset bytes) _

@@ -16,7 +16,8 @@ use Rattle.rows.specs.Laws.Says.{Says, says-le, says-lt, says-eq, says-or, says
 use Rattle.kernel.specs.Definition.Good.{Good}
 use Rattle.kernel.specs.Definition.Line.{totalOf}
 use Rattle.kernel.specs.Definition.Names.{wanted, deviceFor}
-use Rattle.kernel.specs.Definition.Answers.{gives}
+use Rattle.kernel.specs.Definition.Bytes.{nothing}
+use Rattle.kernel.specs.Definition.Answers.{gives, _changing_}
 use Rattle.kernel.specs.Definition.Calls.{«open», default, link, onOpenTo, onOpenNamed, onOpen, onDefault, onLink}
 use Rattle.kernel.specs.Definition.Refusals.{Row, OpenAt, Enabled, Room, open-channel, open-exists, open-name, link-name, default-name, open-device, open-driver, open-full, link-full, open-room, link-low, link-room}
 use Rattle.kernel.specs.declared.Tables.{Tables}
@@ -76,7 +77,7 @@ module _ (t : Tables) (g : Good t) (ram output : ℕ) where
       → Below (Row t ram output («open» channel driver n name)) 5 → Lowest (Row t ram output («open» channel driver n name)) (onOpenNamed t channel driver n found)
   unfolding onOpenNamed onOpenTo
   open-named channel driver n name none e =
-      by-rows («open» channel driver n name) (gives BadName t)
+      by-rows («open» channel driver n name) (gives BadName t changing nothing)
       (rule BadName refl (λ _. record { yes = λ _. open-name (unread-right name e); make = λ _. refl })
       end)
       (λ low. absurd (low 5 (omega arith) (open-name (unread-right name e))))

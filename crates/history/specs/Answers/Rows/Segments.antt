@@ -11,12 +11,11 @@ use Rattle.kernel.specs.Definition.Tables.{classAt, rowOf}
 use Rattle.kernel.specs.Definition.Good.{Good}
 use Rattle.kernel.specs.Definition.Line.{boundaryOf}
 use Rattle.kernel.specs.Definition.Segments.{classFor, someFree, mayShare, mayFree}
-use Rattle.kernel.specs.Definition.Answers.{granted}
+use Rattle.kernel.specs.Definition.Answers.{granted, Decision}
 use Rattle.kernel.specs.Definition.Calls.{set-user-boundary, allocate, free, onSetUserBoundary, onAllocate, onFree}
 use Rattle.kernel.specs.Definition.Refusals.{Row, Some, InList, GivesBack, user, shared, device, allocate-caller, free-caller, allocate-none, free-owner, bound-none, bound-above}
 use Rattle.kernel.specs.declared.Tables.{Tables}
 use Rattle.kernel.specs.declared.Answer.the-variants.{BadCall, NoSegment, NotOwner, BadBoundary}
-use Rattle.kernel.specs.declared.Outcome.{Outcome}
 use Rattle.history.specs.Answers.Lowest.{Below, Lowest, end, rule}
 use Rattle.history.specs.Answers.Tests.{says-either}
 use Rattle.history.specs.Answers.Numbers.{by-rows, by-none}
@@ -40,7 +39,7 @@ gives-class user = inl refl
 gives-class shared = inr (refl, refl)
 gives-class device = inl refl
 
-granted-both : (b : Bool) (x y : Outcome) → granted (x .answer) ≡ true → granted (y .answer) ≡ true → granted (cond b x y .answer) ≡ true
+granted-both : (b : Bool) (x y : Decision) → granted (x .answer) ≡ true → granted (y .answer) ≡ true → granted (cond b x y .answer) ≡ true
 granted-both true x y p q = p
 granted-both false x y p q = q
 
