@@ -24,7 +24,6 @@ use Rattle.kernel.specs.Definition.Answers.{numberOf, granted, Decision}
 use Rattle.kernel.specs.Definition.Calls.{Call, start, close, read, write, link, set-user-boundary, allocate, store, isStart}
 use Rattle.kernel.specs.Definition.Step.{decided, completed, step}
 use Rattle.kernel.specs.Definition.Lend.{lentOnGood, lentOn, partOn}
-use Rattle.kernel.specs.Definition.Fields.{Fields}
 use Rattle.kernel.specs.Laws.Ready.{Ready, decided-ready, start-ready}
 use Rattle.kernel.specs.declared.Tables.{Tables}
 use Rattle.kernel.specs.declared.Answer.the-variants.{NoRoom}
@@ -71,7 +70,7 @@ tells h s (c ∷ cs) = tells (event s c lent ∷ h) (after s c lent) cs
 
 abbrev Fit : List Call → Type 0
 Fit [] = Unit {0}
-Fit (c ∷ cs) = Fields c × (isStart c ≡ false) × Fit cs
+Fit (c ∷ cs) = (isStart c ≡ false) × Fit cs
 
 -- the states on the way have P
 abbrev Along : (State → Type 0) → State → List Call → Type 0
@@ -81,7 +80,7 @@ Along P s (c ∷ cs) = P (after s c lent) × Along P (after s c lent) cs
 runs : {P : State → Type 0} {first : State} (h : History) (s : State) (cs : List Call) → Fit cs → Along P s cs → Runs P first h s
     → Runs P first (tells h s cs) (leads s cs)
 runs h s [] f p r = r
-runs h s (c ∷ cs) (f, n, fs) (p, ps) r = runs _ _ cs fs ps (then r c lent f (rw n) p)
+runs h s (c ∷ cs) (n, fs) (p, ps) r = runs _ _ cs fs ps (then r c lent (rw n) p)
 
 anything : (s : State) (cs : List Call) → Along Any s cs
 anything s [] = tt
@@ -101,17 +100,17 @@ known-answer k c = rw (k .tables, k .size)
 known-lent : {s : State} {t : Tables} → Known s t → (channel : ℕ) → lentOn (s .tables) (length (s .ram)) channel ≡ lentOn t 65536 channel
 known-lent k channel = rw (k .tables, k .size)
 
-known-next : {s : State} {t : Tables} → Known s t → (c : Call) → Fields c → isStart c ≡ false → Known (after s c lent) (answered t c .tables)
+known-next : {s : State} {t : Tables} → Known s t → (c : Call) → isStart c ≡ false → Known (after s c lent) (answered t c .tables)
 unfolding step completed
-known-next {s} {t} k c f n =
+known-next {s} {t} k c n =
     let here : Ready (s .tables) (length (s .ram)) = rw (k .tables, k .size) (k .ready) in
-    let next : Ready (answered t c .tables) 65536 = decided-ready t 65536 3 c (k .ready) f in
+    let next : Ready (answered t c .tables) 65536 = decided-ready t 65536 3 c (k .ready) in
     let same : after s c lent .tables ≡ answered t c .tables = rw (k .tables, k .size) in
-    record { ready = next; tables = same; size = step-sound s c lent here f (rw n) .size ∙ ap ramSize same ∙ sym (next .size) }
+    record { ready = next; tables = same; size = step-sound s c lent here (rw n) .size ∙ ap ramSize same ∙ sym (next .size) }
 
 known-all : {s : State} {t : Tables} → Known s t → (cs : List Call) → Fit cs → Known (leads s cs) (leaves t cs)
 known-all k [] f = k
-known-all k (c ∷ cs) (f, n, fs) = known-all (known-next k c f n) cs fs
+known-all k (c ∷ cs) (n, fs) = known-all (known-next k c n) cs fs
 
 -- the calls and answers of its history are known too
 abbrev plain : History → Tables → List Call → History
@@ -124,7 +123,7 @@ data Alike : History → History → Type 0 where
 
 alike : {g h : History} {s : State} {t : Tables} → Alike g h → Known s t → (cs : List Call) → Fit cs → Alike (tells g s cs) (plain h t cs)
 alike a k [] f = a
-alike a k (c ∷ cs) (f, n, fs) = alike (both refl (known-answer k c) a) (known-next k c f n) cs fs
+alike a k (c ∷ cs) (n, fs) = alike (both refl (known-answer k c) a) (known-next k c n) cs fs
 
 alike-written : {g h : History} → Alike g h → (channel k : ℕ) → lastWritten g channel k ≡ lastWritten h channel k
 unfolding lastWritten
@@ -154,8 +153,8 @@ module _ (segment offset : ℕ) where
 
   users-all : {s : State} {t : Tables} → Known s t → (cs : List Call) → Fit cs → sharedAll segment offset t cs ≡ true → Along (UsersIn segment offset) s cs
   users-all k [] f e = tt
-  users-all {t = t} k (c ∷ cs) (f, n, fs) e =
-      let next = known-next k c f n in
+  users-all {t = t} k (c ∷ cs) (n, fs) e =
+      let next = known-next k c n in
       let here = sharedTest segment offset (answered t c .tables) in
       (users next (and-left here _ e), users-all next cs fs (and-right here _ e))
 
@@ -278,7 +277,7 @@ module _ (ram : List ℕ) (four : length ram ≡ 65536) where
   passes : Passes (s₁ .tables) (length (s₁ .ram)) 3 (opens 3 9939)
   unfolding step completed
   passes =
-      refuses-lowest (s₁ .tables) (length (s₁ .ram)) 3 (opens 3 9939) (reachable sequence .0 .good .sized) (omega arith, omega arith, omega arith) 9
+      refuses-lowest (s₁ .tables) (length (s₁ .ram)) 3 (opens 3 9939) (reachable sequence .0 .good .sized) 9
       (omega arith) (omega arith) .0 (ap numberOf no-room) .1
 
   pub no-layout : ¬ Layout (recordsAnd (s₁ .tables) 9939) (Outside (s₁ .tables) (s₁ .tables .room) (offered (s₁ .tables)))

@@ -19,11 +19,11 @@ good-state : {P : State → Type 0} {s t : State} {h : History} → Started s �
 unfolding step completed
 good-state {t = t} z r =
     let b = run-holds z r .0 in
-    record { good = b .good; size = b .size; heard = λ c output _. never-tables (t .tables) (length (t .ram)) (length output) c b }
+    record { good = b .good; size = b .size; heard = λ c output. never-tables (t .tables) (length (t .ram)) (length output) c b }
 
 all-heard : {P : State → Type 0} {s t : State} {h : History} → Started s → Runs P s h t → NeverTables h
 all-heard z (stay _) = tt
-all-heard z (then r c output f n _) = (good-state z r .heard c output f, all-heard z r)
+all-heard z (then r c output n _) = (good-state z r .heard c output, all-heard z r)
 
 -- Every reachable state is good, and TABLES is never the answer: of the next call, and of every call of the sequence.
 pub reachable : {h : History} {s : State} → Run h s → GoodState s × NeverTables h

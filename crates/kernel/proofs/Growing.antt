@@ -1,19 +1,21 @@
 -- How the chain grows, the EXOS boundary, and the room rule, as the code takes them.
 use mathlib.Core.Path.{_≡_, refl}
-use mathlib.Core.Bool.{_&&_}
+use mathlib.Core.List.{List}
 use Prim.Native.Nat.{ℕ, suc, _+_, _-_, _*_, _%_, _≤_, _<_}
 use native.Mathlib.Omega.{arith}
 use borrow.Author.Tests.{lt-ltb, le-ltb}
-use lib.Dec.{leb, eqb}
+use lib.Dec.{leb}
 use lib.ListN.{take, set}
 use Rattle.rows.specs.Definition.Lists.{firstOf, lastOf, tally}
 use Rattle.rows.specs.Definition.Classes.{FREE, SYSTEM, SHARED}
 use Rattle.rows.specs.Definition.Channels.{sumOf}
-use Rattle.rows.specs.Definition.Sizes.{chainLength, boundaryAt}
+use Rattle.rows.specs.Definition.Sizes.{boundaryAt}
 use Rattle.kernel.specs.Definition.Tables.{SEGMENT, withSegments}
 use Rattle.kernel.specs.Definition.Good.{Good}
 use Rattle.kernel.specs.Definition.Line.{totalOf, boundaryOf, oneMore, grown, roomFor}
+use Rattle.kernel.specs.Within.{spareOf}
 use Rattle.kernel.specs.Laws.Chains.{line-fits}
+use Rattle.kernel.specs.Laws.Room.{room-asked}
 use Rattle.kernel.specs.declared.Tables.{Tables}
 
 pub more-made : (t : Tables) (found row held : ℕ) → found ≡ lastOf FREE (t .classes) → found ≤ 32 → row ≡ found - 1 → held ≡ t .held
@@ -45,15 +47,15 @@ edge-of t count total edge e f g = rw (g, f, e)
 pub total-most : (t : Tables) → Good t → (total : ℕ) → total ≡ totalOf t → total ≤ 524032
 total-most t g total e = omega (arith, line-fits (t .room) (totalOf t), g .line, g .chain .most, g .room .most, g .room .top)
 
--- the room rule, with a segment shared and with none
-module _ (t : Tables) (room n segments held row : ℕ) (count : segments ≡ t .segments) (links : held ≡ t .held) (f : row ≡ firstOf SHARED (take segments (t .classes))) where
-  pub room-shared : (long edge : ℕ) → row < segments → long ≡ chainLength room n → edge ≡ boundaryAt room n
-      → (eqb long held && leb (t .user) edge) ≡ roomFor t room n
-  unfolding roomFor
-  room-shared long edge h l e = let s : firstOf SHARED (take (t .segments) (t .classes)) < t .segments = rw (f, count) at h in rw (lt-ltb _ _ s, l, e, links)
+-- how many segments the line may still take, with one shared and with none
+module _ (classes : List ℕ) (segments row : ℕ) (f : row ≡ firstOf SHARED (take segments classes)) where
+  pub spare-shared : row < segments → 0 ≡ spareOf classes segments
+  spare-shared h = let s : firstOf SHARED (take segments classes) < segments = rw f at h in rw (lt-ltb _ _ s)
 
-  pub room-apart : (wide free : ℕ) → segments ≤ row → wide ≡ room → free ≡ tally FREE (take segments (t .classes))
-      → leb n (wide + SEGMENT * (held - 1 + free)) ≡ roomFor t room n
-  unfolding roomFor
-  room-apart wide free h w e =
-      let s : t .segments ≤ firstOf SHARED (take (t .segments) (t .classes)) = rw (f, count) at h in rw (le-ltb _ _ s, w, e, count, links)
+  pub spare-apart : (free : ℕ) → segments ≤ row → free ≡ tally FREE (take segments classes) → free ≡ spareOf classes segments
+  spare-apart free h e = let s : segments ≤ firstOf SHARED (take segments classes) = rw f at h in rw (le-ltb _ _ s, e)
+
+-- the room rule in bytes, as the code adds them
+pub room-made : (t : Tables) → Good t → (room n user r held more segments : ℕ) → room ≤ t .room → totalOf t ≤ n → user ≡ t .user → r ≡ room → held ≡ t .held
+    → segments ≡ t .segments → more ≡ spareOf (t .classes) segments → leb (n + user) (r + SEGMENT * (held - 1 + more)) ≡ roomFor t room n
+room-made t g room n user r held more segments h k u e l c m = rw (u, e, l, m, c) (room-asked t g room n h k)

@@ -187,11 +187,11 @@ module _ (t : Tables) (channel driver n : ℕ) (s : List ℕ) where
   unfolding onOpen
   good-none e = rw e
 
-  module _ (some : channel ≡ 255 → ⊥) (found : Bool) (f : found ≡ ltb (channelAt t channel) (t .opened)) where
+  module _ (some : channel < 255) (found : Bool) (f : found ≡ ltb (channelAt t channel) (t .opened)) where
     pub good-exists : found ≡ true → onOpen t channel driver n s ≡ gives Exists t changing nothing
     unfolding onOpen
-    good-exists e = rw (ne-eqb channel 255 some, sym f ∙ e)
+    good-exists e = rw (lt-leb 255 channel some, sym f ∙ e)
 
     pub good-named : found ≡ false → onOpen t channel driver n s ≡ onOpenNamed t channel driver n (reading s)
     unfolding onOpen
-    good-named e = rw (ne-eqb channel 255 some, sym f ∙ e)
+    good-named e = rw (lt-leb 255 channel some, sym f ∙ e)

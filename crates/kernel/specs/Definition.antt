@@ -11,7 +11,6 @@ pub mod Names
 pub mod Bytes
 pub mod Answers
 pub mod Calls
-pub mod Fields
 pub mod Refusals
 pub mod Step
 pub mod Lend

@@ -8,6 +8,7 @@ pub mod Facts
 pub mod Chains
 pub mod Records
 pub mod KeptLine
+pub mod Room
 pub mod KeptSegments
 pub mod KeptNames
 pub mod KeptReset

@@ -1,11 +1,13 @@
 -- What functions within the calls ask and give: words of their contracts, no sentences of 01.
 use mathlib.Core.Path.{_≡_}
-use mathlib.Core.Bool.{Bool, true, not, _||_}
+use mathlib.Core.Bool.{Bool, true, cond, not, _||_}
 use mathlib.Core.List.{List, [], _∷_}
 use Prim.Native.Nat.{ℕ, _+_, _-_, _≤_, _<_}
 use lib.Dec.{leb, ltb}
+use lib.ListN.{take}
 use Rattle.names.specs.Definition.Words.{LinkName}
-use Rattle.rows.specs.Definition.Lists.{at}
+use Rattle.rows.specs.Definition.Lists.{at, firstOf, tally}
+use Rattle.rows.specs.Definition.Classes.{FREE, SHARED}
 use Rattle.rows.specs.declared.Channel.{Channel}
 use Rattle.kernel.specs.Definition.Tables.{channelAt}
 use Rattle.kernel.specs.Definition.Line.{totalOf, roomFor, opening}
@@ -34,6 +36,13 @@ pub record New (t : Tables) (c : Channel) : Type 0 where
 pub record Fits (t : Tables) (c : Channel) : Type 0 where
   pub few : t .opened < 32
   pub room : roomFor t (t .room) (totalOf t + (16 + c .n)) ≡ true
+
+-- the segments that the line may still take: the free ones of the first n, or none where one of these is shared
+abbrev pub spareOf : (classes : List ℕ) (n : ℕ) → ℕ
+spareOf classes n = cond (ltb (firstOf SHARED (take n classes)) n) 0 (tally FREE (take n classes))
+
+abbrev pub spare : Tables → ℕ
+spare t = spareOf (t .classes) (t .segments)
 
 -- open, once the row is known
 unfoldable pub onOpenRow : Tables → Channel → Decision

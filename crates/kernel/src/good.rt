@@ -3,7 +3,7 @@ ghost use mathlib.Core.Path.{_≡_};
 ghost use mathlib.Core.Bool.{true, _&&_};
 ghost use lib.Dec.{leb};
 ghost use Rattle.rows.specs.Definition.Lists.{at};
-ghost use Rattle.kernel.specs.Definition.Good.{Good, goodTest};
+ghost use Rattle.kernel.specs.Definition.Good.{Sized, Good, goodTest};
 ghost use Rattle.kernel.specs.Definition.Step.{accepted};
 use super::Tables;
 use rows::channels::channel_test;
@@ -74,9 +74,9 @@ impl Tables {
             & name_good
     }
 
-    // Good tables, and a RAM of their length.
+    // Good tables, and a RAM of their length. The arrays of any tables have the sizes that the theorems ask.
     pub fn accepts(self, ram: usize) -> bool
-        ensures { λ r. ⌜ (r ≡ accepted self ram) × (r ≡ true → Good self) ⌝ }
+        ensures { λ r. ⌜ (r ≡ accepted self ram) × (r ≡ true → Good self) × Sized self ⌝ }
     {
         if !self.is_good() {
             return false;

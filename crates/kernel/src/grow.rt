@@ -1,7 +1,9 @@
 // How the chain grows, the EXOS boundary, and the room rule.
 ghost use mathlib.Core.Path.{_≡_};
 ghost use Prim.Native.Nat.{_+_, _≤_, _<_};
-ghost use Rattle.kernel.specs.Definition.Line.{oneMore, grown, boundaryOf, roomFor};
+ghost use Rattle.kernel.specs.Definition.Good.{Good};
+ghost use Rattle.kernel.specs.Definition.Line.{totalOf, oneMore, grown, boundaryOf, roomFor};
+ghost use Rattle.kernel.specs.Within.{spareOf};
 use super::Tables;
 use rows::channels::total;
 use rows::numbers::less;
@@ -14,7 +16,17 @@ use rows::segments::count_of;
 use rows::segments::first_of;
 use rows::segments::last_of;
 use rows::sizes::boundary_at;
-use rows::sizes::chain_length;
+
+// How many segments the line may still take: the free ones, or none where one is shared.
+fn spare(classes: [u8; 32], segments: usize) -> usize
+    requires { ⌜ segments ≤ 32 ⌝ }
+    ensures { λ r. ⌜ (r ≡ spareOf classes segments) × (r ≤ 32) ⌝ }
+{
+    if first_of(classes, segments, SHARED) < segments {
+        return 0;
+    }
+    count_of(classes, segments, FREE)
+}
 
 impl Tables {
     // One further segment for the chain: the highest numbered free one.
@@ -56,21 +68,14 @@ impl Tables {
         boundary_at(self.room, total(channels, opened))
     }
 
-    // The room rule, for a line of length `n` at the room `room`.
+    // The room rule, for a line of length `n` at the room `room`, no shorter than the present one: in bytes alone. The user boundary is 0 where nothing is shared.
     pub fn room_for(self, room: u16, n: usize) -> bool
-        requires { ⌜ (self .segments ≤ 32) × (1 ≤ self .held) × (n ≤ 4194304) ⌝ }
+        requires { ⌜ Good self × (room ≤ self .room) × (totalOf self ≤ n) × (n ≤ 4194304) ⌝ }
         ensures { λ r. ⌜ r ≡ roomFor self room n ⌝ }
     {
         let classes = self.classes;
-        let segments = wide(self.segments);
         let held = wide(self.held);
-        let long = chain_length(room, n);
-        let fits = (long == held) & (self.user <= boundary_at(room, n));
-        let most = wide16(room) + 16384 * (held - 1 + count_of(classes, segments, FREE));
-        if first_of(classes, segments, SHARED) < segments {
-            fits
-        } else {
-            n <= most
-        }
+        let more = spare(classes, wide(self.segments));
+        n + wide16(self.user) <= wide16(room) + 16384 * (held - 1 + more)
     }
 }

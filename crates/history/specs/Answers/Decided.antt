@@ -13,7 +13,6 @@ use Rattle.kernel.specs.Definition.Answers.{gives, _changing_}
 use Rattle.kernel.specs.Definition.Calls.{Call, start, reset, «open», close, read, write, default, status, link, boundary, set-user-boundary, allocate, free, store, load, no-call, short-start, isStart, onBoundary}
 use Rattle.kernel.specs.Definition.Refusals.{Row, tables-bad, ram-wrong, call-unknown, start-short}
 use Rattle.kernel.specs.Definition.Step.{accepted, heard, decided}
-use Rattle.kernel.specs.Definition.Fields.{Fields}
 use Rattle.kernel.specs.Laws.Good.{good-says}
 use Rattle.kernel.specs.declared.Tables.{Tables}
 use Rattle.kernel.specs.declared.Answer.the-variants.{BadTables, BadCall}
@@ -61,31 +60,31 @@ module _ (t : Tables) (ram output : ℕ) where
   heard-good c s (inl e) = absurd (false≢true (sym s ∙ e))
   heard-good c s (inr (g, e)) = g
 
-  heard-lowest : (c : Call) → Fields c → Heard t ram c → Below (Row t ram output c) 2 → Lowest (Row t ram output c) (heard t ram output c)
+  heard-lowest : (c : Call) → Heard t ram c → Below (Row t ram output c) 2 → Lowest (Row t ram output c) (heard t ram output c)
   unfolding heard
-  heard-lowest (start room list) f h low = start-lowest t ram output room list (λ j b. low j (omega arith))
-  heard-lowest (reset flags) f h low = reset-lowest t ram output flags f low
-  heard-lowest («open» channel driver n name) f h low = open-lowest t (heard-good («open» channel driver n name) refl h) ram output channel driver n name low
-  heard-lowest (close channel) f h low = close-lowest t (heard-good (close channel) refl h) ram output channel low
-  heard-lowest (read channel offset size) f h low = read-lowest t (heard-good (read channel offset size) refl h) ram output channel offset size low
-  heard-lowest (write channel offset bytes) f h low = write-lowest t (heard-good (write channel offset bytes) refl h) ram output channel offset bytes low
-  heard-lowest (default unit name) f h low = default-lowest t (heard-good (default unit name) refl h) ram output unit name low
-  heard-lowest status f h low = status-lowest t ram output low
-  heard-lowest (link m name) f h low = link-lowest t (heard-good (link m name) refl h) ram output m name low
-  heard-lowest boundary f h low = boundary-lowest low
-  heard-lowest (set-user-boundary value) f h low = bound-lowest t (heard-good (set-user-boundary value) refl h) ram output value low
-  heard-lowest (allocate caller) f h low = allocate-lowest t (heard-good (allocate caller) refl h) ram output caller low
-  heard-lowest (free caller segment) f h low = free-lowest t (heard-good (free caller segment) refl h) ram output caller segment low
-  heard-lowest (store segment offset bytes) f h low = store-lowest t (heard-good (store segment offset bytes) refl h) ram output segment offset bytes low
-  heard-lowest (load segment offset size) f h low = load-lowest t (heard-good (load segment offset size) refl h) ram output segment offset size low
-  heard-lowest no-call f h low = unknown-lowest low
-  heard-lowest short-start f h low = short-lowest low
+  heard-lowest (start room list) h low = start-lowest t ram output room list (λ j b. low j (omega arith))
+  heard-lowest (reset flags) h low = reset-lowest t ram output flags low
+  heard-lowest («open» channel driver n name) h low = open-lowest t (heard-good («open» channel driver n name) refl h) ram output channel driver n name low
+  heard-lowest (close channel) h low = close-lowest t (heard-good (close channel) refl h) ram output channel low
+  heard-lowest (read channel offset size) h low = read-lowest t (heard-good (read channel offset size) refl h) ram output channel offset size low
+  heard-lowest (write channel offset bytes) h low = write-lowest t (heard-good (write channel offset bytes) refl h) ram output channel offset bytes low
+  heard-lowest (default unit name) h low = default-lowest t (heard-good (default unit name) refl h) ram output unit name low
+  heard-lowest status h low = status-lowest t ram output low
+  heard-lowest (link m name) h low = link-lowest t (heard-good (link m name) refl h) ram output m name low
+  heard-lowest boundary h low = boundary-lowest low
+  heard-lowest (set-user-boundary value) h low = bound-lowest t (heard-good (set-user-boundary value) refl h) ram output value low
+  heard-lowest (allocate caller) h low = allocate-lowest t (heard-good (allocate caller) refl h) ram output caller low
+  heard-lowest (free caller segment) h low = free-lowest t (heard-good (free caller segment) refl h) ram output caller segment low
+  heard-lowest (store segment offset bytes) h low = store-lowest t (heard-good (store segment offset bytes) refl h) ram output segment offset bytes low
+  heard-lowest (load segment offset size) h low = load-lowest t (heard-good (load segment offset size) refl h) ram output segment offset size low
+  heard-lowest no-call h low = unknown-lowest low
+  heard-lowest short-start h low = short-lowest low
 
-  pub decided-lowest : (c : Call) → Sized t → Fields c → Lowest (Row t ram output c) (decided t ram output c)
+  pub decided-lowest : (c : Call) → Sized t → Lowest (Row t ram output c) (decided t ram output c)
   unfolding decided
-  decided-lowest c s f =
+  decided-lowest c s =
       by-rows c (heard t ram output c)
       (rule BadTables (numbers-some c) (λ _. says-as (says-not (heard-says c s)) (unheard c s) row-1)
       end)
-      (λ low. heard-lowest c f (⊎-elim (λ h. h) (λ n. absurd (low 1 (omega arith) (unheard c s n))) (says-either (heard-says c s))) low)
+      (λ low. heard-lowest c (⊎-elim (λ h. h) (λ n. absurd (low 1 (omega arith) (unheard c s n))) (says-either (heard-says c s))) low)
       (λ j h. absurd (omega arith))

@@ -1,6 +1,6 @@
 -- Which rows of the refusal table speak of a call.
-use mathlib.Core.Path.{_≡_, refl, sym}
-use mathlib.Core.Bool.{true, false, false≢true}
+use mathlib.Core.Path.{_≡_, refl}
+use mathlib.Core.Bool.{Bool, true, false, cond}
 use mathlib.Core.List.{List, [], _∷_}
 use mathlib.Core.Logic.{inl, inr}
 use Prim.Native.Nat.{ℕ}
@@ -10,64 +10,42 @@ use Rattle.kernel.specs.Definition.Refusals.{Row, tables-bad, ram-wrong, call-u
 use Rattle.kernel.specs.declared.Tables.{Tables}
 use Rattle.history.specs.Answers.Lowest.{Among, clear, over, Below, Lowest, Rising, unless-lowest, none-holds}
 
-abbrev pub numbers : Call → List ℕ
-numbers (start room list) = 16 ∷ []
-numbers (reset flags) = 1 ∷ 15 ∷ []
-numbers («open» channel driver n name) = 1 ∷ 3 ∷ 4 ∷ 5 ∷ 6 ∷ 7 ∷ 8 ∷ 9 ∷ []
-numbers (close channel) = 1 ∷ 3 ∷ []
-numbers (read channel offset size) = 1 ∷ 3 ∷ 13 ∷ []
-numbers (write channel offset bytes) = 1 ∷ 3 ∷ 13 ∷ []
-numbers (default unit name) = 1 ∷ 5 ∷ []
-numbers status = 1 ∷ 13 ∷ []
-numbers (link m name) = 1 ∷ 5 ∷ 8 ∷ 9 ∷ []
-numbers boundary = 1 ∷ []
-numbers (set-user-boundary value) = 1 ∷ 12 ∷ []
-numbers (allocate caller) = 1 ∷ 2 ∷ 10 ∷ []
-numbers (free caller segment) = 1 ∷ 2 ∷ 11 ∷ []
-numbers (store segment offset bytes) = 1 ∷ 11 ∷ 13 ∷ 14 ∷ []
-numbers (load segment offset size) = 1 ∷ 11 ∷ 13 ∷ []
-numbers no-call = 1 ∷ 2 ∷ []
-numbers short-start = 2 ∷ []
-
--- no row has the number 0
-pub numbers-some : (c : Call) → clear 0 1 (numbers c) ≡ true
-numbers-some (start room list) = refl
-numbers-some (reset flags) = refl
-numbers-some («open» channel driver n name) = refl
-numbers-some (close channel) = refl
-numbers-some (read channel offset size) = refl
-numbers-some (write channel offset bytes) = refl
-numbers-some (default unit name) = refl
-numbers-some status = refl
-numbers-some (link m name) = refl
-numbers-some boundary = refl
-numbers-some (set-user-boundary value) = refl
-numbers-some (allocate caller) = refl
-numbers-some (free caller segment) = refl
-numbers-some (store segment offset bytes) = refl
-numbers-some (load segment offset size) = refl
-numbers-some no-call = refl
-numbers-some short-start = refl
+-- the rows that speak of a call, but for 1; none has the number 0
+abbrev later : Call → (ns : List ℕ) × (clear 0 1 ns ≡ true)
+later (start room list) = (16 ∷ [], refl)
+later (reset flags) = (15 ∷ [], refl)
+later («open» channel driver n name) = (3 ∷ 4 ∷ 5 ∷ 6 ∷ 7 ∷ 8 ∷ 9 ∷ [], refl)
+later (close channel) = (3 ∷ [], refl)
+later (read channel offset size) = (3 ∷ 13 ∷ [], refl)
+later (write channel offset bytes) = (3 ∷ 13 ∷ [], refl)
+later (default unit name) = (5 ∷ [], refl)
+later status = (13 ∷ [], refl)
+later (link m name) = (5 ∷ 8 ∷ 9 ∷ [], refl)
+later boundary = ([], refl)
+later (set-user-boundary value) = (12 ∷ [], refl)
+later (allocate caller) = (2 ∷ 10 ∷ [], refl)
+later (free caller segment) = (2 ∷ 11 ∷ [], refl)
+later (store segment offset bytes) = (11 ∷ 13 ∷ 14 ∷ [], refl)
+later (load segment offset size) = (11 ∷ 13 ∷ [], refl)
+later no-call = (2 ∷ [], refl)
+later short-start = (2 ∷ [], refl)
 
 -- row 1 speaks of every call but start
+abbrev withOne : Bool → List ℕ → List ℕ
+withOne starts ns = cond starts ns (1 ∷ ns)
+
+abbrev pub numbers : Call → List ℕ
+numbers c = withOne (isStart c) (later c .0)
+
+clear-one : (starts : Bool) (ns : List ℕ) → clear 0 1 ns ≡ true → clear 0 1 (withOne starts ns) ≡ true
+clear-one true ns e = e
+clear-one false ns e = e
+
+pub numbers-some : (c : Call) → clear 0 1 (numbers c) ≡ true
+numbers-some c = clear-one (isStart c) (later c .0) (later c .1)
+
 not-start : (c : Call) → isStart c ≡ false → Among 1 (numbers c)
-not-start (start room list) e = absurd (false≢true (sym e))
-not-start (reset flags) e = inl refl
-not-start («open» channel driver n name) e = inl refl
-not-start (close channel) e = inl refl
-not-start (read channel offset size) e = inl refl
-not-start (write channel offset bytes) e = inl refl
-not-start (default unit name) e = inl refl
-not-start status e = inl refl
-not-start (link m name) e = inl refl
-not-start boundary e = inl refl
-not-start (set-user-boundary value) e = inl refl
-not-start (allocate caller) e = inl refl
-not-start (free caller segment) e = inl refl
-not-start (store segment offset bytes) e = inl refl
-not-start (load segment offset size) e = inl refl
-not-start no-call e = inl refl
-not-start short-start e = absurd (false≢true (sym e))
+not-start c e = rw e (inl refl)
 
 module _ {t : Tables} {ram output : ℕ} where
   pub row-number : (c : Call) (k : ℕ) → Row t ram output c k → Among k (numbers c)
@@ -77,7 +55,7 @@ module _ {t : Tables} {ram output : ℕ} where
   row-number c k start-short = inl refl
   row-number c k (allocate-caller h) = inr (inl refl)
   row-number c k (free-caller h) = inr (inl refl)
-  row-number c k open-channel = inr (inl refl)
+  row-number c k (open-channel h) = inr (inl refl)
   row-number c k (close-channel h) = inr (inl refl)
   row-number c k (read-channel h) = inr (inl refl)
   row-number c k (write-channel h) = inr (inl refl)

@@ -24,7 +24,7 @@ use Rattle.history.specs.Answers.Decided.{decided-lowest}
 -- ---- the answer
 
 pub answers-lowest : AnswersLowest
-answers-lowest t ram output c s f = decided-lowest t ram output c s f .answer
+answers-lowest t ram output c s = decided-lowest t ram output c s .answer
 
 pub answer-one : OneAnswer
 answer-one C k l (refused {k = i} a b) (refused {k = j} c d) =
@@ -73,9 +73,9 @@ none-of (refused r low) e = absurd (row-0 r e)
     row-0 {c = c} {k = k} r e = clear-none 0 1 (numbers c) (numbers-some c) k (omega arith) (omega arith) (row-number c k r)
 
 pub refuses-lowest : RefusesLowest
-refuses-lowest t ram output c s f k one most =
+refuses-lowest t ram output c s k one most =
     let a = decided t ram output c .answer in
-    let is = answers-lowest t ram output c s f in (
+    let is = answers-lowest t ram output c s in (
       λ e. elim (kinds a) [
         | inl (z, q) ↦ absurd (elim z [ inl x ↦ omega arith | inr x ↦ omega arith ])
         | inr (l, h, q) ↦ let w : refusal a ≡ k = q ∙ e in lowest-of (rw w at is) one
@@ -86,9 +86,9 @@ refuses-lowest t ram output c s f k one most =
     )
 
 pub grants-rest : GrantsRest
-grants-rest t ram output c s f =
+grants-rest t ram output c s =
     let a = decided t ram output c .answer in
-    let is = answers-lowest t ram output c s f in (
+    let is = answers-lowest t ram output c s in (
       λ z. elim (kinds a) [
         | inl (x, q) ↦ none-of is q
         | inr (l, h, q) ↦ absurd (elim z [ inl x ↦ omega arith | inr x ↦ omega arith ])

@@ -23,7 +23,6 @@ use Rattle.kernel.specs.Definition.Answers.{granted, Decision}
 use Rattle.kernel.specs.Definition.Calls.{Call, read}
 use Rattle.kernel.specs.Definition.Bytes.{from-buffer, ramOpened, ramAfter, outputAfter}
 use Rattle.kernel.specs.Definition.Step.{completed, step}
-use Rattle.kernel.specs.Definition.Fields.{Fields}
 use Rattle.kernel.specs.Laws.Keeps.{start-passed, start-is}
 use Rattle.kernel.specs.Laws.Effects.{Effect, resets, opens, closes, reads, writes, names, counts, links, tells, bounds, grants, shares, frees, stores, loads, effect}
 use Rattle.kernel.specs.Laws.Changes.{opening-opens, closing-closes, linking-links}
@@ -44,7 +43,7 @@ done-holds : {t : Tables} {c : Call} {d : Decision} (ram : List ℕ) (f : ℕ �
     → Effect t c d → Holds (λ channel k. written c channel k (f channel k)) (d .tables) (ramAfter t (d .tables) ram (d .ram))
 unfolding written ramAfter granting sharingLast bounding
 done-holds {t} ram f r s holds (resets {flags}) = reset-law t ram r f holds flags
-done-holds {t} ram f r s holds (opens c e differs new device few fits) =
+done-holds {t} ram f r s holds (opens c e low new device few fits) =
     subst (λ (x : ℕ). Holds (λ d k. cond (eqb x d) 0 (f d k)) (opening t c) (ramOpened t (opening t c) ram c)) e
     (open-law t ram r f holds (opening t c) c (opening-opens t c) few s)
 done-holds {t} ram f r s holds (closes {channel} h) =
@@ -72,25 +71,25 @@ start-none s z =
     ap (λ (x : State). x .tables .opened) (z .left)
     ∙ ap (λ (d : Decision). d .tables .opened) (start-is (b .tables) (length (b .ram)) (length (z .output)) (z .room) (z .list) passed)
 
-step-holds : (s : State) (c : Call) (output : List ℕ) (h : History) → Sound s → Fields c → NotAccepted (event s c output) → Holds (lastWritten h) (s .tables) (s .ram)
+step-holds : (s : State) (c : Call) (output : List ℕ) (h : History) → Sound s → NotAccepted (event s c output) → Holds (lastWritten h) (s .tables) (s .ram)
     → Holds (lastWritten (event s c output ∷ h)) (after s c output .tables) (after s c output .ram)
 unfolding lastWritten
-step-holds s c output h r f n holds = go (stepped s c output n)
+step-holds s c output h r n holds = go (stepped s c output n)
   where
     go : Stepped s c output → Holds (lastWritten (event s c output ∷ h)) (after s c output .tables) (after s c output .ram)
     go (refused e q) =
         let same : Holds (lastWritten h) (after s c output .tables) (after s c output .ram) = subst (λ (x : State). Holds (lastWritten h) (x .tables) (x .ram)) (sym q) holds in
         rw e same
     go (done d e m p q) =
-        let there : Ready (d .tables) (length (s .ram)) = rw (p, q, done-length (s .ram) r m) at (step-sound s c output r f n) in
+        let there : Ready (d .tables) (length (s .ram)) = rw (p, q, done-length (s .ram) r m) at (step-sound s c output r n) in
         rw (e, p, q) (done-holds (s .ram) (lastWritten h) r there holds m)
 
 -- every state of a run is sound, and every byte of its open channels is the one last written there
 pub run-holds : {P : State → Type 0} {s t : State} {h : History} → Started s → Runs P s h t → Sound t × Holds (lastWritten h) (t .tables) (t .ram)
 run-holds {s = s} z (stay _) = (start-sound s z, λ i a. absurd (not-suc-le-zero (rw (start-none s z) at a)))
-run-holds z (then {h = h} {t = t} r c output f n _) =
+run-holds z (then {h = h} {t = t} r c output n _) =
     let b = run-holds z r in
-    (step-sound t c output (b .0) f n, step-holds t c output h (b .0) f n (b .1))
+    (step-sound t c output (b .0) n, step-holds t c output h (b .0) n (b .1))
 
 -- a done read gives the bytes of its channel
 read-known : {t : Tables} {d : Decision} {channel offset size : ℕ} → Effect t (read channel offset size) d
@@ -127,7 +126,7 @@ bytes-read {h} {t} r channel offset size output e i l =
 
 right : {P : State → Type 0} {s t : State} {h : History} → Started s → Runs P s h t → ReadsRight h
 right z (stay _) = tt
-right z (then {h = h} {t = t} r c output f n _) =
+right z (then {h = h} {t = t} r c output n _) =
     let b = run-holds z r in (
       λ channel offset size q.
           subst (λ (x : Call). granted (event t x output .answer) ≡ true → (i : ℕ) → i < size → LastWritten channel (offset + i) h (getD (event t x output .output) i 0))

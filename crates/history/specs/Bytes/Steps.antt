@@ -19,7 +19,6 @@ use Rattle.kernel.specs.Definition.Answers.{granted, Decision}
 use Rattle.kernel.specs.Definition.Calls.{Call, isStart}
 use Rattle.kernel.specs.Definition.Bytes.{segmentAt, ramAfter}
 use Rattle.kernel.specs.Definition.Step.{Result, completed, step}
-use Rattle.kernel.specs.Definition.Fields.{Fields}
 use Rattle.kernel.specs.Laws.Effects.{Effect, resets, opens, closes, reads, writes, names, counts, links, tells, bounds, grants, shares, frees, stores, loads, effect}
 use Rattle.kernel.specs.Laws.Keeps.{start-passed, start-is}
 use Rattle.kernel.specs.Laws.Facts.{reach-small}
@@ -62,7 +61,7 @@ pub done-length : {t : Tables} {c : Call} {d : Decision} (ram : List ℕ) → Re
     → length (ramAfter t (d .tables) ram (d .ram)) ≡ length ram
 unfolding ramAfter afterOpen afterClose afterLink
 done-length {t} ram r (resets {flags}) = length-reset t ram (bit4 flags) (bit5 flags)
-done-length ram r (opens c e differs new device few fits) = length-put (placeOf _ _) _ ram _
+done-length ram r (opens c e low new device few fits) = length-put (placeOf _ _) _ ram _
 done-length ram r (closes h) = length-put (placeOf _ _) _ ram _
 done-length ram r (reads h l) = refl
 done-length ram r (writes h l) = length-put (placeOf _ _) _ ram _
@@ -78,9 +77,9 @@ done-length {t} ram r (stores {segment} {offset} {bytes} m h) =
     length-put-at ram (segmentAt (rowOf t segment) + offset) bytes (store-fits t ram (rowOf t segment) offset (length bytes) r m h)
 done-length ram r (loads m h) = refl
 
-tables-ready : (s : State) (c : Call) (output : List ℕ) → Sound s → Fields c → Ready (after s c output .tables) (length (s .ram))
+tables-ready : (s : State) (c : Call) (output : List ℕ) → Sound s → Ready (after s c output .tables) (length (s .ram))
 unfolding step completed
-tables-ready s c output r f = decided-ready (s .tables) (length (s .ram)) (length output) c r f
+tables-ready s c output r = decided-ready (s .tables) (length (s .ram)) (length output) c r
 
 -- what is known of a call, no accepted start: it is refused and leaves all as it was, or it is done
 pub data Stepped (s : State) (c : Call) (output : List ℕ) : Type 0 where
@@ -105,12 +104,12 @@ stepped s c output n = go (granted (event s c output .answer)) refl
     go true e = done _ e (effect (s .tables) (length (s .ram)) (length output) c (no-start (isStart c) _ n e) e) refl refl
 
 -- "each made on the tables and RAM the last one left": they stay good, and of one size
-pub step-sound : (s : State) (c : Call) (output : List ℕ) → Sound s → Fields c → NotAccepted (event s c output) → Sound (after s c output)
-step-sound s c output r f n = go (stepped s c output n)
+pub step-sound : (s : State) (c : Call) (output : List ℕ) → Sound s → NotAccepted (event s c output) → Sound (after s c output)
+step-sound s c output r n = go (stepped s c output n)
   where
     go : Stepped s c output → Sound (after s c output)
     go (refused e q) = subst Sound (sym q) r
-    go (done d e m p q) = rw (q, done-length (s .ram) r m) (tables-ready s c output r f)
+    go (done d e m p q) = rw (q, done-length (s .ram) r m) (tables-ready s c output r)
 
 pub start-sound : (s : State) → Started s → Sound s
 unfolding step completed ramAfter

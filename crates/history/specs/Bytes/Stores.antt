@@ -137,7 +137,7 @@ pub done-user : {t : Tables} {c : Call} {d : Decision} (ram : List ℕ) → Read
     → getD (ramAfter t (d .tables) ram (d .ram)) (segmentAt (rowOf t segment) + offset) 0 ≡ stored c segment offset (getD ram (segmentAt (rowOf t segment) + offset) 0)
 unfolding ramAfter stored
 done-user {t} ram r s segment offset b l (resets {flags}) = flags-user t _ ram r s (rowOf t segment) offset b l (bit4 flags) (bit5 flags)
-done-user {t} ram r s segment offset b l (opens c e differs new device few fits) = open-user t (opening t c) ram r s (rowOf t segment) offset b l c (opening-opens t c) few
+done-user {t} ram r s segment offset b l (opens c e low new device few fits) = open-user t (opening t c) ram r s (rowOf t segment) offset b l c (opening-opens t c) few
 done-user {t} ram r s segment offset b l (closes {channel} h) = close-user t _ ram r s (rowOf t segment) offset b l (channelAt t channel) h
 done-user ram r s segment offset b l (reads h k) = refl
 done-user {t} ram r s segment offset b l (writes {channel} {offset = o} {bytes} h k) =

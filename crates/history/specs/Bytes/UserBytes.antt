@@ -13,7 +13,6 @@ use Rattle.kernel.specs.Definition.Answers.{granted, Decision}
 use Rattle.kernel.specs.Definition.Calls.{Call, load}
 use Rattle.kernel.specs.Definition.Bytes.{from-segment, segmentAt, outputAfter}
 use Rattle.kernel.specs.Definition.Step.{completed, step}
-use Rattle.kernel.specs.Definition.Fields.{Fields}
 use Rattle.kernel.specs.Laws.Effects.{Effect, loads, effect}
 use Rattle.kernel.specs.Laws.Changes.{effect-listed}
 use Rattle.kernel.specs.Laws.Ready.{Ready}
@@ -27,16 +26,16 @@ use Rattle.history.specs.Bytes.BytesRead.{run-holds}
 use Rattle.history.specs.Bytes.Stores.{done-user}
 
 module _ (segment offset : ℕ) where
-  step-user : (s : State) (c : Call) (output : List ℕ) (h : History) (first : ℕ) → Sound s → Fields c → NotAccepted (event s c output)
+  step-user : (s : State) (c : Call) (output : List ℕ) (h : History) (first : ℕ) → Sound s → NotAccepted (event s c output)
       → UsersIn segment offset s → UsersIn segment offset (after s c output) → userByte s segment offset ≡ lastStored h segment offset first
       → userByte (after s c output) segment offset ≡ lastStored (event s c output ∷ h) segment offset first
   unfolding lastStored
-  step-user s c output h first r f n b l old = go (stepped s c output n)
+  step-user s c output h first r n b l old = go (stepped s c output n)
     where
       go : Stepped s c output → userByte (after s c output) segment offset ≡ lastStored (event s c output ∷ h) segment offset first
       go (refused e q) = rw e (ap (λ (x : State). userByte x segment offset) q ∙ old)
       go (done d e m p q) =
-          let there : Ready (d .tables) (length (s .ram)) = rw (p, q, done-length (s .ram) r m) at (step-sound s c output r f n) in
+          let there : Ready (d .tables) (length (s .ram)) = rw (p, q, done-length (s .ram) r m) at (step-sound s c output r n) in
           let kept = effect-listed m in
           let row : rowOf (d .tables) segment ≡ rowOf (s .tables) segment = rw (kept .segments, kept .list) in
           rw (e, p, row, q)
@@ -47,9 +46,9 @@ module _ (segment offset : ℕ) where
       → Sound t × UsersIn segment offset t × (userByte t segment offset ≡ lastStored h segment offset (userByte s segment offset))
   unfolding lastStored
   user-runs r (stay u) = (r, u, refl)
-  user-runs {s = s} r (then {h = h} {t = t} w c output f n u) =
+  user-runs {s = s} r (then {h = h} {t = t} w c output n u) =
       let b = user-runs r w in
-      (step-sound t c output (b .0) f n, u, step-user t c output h (userByte s segment offset) (b .0) f n (b .1) u (b .2))
+      (step-sound t c output (b .0) n, u, step-user t c output h (userByte s segment offset) (b .0) n (b .1) u (b .2))
 
 -- From any state s of a sequence of calls since an accepted start, over any further calls with no second start through which the place stays the user's:
 -- the byte there is the one that the user last stored there since, or the one that it was.

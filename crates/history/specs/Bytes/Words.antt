@@ -23,43 +23,86 @@ last-one one (now m) (before none l) = absurd (none _ m)
 last-one one (before none l) (now m) = absurd (none _ m)
 last-one one (before none l) (before none' l') = last-one one l l'
 
--- what an event makes of the byte, as a function of what it was
-module _ (Makes : Event → ℕ → Type 0) (f : Event → ℕ → ℕ) (makes : (e : Event) (x : ℕ) → Makes e x → (old : ℕ) → f e old ≡ x)
-    (kinds : (e : Event) → ((x : ℕ) × Makes e x) ⊎ ((old : ℕ) → f e old ≡ old)) where
-  pub made-one : (e : Event) (x y : ℕ) → Makes e x → Makes e y → x ≡ y
-  made-one e x y m n = sym (makes e x m 0) ∙ makes e y n 0
+-- ---- what of a call counts for the bytes: an open, a write, a store, or nothing that does
 
-  none-made : (e : Event) → ((old : ℕ) → f e old ≡ old) → (y : ℕ) → ¬ Makes e y
-  none-made e q y m = let z : _≡_ {A = ℕ} 0 1 = sym (q 0) ∙ makes e y m 0 ∙ sym (makes e y m 1) ∙ q 1 in omega arith
+pub data Deed : Call → Type 0 where
+  opens : (channel driver n : ℕ) (name : List ℕ) → Deed («open» channel driver n name)
+  writes : (channel offset : ℕ) (bytes : List ℕ) → Deed (write channel offset bytes)
+  stores : (segment offset : ℕ) (bytes : List ℕ) → Deed (store segment offset bytes)
+  other : (c : Call) → Deed c
 
-  last-step : {first : ℕ} (e : Event) (h : History) (old : ℕ) → Last Makes first h old → Last Makes first (e ∷ h) (f e old)
-  last-step e h old l = elim (kinds e) [
-    | inl (x, m) ↦ rw (makes e x m old) (now m)
+abbrev pub deed : (c : Call) → Deed c
+deed (start room list) = other (start room list)
+deed (reset flags) = other (reset flags)
+deed («open» channel driver n name) = opens channel driver n name
+deed (close channel) = other (close channel)
+deed (read channel offset size) = other (read channel offset size)
+deed (write channel offset bytes) = writes channel offset bytes
+deed (default unit name) = other (default unit name)
+deed status = other status
+deed (link m name) = other (link m name)
+deed boundary = other boundary
+deed (set-user-boundary value) = other (set-user-boundary value)
+deed (allocate caller) = other (allocate caller)
+deed (free caller segment) = other (free caller segment)
+deed (store segment offset bytes) = stores segment offset bytes
+deed (load segment offset size) = other (load segment offset size)
+deed no-call = other no-call
+deed short-start = other short-start
+
+-- Of a byte that some deeds make anew: which do (`kinds`), and what they make of it (`makes`). Then one byte is the last, and it is computed.
+module _ (Makes : Event → ℕ → Type 0) (by : (c : Call) → Deed c → ℕ → ℕ)
+    (makes : (e : Event) (x : ℕ) → Makes e x → (granted (e .answer) ≡ true) × ((old : ℕ) → by (e .call) (deed (e .call)) old ≡ x))
+    (kinds : (c : Call) (d : Deed c) → ((e : Event) → e .call ≡ c → granted (e .answer) ≡ true → (x : ℕ) × Makes e x) ⊎ ((old : ℕ) → by c d old ≡ old)) where
+  made : Event → ℕ → ℕ
+  made e old = cond (granted (e .answer)) (by (e .call) (deed (e .call)) old) old
+
+  made-is : (e : Event) (x : ℕ) → Makes e x → (old : ℕ) → made e old ≡ x
+  unfolding made
+  made-is e x m old = let (g, q) = makes e x m in rw g (q old)
+
+  event-kinds : (e : Event) → ((x : ℕ) × Makes e x) ⊎ ((old : ℕ) → made e old ≡ old)
+  unfolding made
+  event-kinds e = go (granted (e .answer)) refl
+    where
+      go : (b : Bool) → granted (e .answer) ≡ b → ((x : ℕ) × Makes e x) ⊎ ((old : ℕ) → made e old ≡ old)
+      go false g = inr (λ old. rw g)
+      go true g = elim (kinds (e .call) (deed (e .call))) [ inl f ↦ inl (f e refl g) | inr q ↦ inr (λ old. rw g (q old)) ]
+
+  none-made : (e : Event) → ((old : ℕ) → made e old ≡ old) → (y : ℕ) → ¬ Makes e y
+  none-made e q y m = let z : _≡_ {A = ℕ} 0 1 = sym (q 0) ∙ made-is e y m 0 ∙ sym (made-is e y m 1) ∙ q 1 in omega arith
+
+  pub last-made : {first : ℕ} (e : Event) (h : History) (old : ℕ) → Last Makes first h old
+      → Last Makes first (e ∷ h) (cond (granted (e .answer)) (by (e .call) (deed (e .call)) old) old)
+  unfolding made
+  last-made e h old l = elim (event-kinds e) [
+    | inl (x, m) ↦ rw (made-is e x m old) (now m)
     | inr q ↦ rw (q old) (before (none-made e q) l)
   ]
 
+  pub one-made : {first : ℕ} {h : History} {x y : ℕ} → Last Makes first h x → Last Makes first h y → x ≡ y
+  one-made = last-one (λ e x y m n. sym (made-is e x m 0) ∙ made-is e y n 0)
+
+-- bytes put from an offset on reach a byte, or leave it
+reached : (offset : ℕ) (bytes : List ℕ) (k : ℕ) → ((offset ≤ k) × (k < offset + length bytes)) ⊎ ((old : ℕ) → patched offset bytes k old ≡ old)
+reached offset bytes k =
+    elim (decLe offset k) [
+      | yes a ↦ elim (decLt k (offset + length bytes)) [ yes b ↦ inl (a, b) | no b ↦ inr (λ old. patched-not offset bytes k old (λ _ y. b y)) ]
+      | no a ↦ inr (λ old. patched-not offset bytes k old (λ x _. a x))
+    ]
+
 -- ---- a channel's byte
 
--- What a done call makes of byte k of a channel's buffer, which was `old`: an open of the channel makes it zero, a write through it what is written there.
+-- what a done call makes of byte k of a channel's buffer, which was `old`: an open of the channel makes it zero, a write through it what is written there
+abbrev writtenBy : (channel k : ℕ) (c : Call) → Deed c → (old : ℕ) → ℕ
+writtenBy channel k c (opens d driver n name) old = cond (eqb d channel) 0 old
+writtenBy channel k c (writes d offset bytes) old = cond (eqb d channel) (patched offset bytes k old) old
+writtenBy channel k c (stores segment offset bytes) old = old
+writtenBy channel k c (other _) old = old
+
 unfoldable pub written : Call → (channel k old : ℕ) → ℕ
 unfolding patched
-written (start room list) channel k old = old
-written (reset flags) channel k old = old
-written («open» c driver n name) channel k old = cond (eqb c channel) 0 old
-written (close c) channel k old = old
-written (read c offset size) channel k old = old
-written (write c offset bytes) channel k old = cond (eqb c channel) (patched offset bytes k old) old
-written (default unit name) channel k old = old
-written status channel k old = old
-written (link m name) channel k old = old
-written boundary channel k old = old
-written (set-user-boundary value) channel k old = old
-written (allocate caller) channel k old = old
-written (free caller segment) channel k old = old
-written (store segment offset bytes) channel k old = old
-written (load segment offset size) channel k old = old
-written no-call channel k old = old
-written short-start channel k old = old
+written c channel k old = writtenBy channel k c (deed c) old
 
 -- the byte last written, computed
 unfoldable pub lastWritten : History → (channel k : ℕ) → ℕ
@@ -67,147 +110,79 @@ unfolding written
 lastWritten [] channel k = 0
 lastWritten (e ∷ h) channel k = cond (granted (e .answer)) (written (e .call) channel k (lastWritten h channel k)) (lastWritten h channel k)
 
-call-kinds : (channel k : ℕ) (c : Call)
-    → ((e : Event) → e .call ≡ c → granted (e .answer) ≡ true → (x : ℕ) × Writes channel k e x) ⊎ ((old : ℕ) → written c channel k old ≡ old)
-unfolding written
-call-kinds channel k (start room list) = inr (λ old. refl)
-call-kinds channel k (reset flags) = inr (λ old. refl)
-call-kinds channel k («open» d driver n name) =
-    elim (ℕ-discrete d channel) [
-      | yes q ↦ inl (λ e c g. (0, opened {driver = driver} {n = n} {name = name} g (c ∙ ap (λ (x : ℕ). «open» x driver n name) q)))
-      | no q ↦ inr (λ old. rw (ne-eqb d channel q))
-    ]
-call-kinds channel k (close d) = inr (λ old. refl)
-call-kinds channel k (read d offset size) = inr (λ old. refl)
-call-kinds channel k (write d offset bytes) =
-    elim (ℕ-discrete d channel) [
-      | yes q ↦ elim (decLe offset k) [
-        | yes a ↦ elim (decLt k (offset + length bytes)) [
-          | yes b ↦ inl (λ e c g. (getD bytes (k - offset) 0, wrote g (c ∙ ap (λ (x : ℕ). write x offset bytes) q) a b))
-          | no b ↦ inr (λ old. rw (eq-eqb d channel q) (patched-not offset bytes k old (λ _ y. b y)))
-        ]
-        | no a ↦ inr (λ old. rw (eq-eqb d channel q) (patched-not offset bytes k old (λ x _. a x)))
-      ]
-      | no q ↦ inr (λ old. rw (ne-eqb d channel q))
-    ]
-call-kinds channel k (default unit name) = inr (λ old. refl)
-call-kinds channel k status = inr (λ old. refl)
-call-kinds channel k (link m name) = inr (λ old. refl)
-call-kinds channel k boundary = inr (λ old. refl)
-call-kinds channel k (set-user-boundary value) = inr (λ old. refl)
-call-kinds channel k (allocate caller) = inr (λ old. refl)
-call-kinds channel k (free caller segment) = inr (λ old. refl)
-call-kinds channel k (store segment offset bytes) = inr (λ old. refl)
-call-kinds channel k (load segment offset size) = inr (λ old. refl)
-call-kinds channel k no-call = inr (λ old. refl)
-call-kinds channel k short-start = inr (λ old. refl)
-
 module _ (channel k : ℕ) where
-  writing : Event → ℕ → ℕ
-  writing e old = cond (granted (e .answer)) (written (e .call) channel k old) old
+  writes-it : (e : Event) (x : ℕ) → Writes channel k e x → (granted (e .answer) ≡ true) × ((old : ℕ) → writtenBy channel k (e .call) (deed (e .call)) old ≡ x)
+  writes-it e x (opened g c) = (g, λ old. rw (c, eq-eqb channel channel refl))
+  writes-it e x (wrote {offset} {bytes} g c a b) = (g, λ old. rw (c, eq-eqb channel channel refl) (patched-in offset bytes k old a b))
 
-  writing-makes : (e : Event) (x : ℕ) → Writes channel k e x → (old : ℕ) → writing e old ≡ x
-  unfolding writing written
-  writing-makes e x (opened g c) old = rw (g, c, eq-eqb channel channel refl)
-  writing-makes e x (wrote {offset} {bytes} g c a b) old = rw (g, c, eq-eqb channel channel refl) (patched-in offset bytes k old a b)
-
-  writing-kinds : (e : Event) → ((x : ℕ) × Writes channel k e x) ⊎ ((old : ℕ) → writing e old ≡ old)
-  unfolding writing
-  writing-kinds e = go (granted (e .answer)) refl
-    where
-      go : (b : Bool) → granted (e .answer) ≡ b → ((x : ℕ) × Writes channel k e x) ⊎ ((old : ℕ) → writing e old ≡ old)
-      go false g = inr (λ old. rw g)
-      go true g = elim (call-kinds channel k (e .call)) [ inl f ↦ inl (f e refl g) | inr q ↦ inr (λ old. rw g (q old)) ]
+  write-kinds : (c : Call) (d : Deed c)
+      → ((e : Event) → e .call ≡ c → granted (e .answer) ≡ true → (x : ℕ) × Writes channel k e x) ⊎ ((old : ℕ) → writtenBy channel k c d old ≡ old)
+  write-kinds _ (opens d driver n name) =
+      elim (ℕ-discrete d channel) [
+        | yes q ↦ inl (λ e c g. (0, opened {driver = driver} {n = n} {name = name} g (c ∙ ap (λ (x : ℕ). «open» x driver n name) q)))
+        | no q ↦ inr (λ old. rw (ne-eqb d channel q))
+      ]
+  write-kinds _ (writes d offset bytes) =
+      elim (ℕ-discrete d channel) [
+        | yes q ↦ elim (reached offset bytes k) [
+          | inl (a, b) ↦ inl (λ e c g. (getD bytes (k - offset) 0, wrote g (c ∙ ap (λ (x : ℕ). write x offset bytes) q) a b))
+          | inr p ↦ inr (λ old. rw (eq-eqb d channel q) (p old))
+        ]
+        | no q ↦ inr (λ old. rw (ne-eqb d channel q))
+      ]
+  write-kinds _ (stores segment offset bytes) = inr (λ old. refl)
+  write-kinds _ (other c) = inr (λ old. refl)
 
   pub last-written : (h : History) → LastWritten channel k h (lastWritten h channel k)
-  unfolding lastWritten writing
+  unfolding lastWritten
   last-written [] = never
-  last-written (e ∷ h) = last-step (Writes channel k) writing writing-makes writing-kinds e h (lastWritten h channel k) (last-written h)
+  last-written (e ∷ h) = last-made (Writes channel k) (writtenBy channel k) writes-it write-kinds e h (lastWritten h channel k) (last-written h)
 
   pub written-one : {h : History} {x y : ℕ} → LastWritten channel k h x → LastWritten channel k h y → x ≡ y
-  written-one = last-one (made-one (Writes channel k) writing writing-makes writing-kinds)
+  written-one = one-made (Writes channel k) (writtenBy channel k) writes-it write-kinds
 
 -- ---- a user's byte
 
--- What a done call makes of the byte at an offset of a segment, which was `old`, while that place stays the user's: a store there puts its byte.
-unfoldable pub stored : Call → (segment offset old : ℕ) → ℕ
+-- what a done call makes of the byte at an offset of a segment, which was `old`, while that place stays the user's: a store there puts its byte
+abbrev storedBy : (segment k : ℕ) (c : Call) → Deed c → (old : ℕ) → ℕ
+storedBy segment k c (opens channel driver n name) old = old
+storedBy segment k c (writes channel offset bytes) old = old
+storedBy segment k c (stores d offset bytes) old = cond (eqb d segment) (patched offset bytes k old) old
+storedBy segment k c (other _) old = old
+
+unfoldable pub stored : Call → (segment k old : ℕ) → ℕ
 unfolding patched
-stored (start room list) segment offset old = old
-stored (reset flags) segment offset old = old
-stored («open» channel driver n name) segment offset old = old
-stored (close channel) segment offset old = old
-stored (read channel o size) segment offset old = old
-stored (write channel o bytes) segment offset old = old
-stored (default unit name) segment offset old = old
-stored status segment offset old = old
-stored (link m name) segment offset old = old
-stored boundary segment offset old = old
-stored (set-user-boundary value) segment offset old = old
-stored (allocate caller) segment offset old = old
-stored (free caller s) segment offset old = old
-stored (store s o bytes) segment offset old = cond (eqb s segment) (patched o bytes offset old) old
-stored (load s o size) segment offset old = old
-stored no-call segment offset old = old
-stored short-start segment offset old = old
+stored c segment k old = storedBy segment k c (deed c) old
 
 -- the byte last stored, computed
-unfoldable pub lastStored : History → (segment offset first : ℕ) → ℕ
+unfoldable pub lastStored : History → (segment k first : ℕ) → ℕ
 unfolding stored
-lastStored [] segment offset first = first
-lastStored (e ∷ h) segment offset first =
-    cond (granted (e .answer)) (stored (e .call) segment offset (lastStored h segment offset first)) (lastStored h segment offset first)
-
-store-kinds : (segment k : ℕ) (c : Call)
-    → ((e : Event) → e .call ≡ c → granted (e .answer) ≡ true → (x : ℕ) × Stores segment k e x) ⊎ ((old : ℕ) → stored c segment k old ≡ old)
-unfolding stored
-store-kinds segment k (start room list) = inr (λ old. refl)
-store-kinds segment k (reset flags) = inr (λ old. refl)
-store-kinds segment k («open» channel driver n name) = inr (λ old. refl)
-store-kinds segment k (close d) = inr (λ old. refl)
-store-kinds segment k (read d offset size) = inr (λ old. refl)
-store-kinds segment k (write channel offset bytes) = inr (λ old. refl)
-store-kinds segment k (default unit name) = inr (λ old. refl)
-store-kinds segment k status = inr (λ old. refl)
-store-kinds segment k (link m name) = inr (λ old. refl)
-store-kinds segment k boundary = inr (λ old. refl)
-store-kinds segment k (set-user-boundary value) = inr (λ old. refl)
-store-kinds segment k (allocate caller) = inr (λ old. refl)
-store-kinds segment k (free caller s) = inr (λ old. refl)
-store-kinds segment k (store d offset bytes) =
-    elim (ℕ-discrete d segment) [
-      | yes q ↦ elim (decLe offset k) [
-        | yes a ↦ elim (decLt k (offset + length bytes)) [
-          | yes b ↦ inl (λ e c g. (getD bytes (k - offset) 0, put g (c ∙ ap (λ (x : ℕ). store x offset bytes) q) a b))
-          | no b ↦ inr (λ old. rw (eq-eqb d segment q) (patched-not offset bytes k old (λ _ y. b y)))
-        ]
-        | no a ↦ inr (λ old. rw (eq-eqb d segment q) (patched-not offset bytes k old (λ x _. a x)))
-      ]
-      | no q ↦ inr (λ old. rw (ne-eqb d segment q))
-    ]
-store-kinds segment k (load s offset size) = inr (λ old. refl)
-store-kinds segment k no-call = inr (λ old. refl)
-store-kinds segment k short-start = inr (λ old. refl)
+lastStored [] segment k first = first
+lastStored (e ∷ h) segment k first =
+    cond (granted (e .answer)) (stored (e .call) segment k (lastStored h segment k first)) (lastStored h segment k first)
 
 module _ (segment k : ℕ) where
-  storing : Event → ℕ → ℕ
-  storing e old = cond (granted (e .answer)) (stored (e .call) segment k old) old
+  stores-it : (e : Event) (x : ℕ) → Stores segment k e x → (granted (e .answer) ≡ true) × ((old : ℕ) → storedBy segment k (e .call) (deed (e .call)) old ≡ x)
+  stores-it e x (put {offset} {bytes} g c a b) = (g, λ old. rw (c, eq-eqb segment segment refl) (patched-in offset bytes k old a b))
 
-  storing-makes : (e : Event) (x : ℕ) → Stores segment k e x → (old : ℕ) → storing e old ≡ x
-  unfolding storing stored
-  storing-makes e x (put {offset} {bytes} g c a b) old = rw (g, c, eq-eqb segment segment refl) (patched-in offset bytes k old a b)
-
-  storing-kinds : (e : Event) → ((x : ℕ) × Stores segment k e x) ⊎ ((old : ℕ) → storing e old ≡ old)
-  unfolding storing
-  storing-kinds e = go (granted (e .answer)) refl
-    where
-      go : (b : Bool) → granted (e .answer) ≡ b → ((x : ℕ) × Stores segment k e x) ⊎ ((old : ℕ) → storing e old ≡ old)
-      go false g = inr (λ old. rw g)
-      go true g = elim (store-kinds segment k (e .call)) [ inl f ↦ inl (f e refl g) | inr q ↦ inr (λ old. rw g (q old)) ]
+  store-kinds : (c : Call) (d : Deed c)
+      → ((e : Event) → e .call ≡ c → granted (e .answer) ≡ true → (x : ℕ) × Stores segment k e x) ⊎ ((old : ℕ) → storedBy segment k c d old ≡ old)
+  store-kinds _ (opens channel driver n name) = inr (λ old. refl)
+  store-kinds _ (writes channel offset bytes) = inr (λ old. refl)
+  store-kinds _ (stores d offset bytes) =
+      elim (ℕ-discrete d segment) [
+        | yes q ↦ elim (reached offset bytes k) [
+          | inl (a, b) ↦ inl (λ e c g. (getD bytes (k - offset) 0, put g (c ∙ ap (λ (x : ℕ). store x offset bytes) q) a b))
+          | inr p ↦ inr (λ old. rw (eq-eqb d segment q) (p old))
+        ]
+        | no q ↦ inr (λ old. rw (ne-eqb d segment q))
+      ]
+  store-kinds _ (other c) = inr (λ old. refl)
 
   pub last-stored : (first : ℕ) (h : History) → LastStored segment k first h (lastStored h segment k first)
-  unfolding lastStored storing
+  unfolding lastStored
   last-stored first [] = never
-  last-stored first (e ∷ h) = last-step (Stores segment k) storing storing-makes storing-kinds e h (lastStored h segment k first) (last-stored first h)
+  last-stored first (e ∷ h) = last-made (Stores segment k) (storedBy segment k) stores-it store-kinds e h (lastStored h segment k first) (last-stored first h)
 
   pub stored-one : {first : ℕ} {h : History} {x y : ℕ} → LastStored segment k first h x → LastStored segment k first h y → x ≡ y
-  stored-one = last-one (made-one (Stores segment k) storing storing-makes storing-kinds)
+  stored-one = one-made (Stores segment k) (storedBy segment k) stores-it store-kinds

@@ -1,6 +1,5 @@
 -- "passes every earlier check": the checks of an open before that for room, each by itself.
 use mathlib.Core.Path.{_≡_}
-use mathlib.Core.Logic.{_≢_}
 use mathlib.Core.List.{List}
 use Prim.Native.Nat.{ℕ, _<_}
 use Rattle.names.specs.Definition.Grammar.{Reading, Reads}
@@ -15,7 +14,7 @@ use Rattle.kernel.specs.declared.Tables.{Tables}
 pub record Checks (t : Tables) (ram channel driver : ℕ) (name : List ℕ) (r : Reading) (i : ℕ) : Type 0 where
   pub good : Good t
   pub size : ram ≡ ramSize t
-  pub number : channel ≢ 255
+  pub number : channel < 255
   pub new : (j : ℕ) → ¬ OpenAt t channel j
   pub reads : Reads name r
   pub device : Enabled t (wanted t r) i

@@ -11,7 +11,6 @@ use Rattle.kernel.specs.Definition.Answers.{numberOf, granted}
 use Rattle.kernel.specs.Definition.Calls.{Call}
 use Rattle.kernel.specs.Definition.Refusals.{Row}
 use Rattle.kernel.specs.Definition.Step.{decided, step, Result}
-use Rattle.kernel.specs.Definition.Fields.{Fields}
 use Rattle.kernel.specs.declared.Tables.{Tables}
 use Rattle.kernel.specs.declared.Answer.{Answer}
 
@@ -26,21 +25,21 @@ pub data IsAnswer (C : ℕ → Type 0) : ℕ → Type 0 where
 abbrev pub refusal : Answer → ℕ
 refusal answer = cond (granted answer) 0 (numberOf answer)
 
--- A call on tables of the type's sizes, with fields that fit, is answered by the lowest row that holds
+-- A call on tables of the type's sizes, as all tables of the code are (the contract of `accepts`), is answered by the lowest row that holds
 abbrev pub AnswersLowest : Type 0
 AnswersLowest =
-    (t : Tables) (ram output : ℕ) (c : Call) → Sized t → Fields c → IsAnswer (Row t ram output c) (refusal (decided t ram output c .answer))
+    (t : Tables) (ram output : ℕ) (c : Call) → Sized t → IsAnswer (Row t ram output c) (refusal (decided t ram output c .answer))
 
 -- The same by the numbers: 1 to 16 is given exactly where that row holds and no lower one does
 abbrev pub RefusesLowest : Type 0
 RefusesLowest =
-    (t : Tables) (ram output : ℕ) (c : Call) → Sized t → Fields c → (k : ℕ) → 1 ≤ k → k ≤ 16
+    (t : Tables) (ram output : ℕ) (c : Call) → Sized t → (k : ℕ) → 1 ≤ k → k ≤ 16
     → (numberOf (decided t ram output c .answer) ≡ k) ↔ (Row t ram output c k × ((j : ℕ) → j < k → ¬ Row t ram output c j))
 
 -- and 0 or 17 exactly where no row holds
 abbrev pub GrantsRest : Type 0
 GrantsRest =
-    (t : Tables) (ram output : ℕ) (c : Call) → Sized t → Fields c
+    (t : Tables) (ram output : ℕ) (c : Call) → Sized t
     → ((numberOf (decided t ram output c .answer) ≡ 0) ⊎ (numberOf (decided t ram output c .answer) ≡ 17)) ↔ ((j : ℕ) → ¬ Row t ram output c j)
 
 -- There is at most one such number, whatever the rows

@@ -6,7 +6,6 @@ use lib.ListN.{length}
 use Rattle.kernel.specs.Definition.Tables.{ramSize}
 use Rattle.kernel.specs.Definition.Good.{Good}
 use Rattle.kernel.specs.Definition.Calls.{Call}
-use Rattle.kernel.specs.Definition.Fields.{Fields}
 use Rattle.kernel.specs.declared.Answer.the-variants.{BadTables}
 use Rattle.history.specs.Definition.Runs.{State, History, event}
 
@@ -14,7 +13,7 @@ use Rattle.history.specs.Definition.Runs.{State, History, event}
 pub record GoodState (s : State) : Type 0 where
   pub good : Good (s .tables)
   pub size : length (s .ram) ≡ ramSize (s .tables)
-  pub heard : (c : Call) (output : List ℕ) → Fields c → ¬ (event s c output .answer ≡ BadTables)
+  pub heard : (c : Call) (output : List ℕ) → ¬ (event s c output .answer ≡ BadTables)
 
 -- no call of a history was answered TABLES
 abbrev pub NeverTables : History → Type 0

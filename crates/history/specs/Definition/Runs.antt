@@ -7,7 +7,6 @@ use lib.ListN.{length, getD}
 use Rattle.kernel.specs.Definition.Answers.{granted}
 use Rattle.kernel.specs.Definition.Calls.{Call, start, «open», read, write, store, isStart}
 use Rattle.kernel.specs.Definition.Step.{step}
-use Rattle.kernel.specs.Definition.Fields.{Fields}
 use Rattle.kernel.specs.declared.Tables.{Tables}
 use Rattle.kernel.specs.declared.Answer.{Answer}
 
@@ -53,7 +52,7 @@ NotAccepted e = isStart (e .call) && granted (e .answer) ≡ false
 -- From s the calls of a history, with no accepted start among them, lead to a state; and all states on the way, the first and the last among them, have P.
 pub data Runs (P : State → Type 0) (s : State) : History → State → Type 0 where
   stay : P s → Runs P s [] s
-  then : {h : History} {t : State} → Runs P s h t → (c : Call) (output : List ℕ) → Fields c → NotAccepted (event t c output) → P (after t c output)
+  then : {h : History} {t : State} → Runs P s h t → (c : Call) (output : List ℕ) → NotAccepted (event t c output) → P (after t c output)
       → Runs P s (event t c output ∷ h) (after t c output)
 
 abbrev pub Any : State → Type 0

@@ -1,25 +1,17 @@
 -- What good tables say of the chain's length and the segment 255, as the counts of places need it.
 use mathlib.Core.Path.{_≡_, sym, _∙_}
 use mathlib.Core.Bool.{Bool, true, false, cond}
-use Prim.Native.Nat.{ℕ, _+_, _-_, _*_, _≤_}
+use Prim.Native.Nat.{ℕ, _-_, _≤_}
 use native.Mathlib.Decide.{decLe}
 use native.Mathlib.Omega.{arith}
 use Rattle.rows.specs.Definition.Classes.{SHARED}
-use Rattle.rows.specs.Definition.Sizes.{chainLength, boundaryAt}
-use Rattle.rows.specs.Laws.Sizes.{length-low, edge-low, ends}
 use Rattle.kernel.specs.Definition.Tables.{classAt}
 use Rattle.kernel.specs.Definition.Line.{totalOf}
 use Rattle.kernel.specs.Definition.Good.{Good}
 use Rattle.kernel.specs.Laws.Facts.{chain-exactly, top-held}
+use Rattle.kernel.specs.Laws.Room.{line-sum}
 use Rattle.kernel.specs.declared.Tables.{Tables}
 use Rattle.history.specs.Definition.Places.{inSystem}
-
--- the EXOS boundary is what a line of length n leaves of its chain
-pub line-sum : (r n : ℕ) → boundaryAt r n + n ≡ r + 16384 * (chainLength r n - 1)
-line-sum r n = elim (decLe n r) [
-  | yes h ↦ omega (arith, length-low r n h, edge-low r n h)
-  | no h ↦ ends r n (omega arith) .sum
-]
 
 module _ (t : Tables) (g : Good t) where
   -- "255 is always held."

@@ -15,7 +15,7 @@ pub checks-pass : (t : Tables) (ram output channel driver n : ℕ) (name : List 
     → Passes t ram output («open» channel driver n name)
 checks-pass t ram output channel driver n name r i c k h (tables-bad s bad) = bad (c .good)
 checks-pass t ram output channel driver n name r i c k h (ram-wrong s wrong) = wrong (c .size)
-checks-pass t ram output _ driver n name r i c k h open-channel = c .number refl
+checks-pass t ram output channel driver n name r i c k h (open-channel l) = omega (arith, c .number)
 checks-pass t ram output channel driver n name r i c k h (open-exists {i = j} o) = c .new j o
 checks-pass t ram output channel driver n name r i c k h (open-name none) = none r (c .reads)
 checks-pass t ram output channel driver n name r i c k h (open-device {r = q} e none) = none i (rw (← reads-one name r q (c .reads) e) (c .device))

@@ -6,7 +6,7 @@ use mathlib.Core.Option.{Option, none, some}
 use Prim.Native.Nat.{ℕ, _+_, _-_, _≤_, _<_}
 use native.Mathlib.Decide.{ℕ-discrete}
 use native.Mathlib.Omega.{arith}
-use borrow.Author.Tests.{ltb-true, ltb-false, leb-true, ne-eqb, eq-eqb}
+use borrow.Author.Tests.{ltb-true, ltb-false, leb-true, eq-eqb}
 use lib.Dec.{eqb, ltb, leb}
 use lib.ListN.{length}
 use Rattle.names.specs.Definition.Grammar.{Reading}
@@ -63,8 +63,8 @@ module _ (t : Tables) (ram output channel driver n : ℕ) (name : List ℕ) (s :
   new : ltb (channelAt t channel) (t .opened) ≡ false
   new = says-no (open-says t (ready .good) channel) (λ (i, o). p 4 (omega arith) (open-exists o))
 
-  differs : eqb channel 255 ≡ false
-  differs = ne-eqb channel 255 (λ e. p 3 (omega arith) (rw e open-channel))
+  low : leb 255 channel ≡ false
+  low = is-false _ (λ e. p 3 (omega arith) (open-channel (leb-true _ _ e)))
 
   driven : eqb driver 0 ≡ true
   driven = elim (ℕ-discrete driver 0) [ yes q ↦ eq-eqb driver 0 q | no q ↦ absurd (p 7 (omega arith) (open-driver q)) ]
@@ -84,7 +84,7 @@ module _ (t : Tables) (ram output channel driver n : ℕ) (name : List ℕ) (s :
           let w = wanted t r in
           let known : leb (t .known) (deviceFor t w) ≡ false =
           is-false _ (λ h. p 6 (omega arith) (open-device (reading-right name r e) (none-enabled t (ready .good) w (leb-true _ _ h)))) in
-          rw (ready-heard t ram output («open» channel driver n name) ready, differs, new, e, known, driven, few)
+          rw (ready-heard t ram output («open» channel driver n name) ready, low, new, e, known, driven, few)
           (left-by (roomFor t (t .room) (totalOf t + (16 + n))) _ _ t _ _)
 
 module _ (t : Tables) (ram output m : ℕ) (name : List ℕ) (s : Sized t) (p : Passes t ram output (link m name)) where

@@ -1,71 +1,54 @@
 -- The room rule holds exactly when the records have a layout in the places held outside the user's part and, if nothing is shared, in the free segments.
 use mathlib.Core.Path.{_≡_, refl, sym, _∙_}
-use mathlib.Core.Bool.{Bool, true, false, _&&_}
+use mathlib.Core.Bool.{Bool, true, false}
 use mathlib.Core.Logic.{_↔_}
 use mathlib.Core.List.{List}
 use Prim.Native.Nat.{ℕ, _+_, _-_, _*_, _≤_, _<_}
 use native.Mathlib.Omega.{arith}
-use borrow.Author.Tests.{eq-eqb, le-leb, leb-true, eqb-true}
-use lib.Dec.{eqb, leb}
 use lib.ListN.{length}
 use Rattle.rows.specs.Definition.Lists.{at}
-use Rattle.rows.specs.Laws.Lists.{and-left, and-right, or-none}
+use Rattle.rows.specs.Laws.Lists.{or-none}
+use Rattle.rows.specs.Laws.Says.{Says}
 use Rattle.rows.specs.Definition.Classes.{FREE, SHARED}
-use Rattle.rows.specs.Definition.Sizes.{chainLength, boundaryAt}
-use Rattle.rows.specs.Laws.Sizes.{chain-most}
+use Rattle.rows.specs.Definition.Sizes.{chainLength}
 use Rattle.kernel.specs.Definition.Tables.{classAt, countOf, sharing}
 use Rattle.kernel.specs.Definition.Line.{roomFor}
 use Rattle.kernel.specs.Definition.Good.{Good}
 use Rattle.kernel.specs.Laws.Body.{body}
 use Rattle.kernel.specs.Laws.Facts.{chain-exactly, user-small}
 use Rattle.kernel.specs.Laws.KeptLine.{shares-no}
+use Rattle.kernel.specs.Laws.Room.{room-says}
+use Rattle.kernel.specs.Within.{spare}
 use Rattle.kernel.specs.declared.Tables.{Tables}
 use Rattle.history.specs.Room.Sums.{total}
 use Rattle.history.specs.Definition.Layout.{Layout}
 use Rattle.history.specs.Definition.Places.{countIn, offered, inSystem, Outside}
 use Rattle.history.specs.Room.Counts.{outside-exists, offered-shared, offered-apart}
-use Rattle.history.specs.Room.Bounds.{line-sum, top-in, top-alone}
+use Rattle.history.specs.Room.Bounds.{top-in, top-alone}
 use Rattle.history.specs.Definition.Room.{Clear}
-
--- with a segment shared: how far the line may reach, where it takes no fewer segments than the chain has
-rule-shared : (t : Tables) (r n : ℕ) → 1 ≤ t .held → sharing t ≡ true → t .held ≤ chainLength r n
-    → (roomFor t r n ≡ true) ↔ (n + t .user ≤ r + 16384 * (t .held - 1))
-unfolding roomFor
-rule-shared t r n some s h =
-    let l = line-sum r n in (
-      λ e.
-          let f : eqb (chainLength r n) (t .held) && leb (t .user) (boundaryAt r n) ≡ true = rw s at e in
-          let q : chainLength r n ≡ t .held = eqb-true _ _ (and-left _ _ f) in
-          let u : t .user ≤ boundaryAt r n = leb-true _ _ (and-right (eqb (chainLength r n) (t .held)) _ f) in
-          omega arith,
-      λ e.
-          let q : chainLength r n ≡ t .held = omega (arith, chain-most r n (t .held - 1) (omega arith)) in
-          rw (s, eq-eqb _ _ q, le-leb (t .user) (boundaryAt r n) (omega arith)),
-    )
-
--- with none shared
-rule-apart : (t : Tables) (r n : ℕ) → sharing t ≡ false → (roomFor t r n ≡ true) ↔ (n ≤ r + 16384 * (t .held - 1 + countOf FREE t))
-unfolding roomFor
-rule-apart t r n s = (λ e. leb-true _ _ (rw s at e), λ e. rw (s, le-leb _ _ e))
 
 module _ (t : Tables) (g : Good t) (r : ℕ) (small : r ≤ 16384) (lengths : List ℕ) (long : t .held ≤ chainLength r (total lengths)) where
   fits : (c : Clear t r) → Layout lengths (Outside t r (offered t)) ↔ (total lengths + t .user ≤ r + 16384 * (countIn (t .segments) (offered t) - 1))
   fits c = outside-exists t g r (offered t) small (user-small t g) (λ row b e. rw e) c lengths (rw (top-in t g))
 
+  rule : Says (roomFor t r (total lengths)) (total lengths + t .user ≤ r + 16384 * (t .held - 1 + spare t))
+  rule = room-says t g r (total lengths) long
+
   go : (s : Bool) → sharing t ≡ s → (roomFor t r (total lengths) ≡ true) ↔ (Layout lengths (Outside t r (offered t)) × Clear t r)
   go true s =
-      let x = rule-shared t r (total lengths) (g .chain .holds) s long in
-      let n = offered-shared t g s in (
-        λ e. let c : Clear t r = λ q. omega (arith, x .0 e, top-alone t g q) in (fits c .1 (omega (arith, x .0 e)), c),
-        λ l. x .1 (omega (arith, fits (l .1) .0 (l .0))),
+      let n = offered-shared t g s in
+      let h = g .chain .holds in
+      let none : spare t ≡ 0 = rw s in (
+        λ e. let c : Clear t r = λ q. omega (arith, rule .yes e, top-alone t g q) in (fits c .1 (omega (arith, rule .yes e)), c),
+        λ l. rule .make (omega (arith, fits (l .1) .0 (l .0))),
       )
   go false s =
-      let x = rule-apart t r (total lengths) s in
       let n = offered-apart t g s in
       let z : t .user ≡ 0 = g .user .none (shares-no t (body t g) s) in
       let c : Clear t r = λ q. omega arith in
       let h = g .chain .holds in
-      (λ e. (fits c .1 (omega (arith, x .0 e)), c), λ l. x .1 (omega (arith, fits c .0 (l .0))))
+      let free : spare t ≡ countOf FREE t = rw s in
+      (λ e. (fits c .1 (omega (arith, rule .yes e)), c), λ l. rule .make (omega (arith, fits c .0 (l .0))))
 
   -- for a line no shorter than the present one
   pub room-layout : (roomFor t r (total lengths) ≡ true) ↔ (Layout lengths (Outside t r (offered t)) × Clear t r)

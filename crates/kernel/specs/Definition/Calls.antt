@@ -98,10 +98,11 @@ unfolding onOpenTo
 onOpenNamed t channel driver n none = gives BadName t changing nothing
 onOpenNamed t channel driver n (some r) = onOpenTo t channel driver n (wanted t r)
 
+-- open: "255 only". Channels are "numbered 0 to 254", and a channel is a u8: no number beyond is one
 unfoldable pub onOpen : Tables → (channel driver n : ℕ) (name : List ℕ) → Decision
 unfolding onOpenNamed reading
 onOpen t channel driver n name =
-    unless (NoChannel when eqb channel 255 ∷ Exists when ltb (channelAt t channel) (t .opened) ∷ []) t
+    unless (NoChannel when leb 255 channel ∷ Exists when ltb (channelAt t channel) (t .opened) ∷ []) t
     (onOpenNamed t channel driver n (reading name))
 
 -- "The channel is looked up once; a channel not found ends the call." 255 is no channel's number in good tables. "0, 0"

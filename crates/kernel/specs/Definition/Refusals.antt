@@ -72,7 +72,6 @@ pub record GuardedByte (offset : ℕ) : Type 0 where
 
 -- "a bit other than 4, 5, 6"
 pub record OtherBit (flags k : ℕ) : Type 0 where
-  pub bit : k < 8
   pub other : (k ≢ 4) × (k ≢ 5) × (k ≢ 6)
   pub set : flags / 2 ^ k % 2 ≡ 1
 
@@ -90,7 +89,7 @@ pub data Row (t : Tables) (ram output : ℕ) : (c : Call) (k : ℕ) → Type 0 w
   allocate-caller : {caller : ℕ} → 1 < caller → Row t ram output (allocate caller) 2
   free-caller : {caller segment : ℕ} → 1 < caller → Row t ram output (free caller segment) 2
   -- 3 CHANNEL: "255, or not open (open: 255 only)"
-  open-channel : {driver n : ℕ} {name : List ℕ} → Row t ram output («open» 255 driver n name) 3
+  open-channel : {channel driver n : ℕ} {name : List ℕ} → 255 ≤ channel → Row t ram output («open» channel driver n name) 3
   close-channel : {channel : ℕ} → NotOpen t channel → Row t ram output (close channel) 3
   read-channel : {channel offset size : ℕ} → NotOpen t channel → Row t ram output (read channel offset size) 3
   write-channel : {channel offset : ℕ} {bytes : List ℕ} → NotOpen t channel → Row t ram output (write channel offset bytes) 3

@@ -122,7 +122,7 @@ freeing-listed t row =
 pub effect-listed : {t : Tables} {c : Call} {d : Decision} → Effect t c d → Listed t (d .tables)
 unfolding granting sharingLast bounding
 effect-listed {t} (resets {flags}) = resetting-listed t flags
-effect-listed {t} (opens c e differs new device few fits) = opening-opens t c .listed
+effect-listed {t} (opens c e low new device few fits) = opening-opens t c .listed
 effect-listed {t} (closes {channel} h) = closing-closes t _ .listed
 effect-listed (reads h l) = record { segments = refl; list = refl }
 effect-listed (writes h l) = record { segments = refl; list = refl }

@@ -53,7 +53,7 @@ plain-is answer e =
 -- a call, no start, that was done on the tables t, and what was decided
 pub data Effect (t : Tables) : Call → Decision → Type 0 where
   resets : {flags : ℕ} → Effect t (reset flags) (gives (Done 0 0) (resetting t flags) changing cleared flags)
-  opens : {channel driver n : ℕ} {name : List ℕ} (c : Channel) → c .number ≡ channel → (channel ≡ 255 → ⊥) → t .opened ≤ channelAt t (c .number) → c .device < t .known
+  opens : {channel driver n : ℕ} {name : List ℕ} (c : Channel) → c .number ≡ channel → channel < 255 → t .opened ≤ channelAt t (c .number) → c .device < t .known
       → t .opened < 32 → roomFor t (t .room) (totalOf t + (16 + c .n)) ≡ true
       → Effect t («open» channel driver n name) (gives (Done (c .device) (c .unit)) (opening t c) changing appended c)
   closes : {channel : ℕ} → channelAt t channel < t .opened → Effect t (close channel) (gives (Done 0 0) (closing t (channelAt t channel)) changing removed (channelAt t channel))
@@ -103,7 +103,7 @@ module _ (t : Tables) (ram : ℕ) where
   past holds answer o f = either holds (λ _. refuses answer (plain-is answer o)) f
 
   -- open, with a channel that is not open
-  module _ (channel driver n : ℕ) (name : List ℕ) (differs : channel ≡ 255 → ⊥) (new : t .opened ≤ channelAt t channel) where
+  module _ (channel driver n : ℕ) (name : List ℕ) (low : channel < 255) (new : t .opened ≤ channelAt t channel) where
     open-to : (w : Wanted) → Verdict t ram («open» channel driver n name) (onOpenTo t channel driver n w)
     unfolding onOpenTo
     open-to w =
@@ -111,7 +111,7 @@ module _ (t : Tables) (ram : ℕ) where
         either (not (eqb driver 0)) (λ e. drives (eqb-false driver 0 (not-true _ e))) (λ _.
         past (leb 32 (t .opened)) _ refl (λ few.
         past (not (roomFor t (t .room) (totalOf t + (16 + n)))) _ refl (λ fits.
-        does refl (opens (record { number = channel; device = deviceFor t w; unit = w .unit; n = n }) refl differs new (leb-false _ _ device) (leb-false _ _ few) (not-false _ fits))))))
+        does refl (opens (record { number = channel; device = deviceFor t w; unit = w .unit; n = n }) refl low new (leb-false _ _ device) (leb-false _ _ few) (not-false _ fits))))))
 
     open-named : (r : Option Reading) → Verdict t ram («open» channel driver n name) (onOpenNamed t channel driver n r)
     unfolding onOpenNamed
@@ -138,9 +138,9 @@ module _ (t : Tables) (ram : ℕ) where
   heard-verdict output (start room list) = past (not (startTest ram room list)) _ refl (λ e. starts (not-false _ e))
   heard-verdict output (reset flags) = past (otherBits flags) _ refl (λ _. does refl resets)
   heard-verdict output («open» channel driver n name) =
-      past (eqb channel 255) _ refl (λ differs.
+      past (leb 255 channel) _ refl (λ low.
       past (ltb (channelAt t channel) (t .opened)) _ refl (λ new.
-      open-named channel driver n name (eqb-false channel 255 differs) (ltb-false _ _ new) (reading name)))
+      open-named channel driver n name (leb-false _ _ low) (ltb-false _ _ new) (reading name)))
   heard-verdict output (close channel) = past (leb (t .opened) (channelAt t channel)) _ refl (λ e. does refl (closes (leb-false _ _ e)))
   heard-verdict output (read channel offset size) =
       past (leb (t .opened) (channelAt t channel)) _ refl (λ e.

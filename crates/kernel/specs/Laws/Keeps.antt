@@ -22,46 +22,45 @@ use Rattle.kernel.specs.Laws.KeptLine.{shares-yes, shares-no, opening-ke
 use Rattle.kernel.specs.Laws.KeptSegments.{class-outside, granting-keeps, sharing-keeps, freeing-shared, freeing-outside, bounding-keeps}
 use Rattle.kernel.specs.Laws.KeptNames.{linking-keeps, naming-keeps}
 use Rattle.kernel.specs.Laws.KeptReset.{resetting-keeps, start-good}
-use Rattle.kernel.specs.Definition.Fields.{Fields}
 use Rattle.kernel.specs.Laws.Effects.{Effect, resets, opens, closes, reads, writes, names, counts, links, tells, bounds, grants, shares, frees, stores, loads, Verdict, bars, drives, refuses, starts, does, verdict}
 use Rattle.kernel.specs.declared.Tables.{Tables}
 use Rattle.kernel.specs.declared.Answer.the-variants.{Done, BadStart}
 
-effect-keeps : {t : Tables} {c : Call} {d : Decision} → Good t → Fields c → Effect t c d → Good (d .tables)
-effect-keeps {t} g f (resets {flags}) = resetting-keeps t flags g
-effect-keeps {t} g f (opens c e differs new device few fits) =
-    opening-keeps t c g few (omega (arith, f .0)) device
+effect-keeps : {t : Tables} {c : Call} {d : Decision} → Good t → Effect t c d → Good (d .tables)
+effect-keeps {t} g (resets {flags}) = resetting-keeps t flags g
+effect-keeps {t} g (opens c e low new device few fits) =
+    opening-keeps t c g few (omega arith) device
     (place-none (t .channels) (c .number) (t .opened) (omega (arith, g .sized .channels, g .channels .most)) new) fits
-effect-keeps {t} g f (closes {channel} h) = closing-keeps t (channelAt t channel) g h
-effect-keeps g f (reads h l) = g
-effect-keeps g f (writes h l) = g
-effect-keeps {t} g f (names {unit} {name} h) = naming-keeps t (wordOf name) (length name) unit g (word-good name h) (h .0)
-effect-keeps g f counts = g
-effect-keeps {t} g f (links {m} {name} h few r fits) =
+effect-keeps {t} g (closes {channel} h) = closing-keeps t (channelAt t channel) g h
+effect-keeps g (reads h l) = g
+effect-keeps g (writes h l) = g
+effect-keeps {t} g (names {unit} {name} h) = naming-keeps t (wordOf name) (length name) unit g (word-good name h) (h .0)
+effect-keeps g counts = g
+effect-keeps {t} g (links {m} {name} h few r fits) =
     linking-keeps t m (wordOf name) (length name) g few (word-good name (link-default name h)) (h .0) r fits
-effect-keeps g f tells = g
-effect-keeps {t} g f (bounds {value} s h) = bounding-keeps t value g (shares-yes t (body t g) s) h
-effect-keeps {t} g f (grants {caller} h) = granting-keeps t caller g h
-effect-keeps {t} g f (shares s) = sharing-keeps t g (shares-no t (body t g) s)
-effect-keeps {t} g f (frees {caller} {segment} h (inl e)) = freeing-outside t (rowOf t segment) g h (rw e (class-outside caller))
-effect-keeps {t} g f (frees {caller} {segment} h (inr e)) = freeing-shared t (rowOf t segment) g h e
-effect-keeps g f (stores m h) = g
-effect-keeps g f (loads m h) = g
+effect-keeps g tells = g
+effect-keeps {t} g (bounds {value} s h) = bounding-keeps t value g (shares-yes t (body t g) s) h
+effect-keeps {t} g (grants {caller} h) = granting-keeps t caller g h
+effect-keeps {t} g (shares s) = sharing-keeps t g (shares-no t (body t g) s)
+effect-keeps {t} g (frees {caller} {segment} h (inl e)) = freeing-outside t (rowOf t segment) g h (rw e (class-outside caller))
+effect-keeps {t} g (frees {caller} {segment} h (inr e)) = freeing-shared t (rowOf t segment) g h e
+effect-keeps g (stores m h) = g
+effect-keeps g (loads m h) = g
 
-verdict-keeps : {t : Tables} {ram : ℕ} {c : Call} {d : Decision} → Good t → Fields c → Verdict t ram c d → Good (d .tables)
-verdict-keeps g f (bars e) = g
-verdict-keeps g f (drives h) = g
-verdict-keeps g f (refuses answer p) = g
-verdict-keeps {ram = ram} g f (starts {room} {list} e) = start-good ram room list e
-verdict-keeps g f (does d e) = effect-keeps g f e
+verdict-keeps : {t : Tables} {ram : ℕ} {c : Call} {d : Decision} → Good t → Verdict t ram c d → Good (d .tables)
+verdict-keeps g (bars e) = g
+verdict-keeps g (drives h) = g
+verdict-keeps g (refuses answer p) = g
+verdict-keeps {ram = ram} g (starts {room} {list} e) = start-good ram room list e
+verdict-keeps g (does d e) = effect-keeps g e
 
 -- a call on good tables leaves good tables
-pub decided-keeps : (t : Tables) (ram output : ℕ) (c : Call) → Good t → Fields c → Good (decided t ram output c .tables)
-decided-keeps t ram output c g f = verdict-keeps g f (verdict t ram output c)
+pub decided-keeps : (t : Tables) (ram output : ℕ) (c : Call) → Good t → Good (decided t ram output c .tables)
+decided-keeps t ram output c g = verdict-keeps g (verdict t ram output c)
 
-pub step-keeps : (t : Tables) (ram : List ℕ) (c : Call) (output : List ℕ) → Good t → Fields c → Good (step t ram c output .tables)
+pub step-keeps : (t : Tables) (ram : List ℕ) (c : Call) (output : List ℕ) → Good t → Good (step t ram c output .tables)
 unfolding step completed
-step-keeps t ram c output g f = decided-keeps t (length ram) (length output) c g f
+step-keeps t ram c output g = decided-keeps t (length ram) (length output) c g
 
 -- a start is done exactly if what it is given passes its test
 pub start-passed : (t : Tables) (ram output room : ℕ) (list : List ℕ) → granted (decided t ram output (start room list) .answer) ≡ true

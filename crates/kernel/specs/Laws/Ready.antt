@@ -19,7 +19,6 @@ use Rattle.kernel.specs.Definition.Good.{Good}
 use Rattle.kernel.specs.Definition.Step.{accepted, heard, decided}
 use Rattle.kernel.specs.Laws.Good.{good-says}
 use Rattle.kernel.specs.Laws.KeptReset.{start-good}
-use Rattle.kernel.specs.Definition.Fields.{Fields}
 use Rattle.kernel.specs.Laws.Effects.{Verdict, bars, drives, refuses, starts, does, verdict}
 use Rattle.kernel.specs.Laws.Changes.{effect-listed}
 use Rattle.kernel.specs.Laws.Keeps.{decided-keeps, start-passed, start-is}
@@ -66,9 +65,9 @@ verdict-size s (refuses answer p) = s
 verdict-size {ram = ram} s (starts {room} {list} e) = started-size ram room list e
 verdict-size s (does d e) = rw (effect-listed e .segments) s
 
-pub decided-ready : (t : Tables) (ram output : ℕ) (c : Call) → Ready t ram → Fields c → Ready (decided t ram output c .tables) ram
-decided-ready t ram output c r f = record {
-  good = decided-keeps t ram output c (r .good) f;
+pub decided-ready : (t : Tables) (ram output : ℕ) (c : Call) → Ready t ram → Ready (decided t ram output c .tables) ram
+decided-ready t ram output c r = record {
+  good = decided-keeps t ram output c (r .good);
   size = verdict-size (r .size) (verdict t ram output c);
 }
 

@@ -1,9 +1,10 @@
 -- 15 FLAGS, "a bit other than 4, 5, 6": bit by bit, and as reset asks it.
-use mathlib.Core.Path.{_≡_, refl}
+use mathlib.Core.Path.{_≡_, refl, sym, ap, _∙_}
 use mathlib.Core.Logic.{_⊎_, inl, inr}
-use Prim.Native.Nat.{ℕ, zero, suc, _*_, _/_, _%_, _^_, _≤_, _<_}
+use Prim.Native.Nat.{ℕ, zero, suc, _+_, _*_, _/_, _%_, _^_, _≤_, _<_}
 use native.Mathlib.Decide.{ℕ-discrete}
 use native.Mathlib.Omega.{arith}
+use lib.Pow.{shr-shr, shr-le}
 use Rattle.kernel.specs.Definition.Refusals.{OtherBit}
 
 half : (x : ℕ) → (x % 2 ≡ 1 → ⊥) → x ≡ 2 * (x / 2)
@@ -36,10 +37,25 @@ low-bit flags h =
     ]
   where
     low : (k : ℕ) → k < 4 → flags / 2 ^ k % 2 ≡ 1 → (k : ℕ) × OtherBit flags k
-    low k h e = (k, record { bit = omega arith; other = (λ q. omega arith, λ q. omega arith, λ q. omega arith); set = e })
+    low k h e = (k, record { other = (λ q. omega arith, λ q. omega arith, λ q. omega arith); set = e })
 
-pub high-bit : (flags : ℕ) → flags < 256 → 128 ≤ flags → (k : ℕ) × OtherBit flags k
-high-bit flags few h = (7, record { bit = omega arith; other = (λ q. omega arith, λ q. omega arith, λ q. omega arith); set = omega arith })
+-- a number above 0 has a bit
+some-bit : (most x : ℕ) → 1 ≤ x → x ≤ most → (j : ℕ) × (x / 2 ^ j % 2 ≡ 1)
+some-bit zero x p h = absurd (omega arith)
+some-bit (suc most) x p h =
+    elim (ℕ-discrete (x % 2) 1) [
+      | yes e ↦ (0, omega arith)
+      | no e ↦ let (j, b) = some-bit most (x / 2) (omega arith) (omega arith) in (1 + j, ap (λ (y : ℕ). y % 2) (sym (shr-shr x 1 j)) ∙ b)
+    ]
+
+pub high-bit : (flags : ℕ) → 128 ≤ flags → (k : ℕ) × OtherBit flags k
+high-bit flags h =
+    let x = flags / 2 ^ 7 in
+    let (j, b) = some-bit x x (omega arith) (omega arith) in
+    (7 + j, record { other = (λ q. omega arith, λ q. omega arith, λ q. omega arith); set = ap (λ (y : ℕ). y % 2) (sym (shr-shr flags 7 j)) ∙ b })
+
+from-seven : (flags j : ℕ) → flags / 2 ^ (7 + j) % 2 ≡ 1 → 128 ≤ flags
+from-seven flags j e = omega (arith, shr-shr flags 7 j, shr-le (flags / 2 ^ 7) j)
 
 pub bit-other : (flags k : ℕ) → OtherBit flags k → (0 < flags % 16) ⊎ (128 ≤ flags)
 bit-other flags zero b = inl (omega (arith, b .set))
@@ -49,5 +65,5 @@ bit-other flags (suc (suc (suc zero))) b = inl (omega (arith, b .set))
 bit-other flags (suc (suc (suc (suc zero)))) b = absurd (b .other .0 refl)
 bit-other flags (suc (suc (suc (suc (suc zero))))) b = absurd (b .other .1 refl)
 bit-other flags (suc (suc (suc (suc (suc (suc zero)))))) b = absurd (b .other .2 refl)
-bit-other flags (suc (suc (suc (suc (suc (suc (suc zero))))))) b = inr (omega (arith, b .set))
-bit-other flags (suc (suc (suc (suc (suc (suc (suc (suc k)))))))) b = absurd (omega (arith, b .bit))
+bit-other flags (suc (suc (suc (suc (suc (suc (suc j))))))) b =
+    let e : suc (suc (suc (suc (suc (suc (suc j)))))) ≡ 7 + j = omega arith in inr (from-seven flags j (rw e at (b .set)))

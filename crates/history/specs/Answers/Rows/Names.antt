@@ -29,8 +29,8 @@ use Rattle.history.specs.Answers.Rows.Room.{room-says}
 use Rattle.history.specs.Answers.Found.{open-says, enabled-says}
 
 module _ {t : Tables} {ram output : ℕ} where
-  open-3 : {channel driver n : ℕ} {name : List ℕ} → Row t ram output («open» channel driver n name) 3 → channel ≡ 255
-  open-3 open-channel = refl
+  open-3 : {channel driver n : ℕ} {name : List ℕ} → Row t ram output («open» channel driver n name) 3 → 255 ≤ channel
+  open-3 (open-channel h) = h
 
   module _ {channel driver n : ℕ} {name : List ℕ} where
     open-4 : Row t ram output («open» channel driver n name) 4 → (i : ℕ) × OpenAt t channel i
@@ -97,7 +97,7 @@ module _ (t : Tables) (g : Good t) (ram output : ℕ) where
   unfolding onOpen
   open-lowest channel driver n name =
       by-rows («open» channel driver n name) _
-      (rule NoChannel refl (λ _. says-as (says-eq channel 255) (λ e. rw e open-channel) open-3)
+      (rule NoChannel refl (λ _. says-as (says-le 255 channel) open-channel open-3)
       (rule Exists refl (λ _. says-as (open-says t g channel) (λ (i, o). open-exists o) open-4)
       end))
       (open-named channel driver n name (reading name) refl)

@@ -69,12 +69,12 @@ module _ (t : Tables) (ram output : ℕ) where
   status-lowest = by-rows status _ (rule BadRange refl (λ _. says-as (says-lt output 5) status-output status-13) end) (by-none status _ refl refl)
 
   -- 15 FLAGS: "a bit other than 4, 5, 6"
-  pub reset-lowest : (flags : ℕ) → flags < 256 → Below (Row t ram output (reset flags)) 2 → Lowest (Row t ram output (reset flags)) (onReset t flags)
+  pub reset-lowest : (flags : ℕ) → Below (Row t ram output (reset flags)) 2 → Lowest (Row t ram output (reset flags)) (onReset t flags)
   unfolding onReset
-  reset-lowest flags few =
+  reset-lowest flags =
       by-rows (reset flags) _
       (rule BadFlags refl (λ _. says-as (says-or (says-lt 0 (flags % 16)) (says-le 128 flags))
-      (λ m. let (k, b) = ⊎-elim (low-bit flags) (high-bit flags few) m in reset-flags {k = k} b)
+      (λ m. let (k, b) = ⊎-elim (low-bit flags) (high-bit flags) m in reset-flags {k = k} b)
       (λ r. let (k, b) = reset-15 r in bit-other flags k b))
       end)
       (by-none (reset flags) _ refl refl)

@@ -13,7 +13,7 @@ is-good-requires : tie.Need-is-good-requires
 is-good-requires c κs = search needs
 
 returns : tie.Need-returns
-returns c = let e : goodTest (c .before .before .args .self) ≡ false = sym (c .before .is-good .ensures) ∙ not-true _ (c .if1 .taken) in (rw e, λ q. absurd (false≢true q))
+returns c = let e : goodTest (c .before .before .args .self) ≡ false = sym (c .before .is-good .ensures) ∙ not-true _ (c .if1 .taken) in (rw e, λ q. absurd (false≢true q), sized (c .before .before .args .self) _ (c .before .before .good .0))
 
 wide-requires : tie.Need-wide-requires
 wide-requires c κs = search needs
@@ -22,7 +22,11 @@ mul-result : tie.Need-mul-result
 mul-result c = search needs
 
 returns-2 : tie.Need-returns-2
-returns-2 c = let e : goodTest (c .before .before .before .args .self) ≡ true = sym (c .before .before .is-good .ensures) ∙ not-false _ (c .before .if1 .left) in (rw (e, c .wide .ensures .0), λ q. good-says (c .before .before .before .args .self) (sized (c .before .before .before .args .self) _ (c .before .before .before .good .0)) .yes e)
+returns-2 c =
+    let s = c .before .before .before in
+    let e : goodTest (s .args .self) ≡ true = sym (c .before .before .is-good .ensures) ∙ not-false _ (c .before .if1 .left) in
+    let z = sized (s .args .self) _ (s .good .0) in
+    (rw (e, c .wide .ensures .0), λ q. good-says (s .args .self) z .yes e, z)
 
 pub accepts-spec : {M : Type 1} → statement M
 accepts-spec = tie.close (tie.spec is-good-requires returns wide-requires mul-result returns-2)

@@ -20,7 +20,7 @@ refuse-requires-2 : tie.Need-refuse-requires-2
 refuse-requires-2 c κs = search needs
 
 returns-2 : tie.Need-returns-2
-returns-2 c = λ out. refused (c .before .before .before .before .before .before .args .self) _ _ _ _ out (c .refuse2 .ensures) (good-exists _ _ _ _ _ (c .before .before .before .if1 .left) _ (c .before .before .is-open .ensures) (c .before .if2 .taken))
+returns-2 c = λ out. refused (c .before .before .before .before .before .before .args .self) _ _ _ _ out (c .refuse2 .ensures) (good-exists _ _ _ _ _ (omega arith) _ (c .before .before .is-open .ensures) (c .before .if2 .taken))
 
 open-named-requires : tie.Need-open-named-requires
 open-named-requires c κs = (c .before .before .before .before .before .before .pre .0, c .before .before .before .before .before .before .pre .1, omega arith, absent (c .before .before .before .before .before .before .args .self) _ _ (c .before .before .is-open .ensures) (c .before .if2 .left))
@@ -30,7 +30,7 @@ same-length c = search needs
 
 returns-3 : tie.Need-returns-3
 returns-3 c = λ out. onward (c .before .before .before .before .before .before .before .before .before .args .self) _ _ _ _ out
-    (good-named _ _ _ _ _ (c .before .before .before .before .before .before .if1 .left) _ (c .before .before .before .before .before .is-open .ensures) (c .before .before .before .before .if2 .left)) (c .before .before .open-named .ensures out)
+    (good-named _ _ _ _ _ (omega arith) _ (c .before .before .before .before .before .is-open .ensures) (c .before .before .before .before .if2 .left)) (c .before .before .open-named .ensures out)
 
 pub open-good-spec : {M : Type 1} → statement M
 open-good-spec =

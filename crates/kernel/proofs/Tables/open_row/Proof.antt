@@ -1,10 +1,11 @@
 -- `Tables::open_row` meets its contract.
 use mathlib.Core.Path.{_≡_, refl}
+use native.Mathlib.Omega.{arith}
 use borrow.Author.Needs.{needs}
 use Rattle.kernel.specs.Definition.Line.{totalOf}
 use Rattle.kernel.specs.Within.{Fits}
 use Rattle.kernel.proofs.Refusing.{refused}
-use Rattle.kernel.proofs.Growing.{total-of}
+use Rattle.kernel.proofs.Growing.{total-of, total-most}
 use Rattle.kernel.proofs.Opening.{row-full, row-none, row-fits, row-chain, row-done}
 use Rattle.kernel.proofs.Tables.open_row.Statement.{statement}
 use Rattle.kernel.proofs.Tables.open_row.Tie as tie
@@ -40,7 +41,9 @@ add-room-for-2 : tie.Need-add-room-for-2
 add-room-for-2 c = search needs
 
 room-for-requires : tie.Need-room-for-requires
-room-for-requires c κs = search needs
+room-for-requires c κs =
+    let s = c .before .before .before .before .before .before .before in
+    (s .pre .0, omega arith, omega (arith, total (c .before)), omega (arith, total-most _ (s .pre .0) _ (total (c .before)), c .wide16 .ensures .1))
 
 refuse-requires-2 : tie.Need-refuse-requires-2
 refuse-requires-2 c κs = search needs

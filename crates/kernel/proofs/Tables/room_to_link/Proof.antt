@@ -1,4 +1,5 @@
 -- `Tables::room_to_link` meets its contract.
+use native.Mathlib.Omega.{arith}
 use borrow.Author.Needs.{needs}
 use Rattle.kernel.proofs.Growing.{total-most}
 use Rattle.kernel.proofs.Linking.{room-low, room-left}
@@ -21,7 +22,7 @@ sub-room-for : tie.Need-sub-room-for
 sub-room-for c = search needs
 
 room-for-requires : tie.Need-room-for-requires
-room-for-requires c κs = let s = c .before .before .before .before in let h = total-most _ (s .pre .0) _ (s .pre .1) in search needs
+room-for-requires c κs = let s = c .before .before .before .before in (s .pre .0, omega arith, omega (arith, s .pre .1), omega (arith, total-most _ (s .pre .0) _ (s .pre .1)))
 
 returns-2 : tie.Need-returns-2
 returns-2 c =
