@@ -25,9 +25,17 @@ use system::reset_event;
 use system::start_event;
 
 pub mod fields; // the numbers in a body
+pub mod records; // the record at the front of a log
 pub mod channels; // open, close, read, write
 pub mod segments; // status, boundary, set user boundary, allocate, free, store, load
 pub mod system; // start, reset, default, link
+
+// What stands at the front of a log: a record of this kind whose body has so many bytes, less than a record, or a bad length.
+pub enum Front {
+    Record(u16, usize),
+    Cut,
+    Bad,
+}
 
 // One call on tables that are good by theorem: they are not tested.
 pub fn call_good(t: Tables, ram: &mut [u8], kind: u16, body: &[u8], out: &mut [u8]) -> Outcome

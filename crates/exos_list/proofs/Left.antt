@@ -5,7 +5,9 @@ use mathlib.Core.List.{List}
 use native.Mathlib.Omega.{arith}
 use lib.ListN.{length, take, drop, length-drop}
 use lib.Seq.{length-take-le}
-use Rattle.listing.specs.Laws.Pieces.{Short}
+use Rattle.events.specs.declared.Front.the-variants.{Cut}
+use Rattle.events.specs.Definition.Records.{frontOf}
+use Rattle.events.specs.Laws.Front.{cut-short}
 
 module _ (buf : List ℕ) (from filled taken : ℕ) (h : from ≤ filled) (l : filled ≤ length buf) where
   part-length : length (take (filled - from) (drop from buf)) ≡ filled - from
@@ -14,5 +16,5 @@ module _ (buf : List ℕ) (from filled taken : ℕ) (h : from ≤ filled) (l : f
   pub start-within : taken ≤ length (take (filled - from) (drop from buf)) → from + taken ≤ filled
   start-within t = omega (arith, part-length)
 
-  pub left-short : Short (drop taken (take (filled - from) (drop from buf))) → filled < from + taken + 4098
-  left-short s = omega (arith, s .short, length-drop taken (take (filled - from) (drop from buf)), part-length)
+  pub left-short : frontOf (drop taken (take (filled - from) (drop from buf))) ≡ Cut → filled < from + taken + 4098
+  left-short e = omega (arith, cut-short (drop taken (take (filled - from) (drop from buf))) e, length-drop taken (take (filled - from) (drop from buf)), part-length)

@@ -10,11 +10,12 @@ use borrow.Author.Tests.{eq-eqb, ne-eqb}
 use Rattle.kernel.specs.declared.Tables.{Tables}
 use Rattle.text.specs.Definition.Put.{Put}
 use Rattle.text.specs.Laws.Text.{put-none}
-use Rattle.listing.specs.declared.Front.the-variants.{Record, Cut, Bad}
+use Rattle.events.specs.declared.Front.the-variants.{Record, Cut, Bad}
+use Rattle.events.specs.Definition.Records.{frontOf, bodyOf, restOf}
 use Rattle.listing.specs.declared.Stop.{Stop}
 use Rattle.listing.specs.declared.Stop.the-variants.{More, Full, Bad as Ends}
-use Rattle.listing.specs.Definition.Log.{badText}
-use Rattle.listing.specs.Definition.Pieces.{Stepped, frontOf, Mark, Drains, full, more, ends, line, ending}
+use Rattle.listing.specs.Definition.Log.{badText, ending}
+use Rattle.listing.specs.Definition.Pieces.{Stepped, Mark, Drains, full, more, ends, line}
 
 -- the bytes behind those that are written
 pub put-behind : (d : List ℕ) {u v : List ℕ} {m r : ℕ} {xs : List ℕ} → drop m u ≡ drop m d → Put u v m r xs → drop r v ≡ drop r d
@@ -45,8 +46,8 @@ module _ (size : ℕ) (start : Mark) (t : Tables) (ram out left text : List ℕ)
 
     -- one record more
     pub drain-line : (kind n : ℕ) → frontOf left ≡ Record kind n → (t₂ : Tables) (ram₂ out₂ text₂ : List ℕ) (used₂ : ℕ)
-        → Stepped t ram out kind (take n (drop 4 left)) text used t₂ ram₂ out₂ text₂ used₂
-        → (to : Mark) (stop : Stop) → Drains size (mark t₂ ram₂ out₂ (drop (4 + n) left) (take used₂ text₂)) to stop → Drains size start to stop
+        → Stepped t ram out kind (bodyOf left n) text used t₂ ram₂ out₂ text₂ used₂
+        → (to : Mark) (stop : Stop) → Drains size (mark t₂ ram₂ out₂ (restOf left n) (take used₂ text₂)) to stop → Drains size start to stop
     drain-line kind n f t₂ ram₂ out₂ text₂ used₂ s to stop d =
         goes to stop (line (room r) f (rw (s .tables-are, s .ram-is, s .output-is, s .put .text) at d))
 
@@ -76,8 +77,8 @@ keep-turn buf buf₀ from i h l p q =
     let m : i < length (drop from buf₀) = rw length-drop (omega arith) in
     (rw (add-one, take-suc-set buf i (getD buf (from + i) 0) k, take-suc (drop from buf₀) i 0 m, p, v), rw (add-one, drop-set-lt (suc i) buf i (getD buf (from + i) 0) s, w))
 
-pub end-none : (xs text : List ℕ) (at : ℕ) → length xs ≡ 0 → Put text text at at (ending xs)
-end-none xs text at h = rw (eq-eqb (length xs) 0 h) (put-none text at)
+pub end-none : (left : ℕ) (text : List ℕ) (at : ℕ) → left ≡ 0 → Put text text at at (ending left)
+end-none left text at h = rw (eq-eqb left 0 h) (put-none text at)
 
-pub end-bad : (xs d e : List ℕ) (at r : ℕ) → (length xs ≡ 0 → ⊥) → Put d e at r badText → Put d e at r (ending xs)
-end-bad xs d e at r h p = rw (ne-eqb (length xs) 0 h) p
+pub end-bad : (left : ℕ) (d e : List ℕ) (at r : ℕ) → (left ≡ 0 → ⊥) → Put d e at r badText → Put d e at r (ending left)
+end-bad left d e at r h p = rw (ne-eqb left 0 h) p

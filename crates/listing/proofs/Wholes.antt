@@ -1,9 +1,9 @@
 -- The text of a whole log, from the lines of its buffer.
 use mathlib.Core.Path.{_≡_, refl, sym, ap, _∙_}
 use mathlib.Core.List.{List, [], _++_, append-assoc, append-nil}
-use Prim.Native.Nat.{ℕ, _+_, _≤_, _<_}
+use Prim.Native.Nat.{ℕ, _+_, _-_, _≤_, _<_}
 use native.Mathlib.Omega.{arith}
-use lib.ListN.{length, take, drop, replicate, length-append}
+use lib.ListN.{length, take, drop, replicate, length-append, length-drop}
 use lib.Seq.{length-take-le}
 use Rattle.kernel.specs.Definition.Start.{noTables}
 use Rattle.kernel.specs.declared.Tables.{Tables}
@@ -11,13 +11,14 @@ use Rattle.text.specs.Definition.Put.{Put}
 use Rattle.listing.specs.declared.Drained.{Drained}
 use Rattle.listing.specs.declared.Stop.{Stop}
 use Rattle.listing.specs.declared.Stop.the-variants.{More, Full, Bad}
-use Rattle.listing.specs.Definition.Log.{textFrom, listing}
-use Rattle.listing.specs.Definition.Pieces.{Mark, begin, Drains, full, more, ends, line, reached, Fills, ending}
-use Rattle.listing.specs.Laws.Log.{text-found, text-broken}
+use Rattle.events.specs.declared.Front.the-variants.{Cut}
+use Rattle.events.specs.Definition.Records.{frontOf}
+use Rattle.events.specs.Laws.Front.{bad-stays, record-stays, body-stays, rest-stays}
+use Rattle.listing.specs.Definition.Log.{ending, textFrom, listing}
+use Rattle.listing.specs.Definition.Pieces.{Mark, begin, Drains, full, more, ends, line, reached, Fills}
+use Rattle.listing.specs.Laws.Log.{text-record, text-bad, text-cut}
 use Rattle.listing.specs.Laws.One.{one-stop}
-use Rattle.listing.specs.Laws.Pieces.{Short, Carry}
-use Rattle.listing.specs.Laws.Reading.{text-short}
-use Rattle.listing.proofs.Fronts.{stands, whole-at}
+use Rattle.listing.specs.Laws.Pieces.{Carry}
 
 number : Stop → ℕ
 number More = 0
@@ -34,18 +35,18 @@ more-first e f = omega (arith, ap number (sym e ∙ f))
 
 -- where the lines stop
 abbrev Stopped : ℕ → Mark → Stop → Type 0
-Stopped size to More = Short (to .left) × (length (to .text) + 8217 ≤ size)
+Stopped size to More = (frontOf (to .left) ≡ Cut) × (length (to .text) + 8217 ≤ size)
 Stopped size to Full = size < length (to .text) + 8217
 Stopped size to Bad = Unit {0}
 
 stopped : {size : ℕ} {m to : Mark} {stop : Stop} → Drains size m to stop → Stopped size to stop
 stopped (full h) = h
-stopped (more {m} h e) = (rw e at (stands (m .left)), h)
+stopped (more h e) = (e, h)
 stopped (ends h e) = tt
 stopped (line h e d) = stopped d
 
 pub room-left : (m : Mark) (r : Drained) (ram out input text : List ℕ) → r .stop ≡ More → Drains (length text) m (reached r ram out input text) (r .stop)
-    → Short (drop (r .taken) input) × (length (take (r .used) text) + 8217 ≤ length text)
+    → (frontOf (drop (r .taken) input) ≡ Cut) × (length (take (r .used) text) + 8217 ≤ length text)
 room-left m r ram out input text e d = rw e at (stopped d)
 
 -- the text of a log that is listed up to a mark, whatever follows
@@ -60,10 +61,11 @@ textAt Bad m ys = m .text
 goes-on : {size : ℕ} {m to : Mark} {stop : Stop} → Drains size m to stop → (ys : List ℕ) → textOf m ys ≡ textAt stop to ys
 goes-on (full h) ys = refl
 goes-on (more h e) ys = refl
-goes-on (ends {m} h e) ys = let b = rw e at (stands (m .left)) in ap (λ (l : List ℕ). m .text ++ l) (text-broken (m .tables) (m .ram) (m .output) (m .left ++ ys) (b ys))
+goes-on (ends {m} h e) ys = ap (λ (l : List ℕ). m .text ++ l) (text-bad (m .tables) (m .ram) (m .output) (m .left ++ ys) (bad-stays (m .left) ys e))
 goes-on (line {m} {to} {kind} {n} h e d) ys =
     ap (λ (l : List ℕ). m .text ++ l)
-    (text-found (m .tables) (m .ram) (m .output) (m .left ++ ys) kind (take n (drop 4 (m .left))) (drop (4 + n) (m .left) ++ ys) (whole-at (m .left) kind n e .is ys))
+    (rw (body-stays (m .left) ys kind n e, rest-stays (m .left) ys kind n e) at
+    (text-record (m .tables) (m .ram) (m .output) (m .left ++ ys) kind n (record-stays (m .left) ys kind n e)))
     ∙ sym (append-assoc (m .text) _ _)
     ∙ goes-on d ys
 
@@ -104,7 +106,7 @@ module _ (t : Tables) (e : t ≡ noTables) (log : List ℕ) (r : Drained) (ram o
       let f = rw q at d in
       rw (← carried (carry-full f), length-append, length-take-le (r .used) text h) (omega (arith, stopped f, length-take-le (r .used) text h))
 
-  pub listed-text : r .stop ≡ More → (text₂ : List ℕ) (end : ℕ) → Put text text₂ (r .used) end (ending (drop (r .taken) log)) → take end text₂ ≡ listing log
+  pub listed-text : r .stop ≡ More → (text₂ : List ℕ) (end : ℕ) → Put text text₂ (r .used) end (ending (length log - r .taken)) → take end text₂ ≡ listing log
   listed-text q text₂ end p =
       let f = rw q at d in
-      p .text ∙ rw (← text-short (r .tables) ram out (drop (r .taken) log) (stopped f .0)) (carried (carry-more f))
+      p .text ∙ rw (← length-drop (r .taken) log, ← text-cut (r .tables) ram out (drop (r .taken) log) (stopped f .0)) (carried (carry-more f))

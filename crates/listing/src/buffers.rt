@@ -1,42 +1,16 @@
 // The lines of a buffer.
 ghost use mathlib.Core.Path.{_≡_};
-ghost use Prim.Native.Nat.{_≤_, _<_};
+ghost use Prim.Native.Nat.{_≤_};
 ghost use lib.ListN.{length, drop};
 ghost use Rattle.listing.specs.Definition.NoneOrGood.{NoneOrGood};
-ghost use Rattle.listing.specs.Definition.Pieces.{frontOf, begin, reached, Drains};
+ghost use Rattle.listing.specs.Definition.Pieces.{begin, reached, Drains};
 use super::Drained;
-use super::Front;
 use super::Stop;
 use super::lines::put_bad;
 use super::records::record;
-use events::fields::u16_at;
+use events::Front;
+use events::records::front;
 use kernel::Tables;
-
-fn wide(x: u16) -> usize
-    ensures { λ r. ⌜ (r ≡ x) × (r < 65536) ⌝ }
-{
-    x as usize
-}
-
-// What stands at the front of the input.
-fn front(input: &[u8]) -> Front
-    ensures { λ r. ⌜ r ≡ frontOf (now (input .entry)) ⌝ }
-{
-    if input.len() < 2 {
-        return Front::Cut;
-    }
-    let n = wide(u16_at(input, 0));
-    if n < 2 {
-        return Front::Bad;
-    }
-    if 4096 < n {
-        return Front::Bad;
-    }
-    if input.len() < n + 2 {
-        return Front::Cut;
-    }
-    Front::Record(u16_at(input, 2), n - 2)
-}
 
 // The lines of as many whole records as the input has and the text has room for.
 pub fn drain(

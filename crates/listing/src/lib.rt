@@ -12,13 +12,6 @@ pub struct After {
     pub used: usize,
 }
 
-// What stands at the front of the input: a record of this kind whose body has so many bytes, less than a record, or a bad length.
-pub enum Front {
-    Record(u16, usize),
-    Cut,
-    Bad,
-}
-
 // Why the lines of a buffer stop: more input is wanted, the text is full, or the log is bad.
 pub enum Stop {
     More,

@@ -1,10 +1,10 @@
 // A log read in pieces: what is kept for the next piece, what the end of the input leaves to write, and a whole log in one piece.
 ghost use mathlib.Core.Path.{_≡_};
-ghost use mathlib.Core.List.{List};
-ghost use Prim.Native.Nat.{ℕ, _+_, _≤_};
+ghost use Prim.Native.Nat.{_+_, _≤_};
 ghost use lib.ListN.{length, take, drop};
 ghost use Rattle.text.specs.Definition.Put.{Put};
-ghost use Rattle.listing.specs.Definition.Pieces.{ending, Lists};
+ghost use Rattle.listing.specs.Definition.Log.{ending};
+ghost use Rattle.listing.specs.Definition.Pieces.{Lists};
 use super::Listed;
 use super::Stop;
 use super::buffers::drain;
@@ -26,7 +26,7 @@ pub fn keep(buf: &mut [u8], from: usize, n: usize)
 // Where the input ends and so many bytes of it are left: `bad`, unless there are none.
 pub fn finish(left: usize, text: &mut [u8], at: usize) -> usize
     requires { ⌜ at + 4 ≤ length (now text) ⌝ }
-    ensures { λ r. ⌜ ((xs : List ℕ) → length xs ≡ left → Put (now (text .entry)) (now (text .exit)) at r (ending xs)) × (r ≤ length (now (text .exit))) ⌝ }
+    ensures { λ r. ⌜ Put (now (text .entry)) (now (text .exit)) at r (ending left) × (r ≤ length (now (text .exit))) ⌝ }
 {
     if left == 0 {
         return at;

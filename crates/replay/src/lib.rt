@@ -1,18 +1,17 @@
 // A buffer of event records, replayed: every whole record at its front, one after the other.
 ghost use mathlib.Core.Path.{_≡_};
 ghost use mathlib.Core.Bool.{true};
-ghost use Prim.Native.Nat.{_≤_};
-ghost use lib.ListN.{length, drop};
+ghost use lib.ListN.{length};
 ghost use Rattle.kernel.specs.Definition.Good.{Good};
 ghost use Rattle.kernel.specs.Definition.Step.{result};
 ghost use Rattle.kernel.specs.Definition.Tables.{ramSize};
 ghost use Rattle.events.specs.Definition.Records.{stepOf};
-ghost use Rattle.replay.specs.Definition.Replay.{records, sizeOf, bytesOf, replayed, before};
-use events::fields::u16_at;
+ghost use Rattle.replay.specs.Definition.Replay.{records, bytesOf, replayed, before};
+use events::Front;
+use events::records::front;
 use kernel::Answer;
 use kernel::Outcome;
 use kernel::Tables;
-use rows::numbers::wide16;
 
 pub struct Replayed {
     // The last record's answer, and the tables it left. Where there is no record: done, 0, 0, and the tables that were given.
@@ -25,29 +24,6 @@ pub struct Replayed {
 struct Turned {
     last: Outcome,
     good: bool,
-}
-
-// The bytes of the record that stands at `at`, with its length; 0 where no whole one does.
-fn size_at(input: &[u8], at: usize) -> usize
-    requires { ⌜ at ≤ length (now input) ⌝ }
-    ensures { λ r. ⌜ r ≡ sizeOf (drop at (now (input .entry))) ⌝ }
-{
-    let left = input.len() - at;
-    if left < 2 {
-        return 0;
-    }
-    let n = wide16(u16_at(input, at));
-    if n < 2 {
-        return 0;
-    }
-    if 4096 < n {
-        return 0;
-    }
-    let size = 2 + n;
-    if left < size {
-        return 0;
-    }
-    size
 }
 
 // Whether tables are known to be good from here on: never, where they are not to be held.
@@ -91,15 +67,24 @@ pub fn replay(t: Tables, ram: &mut [u8], out: &mut [u8], input: &[u8], hold: boo
         tables: t,
     };
     let mut at: usize = 0;
-    let mut n = size_at(input, 0);
-    while n != 0 {
-        let kind = u16_at(input, at + 2);
-        let tables = last.tables;
-        let r = turn(good, tables, ram, kind, &input[at + 4..at + n], out, hold);
-        last = r.last;
-        good = r.good;
-        at = at + n;
-        n = size_at(input, at);
+    loop {
+        let f = front(&input[at..]);
+        match f {
+            Front::Cut => {
+                return Replayed { last, taken: at };
+            }
+            Front::Bad => {
+                return Replayed { last, taken: at };
+            }
+            Front::Record(kind, size) => {
+                let from = at + 4;
+                let next = from + size;
+                let tables = last.tables;
+                let r = turn(good, tables, ram, kind, &input[from..next], out, hold);
+                last = r.last;
+                good = r.good;
+                at = next;
+            }
+        }
     }
-    Replayed { last, taken: at }
 }

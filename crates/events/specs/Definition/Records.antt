@@ -7,6 +7,8 @@ use lib.Dec.{ltb, eqb}
 use Rattle.kernel.specs.Definition.Calls.{Call, start, reset, «open», close, read, write, default, status, link, boundary, set-user-boundary, allocate, free, store, load, no-call, short-start}
 use Rattle.kernel.specs.Definition.Step.{Result, step}
 use Rattle.kernel.specs.declared.Tables.{Tables}
+use Rattle.events.specs.declared.Front.{Front}
+use Rattle.events.specs.declared.Front.the-variants.{Record, Cut, Bad}
 
 -- "Numbers are little-endian; u8, u16 below."
 abbrev pub u8At : (body : List ℕ) (i : ℕ) → ℕ
@@ -15,22 +17,23 @@ u8At body i = getD body i 0
 abbrev pub u16At : (body : List ℕ) (i : ℕ) → ℕ
 u16At body i = u8At body i + 256 * u8At body (i + 1)
 
--- what stands at the front of a log: nothing, "A bad length or cut record", or a record and the rest
-pub data Next : Type 0 where
-  finished : Next
-  broken : Next
-  found : (kind : ℕ) (body rest : List ℕ) → Next
-
--- "An event record (build): length in 2 bytes counting kind and body (2 to 4,096), kind in 2 bytes, body."
-unfoldable pub next : List ℕ → Next
-next xs =
+-- "An event record (build): length in 2 bytes counting kind and body (2 to 4,096), kind in 2 bytes, body.": at the front of a log stands a record of this
+-- kind whose body has so many bytes, less than a record, or "a bad length"
+unfoldable pub frontOf : List ℕ → Front
+frontOf xs =
     let n = u16At xs 0 in
-    cond (eqb (length xs) 0) finished
-    (cond (ltb (length xs) 2) broken
-    (cond (ltb n 2) broken
-    (cond (ltb 4096 n) broken
-    (cond (ltb (length xs) (n + 2)) broken
-    (found (u16At xs 2) (take (n - 2) (drop 4 xs)) (drop (n + 2) xs))))))
+    cond (ltb (length xs) 2) Cut
+    (cond (ltb n 2) Bad
+    (cond (ltb 4096 n) Bad
+    (cond (ltb (length xs) (n + 2)) Cut
+    (Record (u16At xs 2) (n - 2)))))
+
+-- the body of n bytes of the record at the front, and what follows it
+abbrev pub bodyOf : (xs : List ℕ) (n : ℕ) → List ℕ
+bodyOf xs n = take n (drop 4 xs)
+
+abbrev pub restOf : (xs : List ℕ) (n : ℕ) → List ℕ
+restOf xs n = drop (4 + n) xs
 
 -- 2 CALL: "body short of its fixed fields": these are n bytes, and a name, data or list is the rest of the body
 abbrev pub atLeast : (n : ℕ) (body : List ℕ) → Call → Call

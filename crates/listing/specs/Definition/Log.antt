@@ -9,7 +9,9 @@ use Rattle.kernel.specs.Definition.Start.{noTables}
 use Rattle.kernel.specs.Definition.Answers.{numberOf, aOf, bOf}
 use Rattle.kernel.specs.Definition.Step.{Result}
 use Rattle.kernel.specs.declared.Tables.{Tables}
-use Rattle.events.specs.Definition.Records.{Next, finished, broken, found, next, stepOf}
+use Rattle.events.specs.declared.Front.{Front}
+use Rattle.events.specs.declared.Front.the-variants.{Record, Cut, Bad}
+use Rattle.events.specs.Definition.Records.{frontOf, bodyOf, restOf, stepOf}
 use Rattle.text.specs.Definition.Text.{fieldsOf, hexOf}
 
 -- "a fifth field .. where 6, 20 or 258 is done with b > 0"
@@ -39,17 +41,21 @@ logStep t ram out kind body = let n = lentTo (t .segments) kind (length body) in
 abbrev pub badText : List ℕ
 badText = 98 ∷ 97 ∷ 100 ∷ 10 ∷ []
 
--- "prints a line a record", and `more` for the rest of the log; "prints `bad` and ends"
-unfoldable pub turn : (more : Tables → (ram out xs : List ℕ) → List ℕ) → Tables → (ram out : List ℕ) → Next → List ℕ
-turn more t ram out finished = []
-turn more t ram out broken = badText
-turn more t ram out (found kind body rest) =
-    let r = logStep t ram out kind body in lineAfter kind r ++ more (r .tables) (r .ram) (r .output) rest
+-- what is still to be written where the input ends and so many bytes are left, less than a record
+abbrev pub ending : ℕ → List ℕ
+ending left = cond (eqb left 0) [] badText
+
+-- "prints a line a record", and `more` for the rest of the log; "A bad length or cut record prints `bad` and ends."
+unfoldable pub turn : (more : Tables → (ram out xs : List ℕ) → List ℕ) → Tables → (ram out xs : List ℕ) → Front → List ℕ
+turn more t ram out xs Cut = ending (length xs)
+turn more t ram out xs Bad = badText
+turn more t ram out xs (Record kind n) =
+    let r = logStep t ram out kind (bodyOf xs n) in lineAfter kind r ++ more (r .tables) (r .ram) (r .output) (restOf xs n)
 
 -- at most k records
 unfoldable pub textIn : (k : ℕ) → Tables → (ram out xs : List ℕ) → List ℕ
 textIn zero t ram out xs = []
-textIn (suc k) t ram out xs = turn (textIn k) t ram out (next xs)
+textIn (suc k) t ram out xs = turn (textIn k) t ram out xs (frontOf xs)
 
 -- the text of a log, from tables, RAM and output as they stand; a record takes four bytes, so that there are turns enough
 unfoldable pub textFrom : Tables → (ram out xs : List ℕ) → List ℕ

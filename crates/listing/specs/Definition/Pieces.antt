@@ -1,17 +1,14 @@
 -- A log that is read in pieces: what one record, and what the records of a piece, leave of it.
 use mathlib.Core.Path.{_≡_}
-use mathlib.Core.Bool.{cond}
 use mathlib.Core.List.{List, [], _++_}
-use Prim.Native.Nat.{ℕ, _+_, _-_, _≤_, _<_}
+use Prim.Native.Nat.{ℕ, _+_, _≤_, _<_}
 use lib.ListN.{length, take, drop, replicate}
-use lib.Dec.{eqb, ltb}
 use Rattle.kernel.specs.Definition.Start.{noTables}
 use Rattle.kernel.specs.declared.Tables.{Tables}
-use Rattle.events.specs.Definition.Records.{u16At}
+use Rattle.events.specs.declared.Front.the-variants.{Record, Cut, Bad}
+use Rattle.events.specs.Definition.Records.{frontOf, bodyOf, restOf}
 use Rattle.text.specs.Definition.Put.{Put}
 use Rattle.listing.specs.declared.Drained.{Drained}
-use Rattle.listing.specs.declared.Front.{Front}
-use Rattle.listing.specs.declared.Front.the-variants.{Record, Cut, Bad}
 use Rattle.listing.specs.declared.Listed.{Listed}
 use Rattle.listing.specs.declared.Listed.the-variants.{Text, Over}
 use Rattle.listing.specs.declared.Stop.{Stop}
@@ -25,17 +22,6 @@ pub record Stepped (t : Tables) (ram out : List ℕ) (kind : ℕ) (body text : L
   pub output-is : out′ ≡ logStep t ram out kind body .output
   pub put : Put text text′ used used′ (lineAfter kind (logStep t ram out kind body))
   pub room : used′ ≤ length text′
-
--- what stands at the front of xs: less than a record, a bad length, or a record of this kind whose body has so many bytes. It is `next` of the crate
--- events, with what may still become a record told from what never will: `stands`, in proofs/Fronts.antt
-unfoldable pub frontOf : List ℕ → Front
-frontOf xs =
-    let n = u16At xs 0 in
-    cond (ltb (length xs) 2) Cut
-    (cond (ltb n 2) Bad
-    (cond (ltb 4096 n) Bad
-    (cond (ltb (length xs) (n + 2)) Cut
-    (Record (u16At xs 2) (n - 2)))))
 
 -- how far a listing has come: what the records so far left of tables, RAM and output, the bytes that are left, and the records' lines
 pub record Mark : Type 0 where
@@ -51,8 +37,8 @@ begin t ram out xs = record { tables = t; ram = ram; output = out; left = xs; te
 -- one record more
 abbrev pub lined : Mark → (kind n : ℕ) → Mark
 lined m kind n =
-    let r = logStep (m .tables) (m .ram) (m .output) kind (take n (drop 4 (m .left))) in
-    record { tables = r .tables; ram = r .ram; output = r .output; left = drop (4 + n) (m .left); text = m .text ++ lineAfter kind r }
+    let r = logStep (m .tables) (m .ram) (m .output) kind (bodyOf (m .left) n) in
+    record { tables = r .tables; ram = r .ram; output = r .output; left = restOf (m .left) n; text = m .text ++ lineAfter kind r }
 
 abbrev pub ended : Mark → Mark
 ended m = record { tables = m .tables; ram = m .ram; output = m .output; left = m .left; text = m .text ++ badText }
@@ -69,10 +55,6 @@ pub data Drains (size : ℕ) : Mark → Mark → Stop → Type 0 where
 -- the mark that an outcome stands for: what is left of the input, and the part of the text that is used
 abbrev pub reached : Drained → (ram out input text : List ℕ) → Mark
 reached r ram out input text = record { tables = r .tables; ram = ram; output = out; left = drop (r .taken) input; text = take (r .used) text }
-
--- what is still to be written where the input ends and xs is left
-abbrev pub ending : List ℕ → List ℕ
-ending xs = cond (eqb (length xs) 0) [] badText
 
 -- the lines of a whole log leave no room for a longest one in a text of `size` bytes
 abbrev pub Fills : (log : List ℕ) (size : ℕ) → Mark → Type 0

@@ -17,11 +17,12 @@ use Rattle.kernel.specs.Definition.Line.{grown, shrunk}
 use Rattle.kernel.specs.Definition.Calls.{Call}
 use Rattle.kernel.specs.Definition.Step.{Result, decided, completed}
 use Rattle.kernel.specs.declared.Tables.{Tables}
-use Rattle.events.specs.Definition.Records.{u16At, found, next, startIn, openIn, closeIn, readIn, writeIn, boundaryIn, callIn}
+use Rattle.events.specs.declared.Front.the-variants.{Record}
+use Rattle.events.specs.Definition.Records.{u16At, frontOf, bodyOf, restOf, startIn, openIn, closeIn, readIn, writeIn, boundaryIn, callIn}
 use Rattle.text.specs.Definition.Text.{decimalIn, decimalOf, fieldsOf}
 use Rattle.kernel.specs.Definition.Start.{noTables}
 use Rattle.listing.specs.Definition.Log.{showsOf, lineOf, lineAfter, lentTo, logStep, textFrom, listing}
-use Rattle.listing.specs.Laws.Log.{text-found, text-finished, log-full}
+use Rattle.listing.specs.Laws.Log.{text-record, text-finished, log-full}
 
 -- a text as the numbers of its letters
 abbrev pub letters : String → List ℕ
@@ -98,8 +99,14 @@ record Leaves (Such : List ℕ → Type 0) (kind : ℕ) (line : List ℕ) (r : R
   output-length : length (r .output) ≡ 4096
   such : Such (r .ram)
 
-says : (Such Next : List ℕ → Type 0) (k : ℕ) → next (joined (drop k input)) ≡ found (kindAt k) (bodyAt k) (joined (drop (suc k) input))
-    → lentTo (before k .segments) (kindAt k) (length (bodyAt k)) ≡ 65536 → linesOf (drop k output) ≡ lineWith (getD output k "") ++ linesOf (drop (suc k) output)
+-- record k stands at the front of what follows the first k
+abbrev Stands : ℕ → Type 0
+Stands k =
+    let xs = joined (drop k input) in
+    let n = length (bodyAt k) in
+    (frontOf xs ≡ Record (kindAt k) n) × (bodyOf xs n ≡ bodyAt k) × (restOf xs n ≡ joined (drop (suc k) input))
+
+says : (Such Next : List ℕ → Type 0) (k : ℕ) → Stands k → lentTo (before k .segments) (kindAt k) (length (bodyAt k)) ≡ 65536 → linesOf (drop k output) ≡ lineWith (getD output k "") ++ linesOf (drop (suc k) output)
     → ((ram out : List ℕ) → length ram ≡ 65536 → length out ≡ 4096 → Such ram → Leaves Next (kindAt k) (lineWith (getD output k "")) (left k ram out))
     → Says Next (suc k) → Says Such k
 unfolding left
@@ -107,8 +114,8 @@ says Such Next k n l t does more ram out h g p =
     let r = left k ram out in
     let d = does ram out h g p in
     let e : logStep (before k) ram out (kindAt k) (bodyAt k) ≡ r = rw (← g) (log-full (before k) ram out (kindAt k) (bodyAt k) l h) in
-    text-found (before k) ram out (joined (drop k input)) (kindAt k) (bodyAt k) (joined (drop (suc k) input)) n
-    ∙ rw (e, d .line-is, t) (ap (λ (l : List ℕ). lineWith (getD output k "") ++ l) (more (r .ram) (r .output) (d .ram-length) (d .output-length) (d .such)))
+    text-record (before k) ram out (joined (drop k input)) (kindAt k) (length (bodyAt k)) (n .0)
+    ∙ rw (n .1, n .2, e, d .line-is, t) (ap (λ (l : List ℕ). lineWith (getD output k "") ++ l) (more (r .ram) (r .output) (d .ram-length) (d .output-length) (d .such)))
 
 abbrev Any : List ℕ → Type 0
 Any ram = Unit {0}
@@ -121,18 +128,18 @@ said-8 : Says Any 8
 said-8 ram out h g p = text-finished (before 8) ram out
 
 said-7 : Says Any 7
-unfolding left next lentTo lineOf showsOf fieldsOf decimalOf decimalIn
-said-7 = says Any Any 7 refl refl refl (λ ram out h g p. record { line-is = refl; ram-length = h; output-length = g; such = tt }) said-8
+unfolding left frontOf lentTo lineOf showsOf fieldsOf decimalOf decimalIn
+said-7 = says Any Any 7 (refl, refl, refl) refl refl (λ ram out h g p. record { line-is = refl; ram-length = h; output-length = g; such = tt }) said-8
 
 said-6 : Says Any 6
-unfolding left next lentTo lineOf showsOf fieldsOf decimalOf decimalIn afterClose
+unfolding left frontOf lentTo lineOf showsOf fieldsOf decimalOf decimalIn afterClose
 said-6 =
-    says Any Any 6 refl refl refl
+    says Any Any 6 (refl, refl, refl) refl refl
     (λ ram out h g p. record { line-is = refl; ram-length = length-put _ _ ram _ ∙ h; output-length = g; such = tt }) said-7
 
 said-5 : Says Any 5
-unfolding left next lentTo lineOf showsOf fieldsOf decimalOf decimalIn
-said-5 = says Any Any 5 refl refl refl (λ ram out h g p. record { line-is = refl; ram-length = h; output-length = g; such = tt }) said-6
+unfolding left frontOf lentTo lineOf showsOf fieldsOf decimalOf decimalIn
+said-5 = says Any Any 5 (refl, refl, refl) refl refl (λ ram out h g p. record { line-is = refl; ram-length = h; output-length = g; such = tt }) said-6
 
 shown : (x y : ℕ) (out : List ℕ) → x ≡ 0xAA → y ≡ 0x55 → lineOf 6 0 0 2 (filled 2 (x ∷ y ∷ []) out) ≡ lineWith "6 0 0 2 aa55"
 unfolding lineOf showsOf fieldsOf decimalOf decimalIn filled
@@ -143,15 +150,15 @@ unfolding filled
 filled-length x y out g = rw length-drop (omega arith)
 
 said-4 : Says Written 4
-unfolding left next lentTo filled bytesFrom placeOf chainIndexOf offsetOf
+unfolding left frontOf lentTo filled bytesFrom placeOf chainIndexOf offsetOf
 said-4 =
-    says Written Any 4 refl refl refl
+    says Written Any 4 (refl, refl, refl) refl refl
     (λ ram out h g p. record { line-is = shown (getD ram 60111 0) (getD ram 60110 0) out (p .0) (p .1); ram-length = h; output-length = filled-length (getD ram 60111 0) (getD ram 60110 0) out g; such = tt }) said-5
 
 said-3 : Says Any 3
-unfolding left next lentTo lineOf showsOf fieldsOf decimalOf decimalIn putFrom placeOf chainIndexOf offsetOf
+unfolding left frontOf lentTo lineOf showsOf fieldsOf decimalOf decimalIn putFrom placeOf chainIndexOf offsetOf
 said-3 =
-    says Any Written 3 refl refl refl
+    says Any Written 3 (refl, refl, refl) refl refl
     (λ ram out h g p.
     let i = set {A = ℕ} ram 60111 0xAA in
     let l : length i ≡ 65536 = length-set ram 60111 0xAA ∙ h in
@@ -163,19 +170,19 @@ said-3 =
     }) said-4
 
 said-2 : Says Any 2
-unfolding left next lentTo lineOf showsOf fieldsOf decimalOf decimalIn
-said-2 = says Any Any 2 refl refl refl (λ ram out h g p. record { line-is = refl; ram-length = h; output-length = g; such = tt }) said-3
+unfolding left frontOf lentTo lineOf showsOf fieldsOf decimalOf decimalIn
+said-2 = says Any Any 2 (refl, refl, refl) refl refl (λ ram out h g p. record { line-is = refl; ram-length = h; output-length = g; such = tt }) said-3
 
 said-1 : Says Any 1
-unfolding left next lentTo lineOf showsOf fieldsOf decimalOf decimalIn afterOpen
+unfolding left frontOf lentTo lineOf showsOf fieldsOf decimalOf decimalIn afterOpen
 said-1 =
-    says Any Any 1 refl refl refl
+    says Any Any 1 (refl, refl, refl) refl refl
     (λ ram out h g p. record { line-is = refl; ram-length = length-put _ _ ram _ ∙ h; output-length = g; such = tt }) said-2
 
 said-0 : Says Any 0
-unfolding left next lentTo lineOf showsOf fieldsOf decimalOf decimalIn
+unfolding left frontOf lentTo lineOf showsOf fieldsOf decimalOf decimalIn
 said-0 =
-    says Any Any 0 refl refl refl
+    says Any Any 0 (refl, refl, refl) refl refl
     (λ ram out h g p. record { line-is = refl; ram-length = length-replicate (length ram) 0 ∙ h; output-length = g; such = tt }) said-1
 
 pub example : listing (joined input) ≡ linesOf output

@@ -1,52 +1,65 @@
 -- The listing record by record: its text is the first record's line and then the text of what follows.
-use mathlib.Core.Path.{_≡_, refl, ap, _∙_}
+use mathlib.Core.Path.{_≡_, refl, sym, ap, _∙_}
 use mathlib.Core.List.{List, [], _∷_, _++_, append-nil}
 use Prim.Native.Nat.{ℕ, zero, suc, _≤_}
 use native.Mathlib.Omega.{arith}
+use borrow.Author.Tests.{eq-eqb}
 use lib.ListN.{length, drop}
 use lib.Seq.{take-all}
 use Rattle.kernel.specs.Definition.Step.{decided, completed, step}
 use Rattle.kernel.specs.declared.Tables.{Tables}
-use Rattle.events.specs.Definition.Records.{Next, finished, broken, found, next, callIn}
-use Rattle.events.specs.Laws.Next.{next-none, shorter}
-use Rattle.listing.specs.Definition.Log.{logStep, lineAfter, lentTo, turn, textIn, textFrom, badText}
+use Rattle.events.specs.declared.Front.{Front}
+use Rattle.events.specs.declared.Front.the-variants.{Record, Cut, Bad}
+use Rattle.events.specs.Definition.Records.{frontOf, bodyOf, restOf, callIn}
+use Rattle.events.specs.Laws.Front.{front-none, shorter}
+use Rattle.listing.specs.Definition.Log.{logStep, lineAfter, lentTo, ending, turn, textIn, textFrom, badText}
 
-same-on : (f g : Tables → List ℕ → List ℕ → List ℕ → List ℕ) (t : Tables) (ram out : List ℕ) (v : Next)
-    → ((t′ : Tables) (ram′ out′ : List ℕ) (kind : ℕ) (body rest : List ℕ) → v ≡ found kind body rest → f t′ ram′ out′ rest ≡ g t′ ram′ out′ rest)
-    → turn f t ram out v ≡ turn g t ram out v
+same-on : (f g : Tables → List ℕ → List ℕ → List ℕ → List ℕ) (t : Tables) (ram out xs : List ℕ) (v : Front)
+    → ((t′ : Tables) (ram′ out′ : List ℕ) (kind n : ℕ) → v ≡ Record kind n → f t′ ram′ out′ (restOf xs n) ≡ g t′ ram′ out′ (restOf xs n))
+    → turn f t ram out xs v ≡ turn g t ram out xs v
 unfolding turn
-same-on f g t ram out finished h = refl
-same-on f g t ram out broken h = refl
-same-on f g t ram out (found kind body rest) h =
-    let r = logStep t ram out kind body in
-    ap (λ (l : List ℕ). lineAfter kind r ++ l) (h (r .tables) (r .ram) (r .output) kind body rest refl)
+same-on f g t ram out xs Cut h = refl
+same-on f g t ram out xs Bad h = refl
+same-on f g t ram out xs (Record kind n) h =
+    let r = logStep t ram out kind (bodyOf xs n) in
+    ap (λ (l : List ℕ). lineAfter kind r ++ l) (h (r .tables) (r .ram) (r .output) kind n refl)
+
+-- no byte, no text
+none : (f : Tables → List ℕ → List ℕ → List ℕ → List ℕ) (t : Tables) (ram out xs : List ℕ) → length xs ≤ 0 → [] ≡ turn f t ram out xs (frontOf xs)
+unfolding turn
+none f t ram out xs h = rw (← front-none xs (omega arith), eq-eqb (length xs) 0 (omega arith))
 
 -- more turns than bytes change nothing
 enough : (k m : ℕ) (t : Tables) (ram out xs : List ℕ) → length xs ≤ k → length xs ≤ m → textIn k t ram out xs ≡ textIn m t ram out xs
-unfolding textIn turn
+unfolding textIn
 enough zero zero t ram out xs h g = refl
-enough zero (suc m) t ram out xs h g = rw (next-none xs h)
-enough (suc k) zero t ram out xs h g = rw (next-none xs g)
+enough zero (suc m) t ram out xs h g = none (textIn m) t ram out xs h
+enough (suc k) zero t ram out xs h g = sym (none (textIn k) t ram out xs g)
 enough (suc k) (suc m) t ram out xs h g =
-    same-on (textIn k) (textIn m) t ram out (next xs)
-    (λ t′ ram′ out′ kind body rest e. enough k m t′ ram′ out′ rest (omega (arith, shorter xs kind body rest e)) (omega (arith, shorter xs kind body rest e)))
+    same-on (textIn k) (textIn m) t ram out xs (frontOf xs)
+    (λ t′ ram′ out′ kind n e. enough k m t′ ram′ out′ (restOf xs n) (omega (arith, shorter xs kind n e)) (omega (arith, shorter xs kind n e)))
 
 -- the whole log is one turn on its front, and the text of the rest: no record is left out
-pub text-turn : (t : Tables) (ram out xs : List ℕ) → textFrom t ram out xs ≡ turn textFrom t ram out (next xs)
-unfolding textFrom textIn turn
-text-turn t ram out [] = rw (next-none [] (omega arith))
+pub text-turn : (t : Tables) (ram out xs : List ℕ) → textFrom t ram out xs ≡ turn textFrom t ram out xs (frontOf xs)
+unfolding textFrom textIn
+text-turn t ram out [] = none textFrom t ram out [] (omega arith)
 text-turn t ram out (x ∷ xs) =
-    same-on (textIn (length xs)) textFrom t ram out (next (x ∷ xs))
-    (λ t′ ram′ out′ kind body rest e. enough (length xs) (length rest) t′ ram′ out′ rest (omega (arith, shorter (x ∷ xs) kind body rest e)) (omega arith))
+    same-on (textIn (length xs)) textFrom t ram out (x ∷ xs) (frontOf (x ∷ xs))
+    (λ t′ ram′ out′ kind n e. let rest = restOf (x ∷ xs) n in enough (length xs) (length rest) t′ ram′ out′ rest (omega (arith, shorter (x ∷ xs) kind n e)) (omega arith))
 
-pub text-found : (t : Tables) (ram out xs : List ℕ) (kind : ℕ) (body rest : List ℕ) → next xs ≡ found kind body rest
-    → let r = logStep t ram out kind body in textFrom t ram out xs ≡ lineAfter kind r ++ textFrom (r .tables) (r .ram) (r .output) rest
+pub text-record : (t : Tables) (ram out xs : List ℕ) (kind n : ℕ) → frontOf xs ≡ Record kind n
+    → let r = logStep t ram out kind (bodyOf xs n) in textFrom t ram out xs ≡ lineAfter kind r ++ textFrom (r .tables) (r .ram) (r .output) (restOf xs n)
 unfolding turn
-text-found t ram out xs kind body rest e = text-turn t ram out xs ∙ rw e
+text-record t ram out xs kind n e = text-turn t ram out xs ∙ rw e
 
-pub text-broken : (t : Tables) (ram out xs : List ℕ) → next xs ≡ broken → textFrom t ram out xs ≡ badText
+pub text-bad : (t : Tables) (ram out xs : List ℕ) → frontOf xs ≡ Bad → textFrom t ram out xs ≡ badText
 unfolding turn
-text-broken t ram out xs e = text-turn t ram out xs ∙ rw e
+text-bad t ram out xs e = text-turn t ram out xs ∙ rw e
+
+-- the input ends with less than a record
+pub text-cut : (t : Tables) (ram out xs : List ℕ) → frontOf xs ≡ Cut → textFrom t ram out xs ≡ ending (length xs)
+unfolding turn
+text-cut t ram out xs e = text-turn t ram out xs ∙ rw e
 
 pub text-finished : (t : Tables) (ram out : List ℕ) → textFrom t ram out [] ≡ []
 unfolding textFrom textIn

@@ -3,15 +3,15 @@ use mathlib.Core.Path.{_≡_, refl, sym, ap, _∙_}
 use mathlib.Core.List.{List}
 use Prim.Native.Nat.{ℕ, _≤_}
 use native.Mathlib.Omega.{arith}
-use lib.ListN.{length, take, drop, replicate, length-drop, length-replicate}
+use lib.ListN.{length, take, drop, length-drop}
 use lib.Seq.{length-take-le}
 use Rattle.kernel.specs.declared.Tables.{Tables}
 use Rattle.text.specs.Definition.Put.{Put}
 use Rattle.text.specs.Laws.One.{one-buffer, one-put}
-use Rattle.listing.specs.Definition.Pieces.{Stepped, Mark, Drains, full, more, ends, line, reached, ending, Lists}
+use Rattle.listing.specs.Definition.Pieces.{Stepped, Mark, Drains, full, more, ends, line, reached, Lists}
 use Rattle.listing.specs.declared.Drained.{Drained}
-use Rattle.listing.specs.declared.Front.{Front}
-use Rattle.listing.specs.declared.Front.the-variants.{Record, Cut, Bad}
+use Rattle.events.specs.declared.Front.{Front}
+use Rattle.events.specs.declared.Front.the-variants.{Record, Cut, Bad}
 use Rattle.listing.specs.declared.Listed.{Listed}
 use Rattle.listing.specs.declared.Listed.the-variants.{Text, Over}
 use Rattle.listing.specs.declared.Stop.{Stop}
@@ -86,8 +86,3 @@ one-listed log text text′ text″ Over Over l p q = (refl, λ z. absurd (z ref
 pub one-kept : (buf buf′ buf″ : List ℕ) (from n : ℕ) → (take n buf′ ≡ take n (drop from buf)) × (drop n buf′ ≡ drop n buf)
     → (take n buf″ ≡ take n (drop from buf)) × (drop n buf″ ≡ drop n buf) → buf′ ≡ buf″
 one-kept buf buf′ buf″ from n p q = one-buffer n (p .0 ∙ sym (q .0)) (p .1 ∙ sym (q .1))
-
--- the end of the input
-pub one-finished : (left : ℕ) {text text′ text″ : List ℕ} {at r s : ℕ} → ((xs : List ℕ) → length xs ≡ left → Put text text′ at r (ending xs))
-    → ((xs : List ℕ) → length xs ≡ left → Put text text″ at s (ending xs)) → (text′ ≡ text″) × (r ≡ s)
-one-finished left p q = let xs : List ℕ = replicate left 0 in one-put (p xs (length-replicate {A = ℕ} left 0)) (q xs (length-replicate {A = ℕ} left 0))

@@ -1,25 +1,15 @@
 -- Reading the log in pieces changes nothing.
 use mathlib.Core.Path.{_≡_, ap, _∙_}
-use mathlib.Core.Bool.{false}
 use mathlib.Core.List.{List, [], _∷_, _++_, append-assoc, append-nil}
 use Prim.Native.Nat.{ℕ}
-use native.Mathlib.Omega.{arith}
 use lib.ListN.{length, replicate}
-use lib.Dec.{eqb}
-use borrow.Author.Tests.{ne-eqb}
 use Rattle.kernel.specs.Definition.Start.{noTables}
 use Rattle.kernel.specs.declared.Tables.{Tables}
-use Rattle.listing.specs.Definition.Log.{textFrom, listing}
-use Rattle.listing.specs.Laws.Log.{text-broken, text-finished}
-use Rattle.listing.specs.Definition.Pieces.{ending}
-use Rattle.listing.specs.Laws.Pieces.{Short, Carry}
-
--- the input ends with less than a record
-pub text-short : (t : Tables) (ram out xs : List ℕ) → Short xs → textFrom t ram out xs ≡ ending xs
-text-short t ram out [] s = text-finished t ram out
-text-short t ram out (x ∷ xs) s =
-    let e : eqb (length (x ∷ xs)) 0 ≡ false = ne-eqb (length (x ∷ xs)) 0 (λ q. omega arith) in
-    text-broken t ram out (x ∷ xs) (rw e at (s .stops)) ∙ rw e
+use Rattle.events.specs.declared.Front.the-variants.{Cut}
+use Rattle.events.specs.Definition.Records.{frontOf}
+use Rattle.listing.specs.Definition.Log.{ending, textFrom, listing}
+use Rattle.listing.specs.Laws.Log.{text-cut}
+use Rattle.listing.specs.Laws.Pieces.{Carry}
 
 abbrev pub joined : List (List ℕ) → List ℕ
 joined [] = []
@@ -35,13 +25,13 @@ pub data Session : Tables → (ram out xs : List ℕ) → (pieces : List (List �
   -- the log is bad: nothing more is read
   failed : {t : Tables} {ram out xs text : List ℕ} {pieces : List (List ℕ)} → ((ys : List ℕ) → textFrom t ram out (xs ++ ys) ≡ text) → Session t ram out xs pieces text
   -- the input ends
-  over : {t : Tables} {ram out xs : List ℕ} → Short xs → Session t ram out xs [] (ending xs)
+  over : {t : Tables} {ram out xs : List ℕ} → frontOf xs ≡ Cut → Session t ram out xs [] (ending (length xs))
 
 session-text : {t : Tables} {ram out xs text : List ℕ} {pieces : List (List ℕ)} → Session t ram out xs pieces text → textFrom t ram out (xs ++ joined pieces) ≡ text
 session-text {pieces = pieces} (drained {text = text} c s) = c .holds (joined pieces) ∙ ap (λ (l : List ℕ). text ++ l) (session-text s)
 session-text {t} {ram} {out} {xs} (fetched {piece = piece} {pieces = pieces} s) = rw (← append-assoc xs piece (joined pieces)) (session-text s)
 session-text {pieces = pieces} (failed h) = h (joined pieces)
-session-text {t} {ram} {out} {xs} (over c) = rw (append-nil xs) (text-short t ram out xs c)
+session-text {t} {ram} {out} {xs} (over c) = rw (append-nil xs) (text-cut t ram out xs c)
 
 -- however the log is cut into pieces, what is written is the listing of the whole
 pub any-pieces : (pieces : List (List ℕ)) (text : List ℕ) → Session noTables (replicate 65536 0) (replicate 4096 0) [] pieces text → listing (joined pieces) ≡ text

@@ -13,7 +13,7 @@ use Rattle.rows.specs.Laws.Lists.{and-left, and-right}
 use Rattle.kernel.specs.Definition.Start.{noTables}
 use Rattle.kernel.specs.Definition.Step.{decided, completed, step}
 use Rattle.events.specs.Laws.Bodies.{Bytes}
-use Rattle.events.specs.Definition.Records.{next, startIn, callIn}
+use Rattle.events.specs.Definition.Records.{frontOf, startIn, callIn}
 use Rattle.history.specs.Definition.Runs.{Run}
 use Rattle.replay.specs.Definition.Replay.{EventRecord, recordsTo, recordsIn, records, bytesOf, replayed, before}
 use Rattle.replay.specs.Definition.Runs.{stateOf, since, Starts}
@@ -33,11 +33,11 @@ abbrev open-record : EventRecord
 open-record = record { kind = 1; body = 5 ∷ 0 ∷ 100 ∷ 0 ∷ 86 ∷ 73 ∷ 68 ∷ 69 ∷ 79 ∷ 58 ∷ [] }
 
 pub two-records : records buffer ≡ start-record ∷ open-record ∷ []
-unfolding records recordsIn recordsTo next
+unfolding records recordsIn recordsTo frontOf
 two-records = refl
 
 pub two-taken : bytesOf (records buffer) ≡ 24
-unfolding records recordsIn recordsTo next
+unfolding records recordsIn recordsTo frontOf
 two-taken = refl
 
 abbrev bytesTest : List ℕ → Bool

@@ -1,130 +1,47 @@
--- The records of a buffer, one at a time from any place of it.
-use mathlib.Core.Path.{_≡_, refl, sym, ap, _∙_}
-use mathlib.Core.Bool.{Bool, true, false, cond}
+-- The records of a buffer, one at a time.
+use mathlib.Core.Path.{_≡_, refl, ap, _∙_}
 use mathlib.Core.List.{List, [], _∷_}
-use mathlib.Core.Logic.{_⊎_, inl, inr}
-use Prim.Native.Nat.{ℕ, zero, suc, _+_, _-_, _≤_, _<_}
+use Prim.Native.Nat.{ℕ, zero, suc, _≤_}
 use native.Mathlib.Omega.{arith}
-use lib.Dec.{eqb}
-use lib.ListN.{length, take, drop, length-drop}
-use lib.Seq.{getD-drop, length-take-le}
-use Rattle.events.specs.Definition.Records.{u16At, Next, finished, broken, found, next}
-use Rattle.events.specs.Laws.Next.{next-none, next-cut, next-low, next-high, next-short, next-whole, next-found, shorter}
-use Rattle.replay.specs.Definition.Replay.{EventRecord, recordsTo, recordsIn, records, sizeTo, sizeOf}
+use lib.ListN.{length}
+use Rattle.events.specs.declared.Front.{Front}
+use Rattle.events.specs.declared.Front.the-variants.{Record, Cut, Bad}
+use Rattle.events.specs.Definition.Records.{frontOf, bodyOf, restOf}
+use Rattle.events.specs.Laws.Front.{front-none, shorter}
+use Rattle.replay.specs.Definition.Replay.{EventRecord, recordsTo, recordsIn, records}
 
-same-on : (f g : List ℕ → List EventRecord) (v : Next) → ((kind : ℕ) (body rest : List ℕ) → v ≡ found kind body rest → f rest ≡ g rest) → recordsTo f v ≡ recordsTo g v
+same-on : (f g : List ℕ → List EventRecord) (xs : List ℕ) (v : Front) → ((kind n : ℕ) → v ≡ Record kind n → f (restOf xs n) ≡ g (restOf xs n))
+    → recordsTo f xs v ≡ recordsTo g xs v
 unfolding recordsTo
-same-on f g finished h = refl
-same-on f g broken h = refl
-same-on f g (found kind body rest) h = ap (λ (rs : List EventRecord). record { kind = kind; body = body } ∷ rs) (h kind body rest refl)
+same-on f g xs Cut h = refl
+same-on f g xs Bad h = refl
+same-on f g xs (Record kind n) h = ap (λ (rs : List EventRecord). record { kind = kind; body = bodyOf xs n } ∷ rs) (h kind n refl)
 
 -- more turns than bytes change nothing
 enough : (k m : ℕ) (xs : List ℕ) → length xs ≤ k → length xs ≤ m → recordsIn k xs ≡ recordsIn m xs
 unfolding recordsIn recordsTo
 enough zero zero xs h g = refl
-enough zero (suc m) xs h g = rw (next-none xs h)
-enough (suc k) zero xs h g = rw (next-none xs g)
+enough zero (suc m) xs h g = rw (← front-none xs (omega arith))
+enough (suc k) zero xs h g = rw (← front-none xs (omega arith))
 enough (suc k) (suc m) xs h g =
-    same-on (recordsIn k) (recordsIn m) (next xs)
-    (λ kind body rest e. enough k m rest (omega (arith, shorter xs kind body rest e)) (omega (arith, shorter xs kind body rest e)))
+    same-on (recordsIn k) (recordsIn m) xs (frontOf xs) (λ kind n e. enough k m (restOf xs n) (omega (arith, shorter xs kind n e)) (omega (arith, shorter xs kind n e)))
 
 -- the record at the front and the records of the rest: none is left out
-pub records-turn : (xs : List ℕ) → records xs ≡ recordsTo records (next xs)
+pub records-turn : (xs : List ℕ) → records xs ≡ recordsTo records xs (frontOf xs)
 unfolding records recordsIn recordsTo
-records-turn [] = rw (next-none [] (omega arith))
+records-turn [] = rw (← front-none [] (omega arith))
 records-turn (x ∷ xs) =
-    same-on (recordsIn (length xs)) records (next (x ∷ xs))
-    (λ kind body rest e. enough (length xs) (length rest) rest (omega (arith, shorter (x ∷ xs) kind body rest e)) (omega arith))
+    same-on (recordsIn (length xs)) records (x ∷ xs) (frontOf (x ∷ xs))
+    (λ kind n e. let rest = restOf (x ∷ xs) n in enough (length xs) (length rest) rest (omega (arith, shorter (x ∷ xs) kind n e)) (omega arith))
 
-abbrev pub front : List ℕ → EventRecord
-front xs = record { kind = u16At xs 2; body = take (sizeOf xs - 4) (drop 4 xs) }
-
--- it is 0 exactly where no record is found, and else says which one is, and what the rest is
-pub size-none : (xs : List ℕ) → sizeOf xs ≡ 0 → (next xs ≡ finished) ⊎ (next xs ≡ broken)
-unfolding sizeOf
-size-none xs z = go (next xs) refl
-  where
-    go : (v : Next) → next xs ≡ v → (next xs ≡ finished) ⊎ (next xs ≡ broken)
-    go finished e = inl e
-    go broken e = inr e
-    go (found kind body rest) e = let s : 4 + length body ≡ 0 = rw e at z in absurd (omega arith)
-
-pub size-some : (xs : List ℕ) → (sizeOf xs ≡ 0 → ⊥) → next xs ≡ found (u16At xs 2) (take (sizeOf xs - 4) (drop 4 xs)) (drop (sizeOf xs) xs)
-unfolding sizeOf
-size-some xs s = go (next xs) refl
-  where
-    go : (v : Next) → next xs ≡ v → next xs ≡ found (u16At xs 2) (take (sizeOf xs - 4) (drop 4 xs)) (drop (sizeOf xs) xs)
-    go finished e = absurd (s (rw e))
-    go broken e = absurd (s (rw e))
-    go (found kind body rest) e =
-        let f = next-found xs kind body rest e in
-        let l : 4 + length body - 4 ≡ length body = omega arith in
-        rw (e, f .kind-is, l, f .body-is, f .rest-is)
-
--- the buffer has it whole
-pub size-fits : (xs : List ℕ) (n : ℕ) → n ≡ sizeOf xs → (n ≡ 0 → ⊥) → (4 ≤ n) × (n ≤ length xs)
-unfolding sizeOf
-size-fits xs n q s = go (next xs) refl
-  where
-    go : (v : Next) → next xs ≡ v → (4 ≤ n) × (n ≤ length xs)
-    go finished e = absurd (s (rw e at q))
-    go broken e = absurd (s (rw e at q))
-    go (found kind body rest) e =
-        let l : n ≡ 4 + length body = rw e at q in
-        (omega arith, omega (arith, next-found xs kind body rest e .fits))
-
--- no record at the front, and one
-pub records-none : (xs : List ℕ) → sizeOf xs ≡ 0 → records xs ≡ []
+pub records-cut : (xs : List ℕ) → frontOf xs ≡ Cut → records xs ≡ []
 unfolding recordsTo
-records-none xs z = elim (size-none xs z) [
-  | inl e ↦ records-turn xs ∙ rw e
-  | inr e ↦ records-turn xs ∙ rw e
-]
+records-cut xs e = records-turn xs ∙ rw e
 
-pub records-more : (xs : List ℕ) → (sizeOf xs ≡ 0 → ⊥) → records xs ≡ front xs ∷ records (drop (sizeOf xs) xs)
+pub records-bad : (xs : List ℕ) → frontOf xs ≡ Bad → records xs ≡ []
 unfolding recordsTo
-records-more xs s = records-turn xs ∙ rw (size-some xs s)
+records-bad xs e = records-turn xs ∙ rw e
 
--- what stands at the place `at` of a buffer
-pub at-front : (xs : List ℕ) (at i : ℕ) → u16At (drop at xs) i ≡ u16At xs (at + i)
-at-front xs at i =
-    let q : at + (i + 1) ≡ at + i + 1 = omega arith in
-    rw (getD-drop at xs i 0, getD-drop at xs (i + 1) 0, q)
-
-module _ (xs : List ℕ) (at : ℕ) where
-  long : length (drop at xs) ≡ length xs - at
-  long = length-drop at xs
-
-  pub size-cut : length xs - at < 2 → 0 ≡ sizeOf (drop at xs)
-  unfolding sizeOf
-  size-cut h = rw (next-cut (drop at xs) (omega (arith, long))) (none (eqb (length (drop at xs)) 0))
-    where
-      none : (b : Bool) → 0 ≡ sizeTo (cond b finished broken)
-      none true = refl
-      none false = refl
-
-  module _ (n : ℕ) (e : n ≡ u16At xs at) (two : 2 ≤ length xs - at) where
-    is : n ≡ u16At (drop at xs) 0
-    is = let z : at + 0 ≡ at = omega arith in e ∙ sym (rw z at (at-front xs at 0))
-
-    some : 2 ≤ length (drop at xs)
-    some = omega (arith, long)
-
-    pub size-low : n < 2 → 0 ≡ sizeOf (drop at xs)
-    unfolding sizeOf
-    size-low h = rw (next-low (drop at xs) n is some h)
-
-    pub size-high : 4096 < n → 0 ≡ sizeOf (drop at xs)
-    unfolding sizeOf
-    size-high h = rw (next-high (drop at xs) n is some h)
-
-    pub size-short : 2 ≤ n → n ≤ 4096 → length xs - at < 2 + n → 0 ≡ sizeOf (drop at xs)
-    unfolding sizeOf
-    size-short l g h = rw (next-short (drop at xs) n is some l g (omega (arith, long)))
-
-    pub size-whole : 2 ≤ n → n ≤ 4096 → 2 + n ≤ length xs - at → 2 + n ≡ sizeOf (drop at xs)
-    unfolding sizeOf
-    size-whole l g h =
-        let w = next-whole (drop at xs) n is some l g (omega (arith, long)) in
-        let b = length-take-le (n - 2) (drop 4 (drop at xs)) (rw length-drop (omega (arith, long))) in
-        rw (w, b) (omega arith)
+pub records-more : (xs : List ℕ) (kind n : ℕ) → frontOf xs ≡ Record kind n → records xs ≡ record { kind = kind; body = bodyOf xs n } ∷ records (restOf xs n)
+unfolding recordsTo
+records-more xs kind n e = records-turn xs ∙ rw e

@@ -10,8 +10,9 @@ use lib.Seq.{getD-drop}
 use Rattle.kernel.specs.Definition.Answers.{granted}
 use Rattle.kernel.specs.Definition.Calls.{Call, start, reset, «open», close, read, write, default, status, link, boundary, set-user-boundary, allocate, free, store, load, no-call, short-start}
 use Rattle.kernel.specs.Definition.Step.{Result, heard, decided, completed, step}
-use Rattle.events.specs.Definition.Records.{Next, finished, broken, found, next}
-use Rattle.events.specs.Laws.Next.{next-found}
+use Rattle.events.specs.declared.Front.{Front}
+use Rattle.events.specs.declared.Front.the-variants.{Record, Cut, Bad}
+use Rattle.events.specs.Definition.Records.{frontOf, restOf}
 use Rattle.events.specs.Laws.Bodies.{Bytes, call-fields}
 use Rattle.history.specs.Definition.Runs.{State, History, after, event, stay, then, Run, LastWritten}
 use Rattle.history.specs.Bytes.BytesRead.{bytes-read}
@@ -34,18 +35,16 @@ take-bytes (suc n) (x ∷ xs) b (suc i) = take-bytes n xs (λ j. b (suc j)) i
 drop-bytes : (n : ℕ) (xs : List ℕ) → Bytes xs → Bytes (drop n xs)
 drop-bytes n xs b i = rw (getD-drop n xs i 0) (b (n + i))
 
-bytes-to : (more : List ℕ → List EventRecord) → ((ys : List ℕ) → Bytes ys → OfBytes (more ys)) → (xs : List ℕ) → Bytes xs → (v : Next) → next xs ≡ v → OfBytes (recordsTo more v)
+bytes-to : (more : List ℕ → List EventRecord) → ((ys : List ℕ) → Bytes ys → OfBytes (more ys)) → (xs : List ℕ) → Bytes xs → (v : Front) → OfBytes (recordsTo more xs v)
 unfolding recordsTo
-bytes-to more m xs b finished e = tt
-bytes-to more m xs b broken e = tt
-bytes-to more m xs b (found kind body rest) e =
-    let f = next-found xs kind body rest e in
-    (subst Bytes (f .body-is) (take-bytes (length body) (drop 4 xs) (drop-bytes 4 xs b)), m rest (subst Bytes (f .rest-is) (drop-bytes (4 + length body) xs b)))
+bytes-to more m xs b Cut = tt
+bytes-to more m xs b Bad = tt
+bytes-to more m xs b (Record kind n) = (take-bytes n (drop 4 xs) (drop-bytes 4 xs b), m (restOf xs n) (drop-bytes (4 + n) xs b))
 
 in-bytes : (k : ℕ) (xs : List ℕ) → Bytes xs → OfBytes (recordsIn k xs)
 unfolding recordsIn
 in-bytes zero xs b = tt
-in-bytes (suc k) xs b = bytes-to (recordsIn k) (in-bytes k) xs b (next xs) refl
+in-bytes (suc k) xs b = bytes-to (recordsIn k) (in-bytes k) xs b (frontOf xs)
 
 pub records-bytes : (xs : List ℕ) → Bytes xs → OfBytes (records xs)
 unfolding records

@@ -6,10 +6,11 @@ use native.Mathlib.Omega.{arith}
 use borrow.Author.Needs.{needs}
 use lib.ListN.{length, take, drop}
 use Rattle.listing.specs.Definition.NoneOrGood.{NoneOrGood}
-use Rattle.listing.specs.declared.Front.the-variants.{Record}
+use Rattle.events.specs.declared.Front.the-variants.{Record}
+use Rattle.events.specs.Definition.Records.{frontOf}
+use Rattle.events.specs.Laws.Front.{front-at, within}
 use Rattle.listing.specs.declared.Stop.{Stop}
-use Rattle.listing.specs.Definition.Pieces.{frontOf, Mark, begin, Drains}
-use Rattle.listing.proofs.Fronts.{front-at, whole-at, within}
+use Rattle.listing.specs.Definition.Pieces.{Mark, begin, Drains}
 use Rattle.listing.proofs.Carries.{put-behind, mark, drain-full, drain-more, drain-bad, drain-at}
 use Rattle.listing.proofs.buffers.drain.Statement.{statement}
 use Rattle.listing.proofs.buffers.drain.Tie as tie
@@ -79,7 +80,7 @@ front c = front-at (now (c .before .before .before .before .before .before .befo
 
 fits : (c : tie.After-known-told Inv-loop μ-loop)
     → c .before .before .before .before .before .before .loop .at + 4 + c .before .f .given .0 .1 .0 ≤ length (now (c .before .before .before .before .before .before .before .before .before .args .input))
-fits c = within (now (c .before .before .before .before .before .before .before .before .before .args .input)) (c .before .before .before .before .before .before .loop .at) (c .before .f .given .0 .0) (c .before .f .given .0 .1 .0) (whole-at _ _ _ (front c))
+fits c = within (now (c .before .before .before .before .before .before .before .before .before .args .input)) (c .before .before .before .before .before .before .loop .at) (c .before .f .given .0 .0) (c .before .f .given .0 .1 .0) (front c)
 
 add-from : tie.Need-add-from Inv-loop μ-loop
 add-from c = omega (arith, fits c)

@@ -1,6 +1,5 @@
 -- `listing::finish` meets its contract.
 use denote.Ref.{now}
-use mathlib.Core.Path.{sym, _∙_}
 use native.Mathlib.Omega.{arith}
 use Rattle.listing.proofs.Carries.{end-none, end-bad}
 use borrow.Author.Needs.{needs}
@@ -8,7 +7,7 @@ use Rattle.listing.proofs.pieces.finish.Statement.{statement}
 use Rattle.listing.proofs.pieces.finish.Tie as tie
 
 returns : tie.Need-returns
-returns c = (λ xs h. end-none xs (now (c .before .before .args .text)) _ (h ∙ c .if1 .taken), omega arith)
+returns c = (end-none _ (now (c .before .before .args .text)) _ (c .if1 .taken), omega arith)
 
 put-bad-requires : tie.Need-put-bad-requires
 put-bad-requires c κs = search needs
@@ -17,7 +16,7 @@ same-length : tie.Need-same-length
 same-length c = search needs
 
 returns-2 : tie.Need-returns-2
-returns-2 c = let p = c .before .before .put-bad in (λ xs h. end-bad xs _ _ _ _ (λ z. c .before .before .before .before .if1 .left (sym h ∙ z)) (p .ensures .0), p .ensures .1)
+returns-2 c = let p = c .before .before .put-bad in (end-bad _ _ _ _ _ (c .before .before .before .before .if1 .left) (p .ensures .0), p .ensures .1)
 
 pub finish-spec : {M : Type 1} → statement M
 finish-spec = tie.close (tie.spec returns put-bad-requires same-length returns-2)

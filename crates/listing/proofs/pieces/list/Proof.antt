@@ -2,7 +2,6 @@
 use denote.Ref.{now}
 use mathlib.Core.Path.{refl}
 use native.Mathlib.Omega.{arith}
-use lib.ListN.{drop, length-drop}
 use lib.Seq.{length-take-le}
 use Rattle.listing.specs.Definition.NoneOrGood.{none}
 use Rattle.listing.proofs.Carries.{put-behind}
@@ -72,7 +71,7 @@ returns-3 c =
     let text = now (c .before .before .before .before .before .before .before .before .before .before .before .before .before .before .before .args .text) in
     let stop = c .before .before .before .before .enum-told3 .given .1 in
     let f = c .before .before .finish in
-    let p = f .ensures .0 (drop (d .result .taken) log) (length-drop (d .result .taken) log) in (
+    let p = f .ensures .0 in (
       listed-text _ n log (d .result) (d .last .1 .0) (d .last .1 .1 .0) (d .last .1 .1 .1 .1 .0) (d .ensures .0) stop _ _ p,
       f .ensures .1,
       put-behind text (d .ensures .4) p,
