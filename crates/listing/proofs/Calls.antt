@@ -14,7 +14,6 @@ use Rattle.kernel.specs.declared.Tables.{Tables}
 use Rattle.kernel.specs.declared.Outcome.{Outcome}
 use Rattle.kernel.specs.declared.Answer.the-variants.{BadTables}
 use Rattle.events.specs.Definition.Records.{stepOf}
-use Rattle.events.specs.Laws.Bodies.{Bytes}
 use Rattle.events.proofs.ByKind.{bad-tables}
 use Rattle.text.specs.Definition.Put.{Put}
 use Rattle.listing.specs.Definition.Log.{lineOf, lentTo, onRest, logStep}
@@ -62,5 +61,5 @@ module _ (t : Tables) (ram out : List ℕ) (kind : ℕ) (body : List ℕ) (n : �
         room = room;
       }
 
-  pub good-after : length ram ≡ 65536 → Bytes body → NoneOrGood t → NoneOrGood (o .tables)
-  good-after s b k = rw (ap (λ (v : Result). v .tables) left) (record-keeps t ram out kind body s b k)
+  pub good-after : length ram ≡ 65536 → NoneOrGood t → NoneOrGood (o .tables)
+  good-after s k = rw (ap (λ (v : Result). v .tables) left) (record-keeps t ram out kind body s k)

@@ -18,18 +18,17 @@ use Rattle.kernel.specs.declared.Outcome.{Outcome}
 use Rattle.events.specs.declared.Front.the-variants.{Record}
 use Rattle.events.specs.Definition.Records.{frontOf, bodyOf, callIn, stepOf}
 use Rattle.events.specs.Laws.Front.{whole, within}
-use Rattle.events.specs.Laws.Bodies.{Bytes, call-fields}
 use Rattle.replay.specs.Definition.Replay.{EventRecord, records, bytesOf, asked, replayed}
 use Rattle.replay.specs.Laws.Records.{records-more}
 
 pub accepted-ready : (t : Tables) (ram : ℕ) (b : Bool) → b ≡ accepted t ram → (b ≡ true → Good t) → b ≡ true → Good t × (ram ≡ ramSize t)
 accepted-ready t ram b e g h = (g h, eqb-true ram (ramSize t) (and-right (goodTest t) (eqb ram (ramSize t)) (sym e ∙ h)))
 
-pub stays-ready : (t : Tables) (ram : List ℕ) (kind : ℕ) (body out : List ℕ) (r : Outcome) (ram' out' : List ℕ) → Good t × (length ram ≡ ramSize t) → Bytes body
+pub stays-ready : (t : Tables) (ram : List ℕ) (kind : ℕ) (body out : List ℕ) (r : Outcome) (ram' out' : List ℕ) → Good t × (length ram ≡ ramSize t)
     → length ram' ≡ length ram → result r ram' out' ≡ stepOf t ram kind body out → Good (r .tables) × (length ram' ≡ ramSize (r .tables))
 unfolding step completed
-stays-ready t ram kind body out r ram' out' h b l e =
-    let k = decided-ready t (length ram) (length out) (callIn kind body) (record { good = h .0; size = h .1 }) (call-fields kind body b) in
+stays-ready t ram kind body out r ram' out' h l e =
+    let k = decided-ready t (length ram) (length out) (callIn kind body) (record { good = h .0; size = h .1 }) in
     rw (l, ap (λ (x : Result). x .tables) e) (k .good, k .size)
 
 -- the replay from `first` has come with m to the place `at` of the buffer: the records from there on are still to be asked

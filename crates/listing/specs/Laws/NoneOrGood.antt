@@ -18,7 +18,6 @@ use Rattle.kernel.specs.Definition.Tables.{ramSize}
 use Rattle.kernel.specs.Laws.Ready.{decided-ready, start-ready}
 use Rattle.kernel.specs.declared.Tables.{Tables}
 use Rattle.events.specs.Definition.Records.{u16At, startIn, callIn}
-use Rattle.events.specs.Laws.Bodies.{Bytes, call-fields}
 use Rattle.listing.specs.Definition.NoneOrGood.{NoneOrGood, none, started}
 use Rattle.listing.specs.Definition.Log.{lentTo, logStep}
 use Rattle.listing.specs.Laws.Starts.{before-start, refused-leaves, short-answers}
@@ -55,22 +54,22 @@ module _ (t : Tables) (ram out : List ℕ) (body : List ℕ) (s : length ram ≡
   ]
 
   -- any other kind that is done
-  other-leaves : (kind : ℕ) → (kind ≡ 256 → ⊥) → Bytes body → NoneOrGood t → granted (logStep t ram out kind body .answer) ≡ true → NoneOrGood (logStep t ram out kind body .tables)
+  other-leaves : (kind : ℕ) → (kind ≡ 256 → ⊥) → NoneOrGood t → granted (logStep t ram out kind body .answer) ≡ true → NoneOrGood (logStep t ram out kind body .tables)
   unfolding logStep step completed
-  other-leaves kind n b (none e) d = absurd (false≢true (sym (ap granted (rw (← e) at (before-start ram out kind body n))) ∙ d))
-  other-leaves kind n b (started g l) d =
+  other-leaves kind n (none e) d = absurd (false≢true (sym (ap granted (rw (← e) at (before-start ram out kind body n))) ∙ d))
+  other-leaves kind n (started g l) d =
       let e = lent-theirs t kind (length body) n l in
       let q = lent-size ram (t .segments) kind (length body) s in
       let lent = length (take (lentTo (t .segments) kind (length body)) ram) in
-      let r = decided-ready t lent (length out) (callIn kind body) (record { good = g; size = q ∙ e }) (call-fields kind body b) in
+      let r = decided-ready t lent (length out) (callIn kind body) (record { good = g; size = q ∙ e }) in
       started (r .good) (omega (arith, r .size))
 
 -- a record keeps what is carried: no test of the tables is run for each
-pub record-keeps : (t : Tables) (ram out : List ℕ) (kind : ℕ) (body : List ℕ) → length ram ≡ 65536 → Bytes body → NoneOrGood t → NoneOrGood (logStep t ram out kind body .tables)
-record-keeps t ram out kind body s b h = elim (split (granted (logStep t ram out kind body .answer))) [
+pub record-keeps : (t : Tables) (ram out : List ℕ) (kind : ℕ) (body : List ℕ) → length ram ≡ 65536 → NoneOrGood t → NoneOrGood (logStep t ram out kind body .tables)
+record-keeps t ram out kind body s h = elim (split (granted (logStep t ram out kind body .answer))) [
   | inl d ↦ elim (ℕ-discrete kind 256) [
     | yes e ↦ rw e (start-leaves t ram out body s (rw e at d))
-    | no e ↦ other-leaves t ram out body s kind e b h d
+    | no e ↦ other-leaves t ram out body s kind e h d
   ]
   | inr d ↦ rw (refused-leaves t ram out kind body d) h
 ]

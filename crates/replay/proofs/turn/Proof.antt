@@ -1,5 +1,4 @@
 -- `replay::turn` meets its contract.
-use native.Mathlib.Omega.{arith}
 use Rattle.replay.proofs.Laws.{stays-ready}
 use borrow.Author.Needs.{needs}
 use Rattle.replay.proofs.turn.Statement.{statement}
@@ -15,7 +14,7 @@ same-length-2 : tie.Need-same-length-2
 same-length-2 c = search needs
 
 returns : tie.Need-returns
-returns c = (c .before .before .before .before .call-good .ensures, λ _. stays-ready _ _ _ _ _ _ _ _ (c .before .before .before .before .before .before .before .before .before .before .before .pre (c .before .before .before .before .before .before .before .if1 .taken)) (λ i. omega (arith, c .before .before .before .before .before .before .before .before .before .shared-slice-known .given i)) (c .before .before .before .before .call-good .kept .1 .0) (c .before .before .before .before .call-good .ensures))
+returns c = (c .before .before .before .before .call-good .ensures, λ _. stays-ready _ _ _ _ _ _ _ _ (c .before .before .before .before .before .before .before .before .before .before .before .pre (c .before .before .before .before .before .before .before .if1 .taken)) (c .before .before .before .before .call-good .kept .1 .0) (c .before .before .before .before .call-good .ensures))
 
 call-requires : tie.Need-call-requires
 call-requires c κs = search needs

@@ -1,18 +1,12 @@
 -- A buffer with 01's start, an open and a record that is cut: two records are replayed, and what they leave is a state of a run.
 use mathlib.Core.Path.{_≡_, refl}
-use mathlib.Core.Bool.{Bool, true, _&&_}
 use mathlib.Core.List.{List, [], _∷_}
 use mathlib.Core.Logic.{inl}
-use Prim.Native.Nat.{ℕ, zero, suc}
-use native.Mathlib.Omega.{arith}
-use borrow.Author.Tests.{ltb-true}
-use lib.Dec.{ltb}
+use Prim.Native.Nat.{ℕ}
 use lib.ListN.{length}
 use Rattle.rows.specs.Definition.Lists.{upTo}
-use Rattle.rows.specs.Laws.Lists.{and-left, and-right}
 use Rattle.kernel.specs.Definition.Start.{noTables}
 use Rattle.kernel.specs.Definition.Step.{decided, completed, step}
-use Rattle.events.specs.Laws.Bodies.{Bytes}
 use Rattle.events.specs.Definition.Records.{frontOf, startIn, callIn}
 use Rattle.history.specs.Definition.Runs.{Run}
 use Rattle.replay.specs.Definition.Replay.{EventRecord, recordsTo, recordsIn, records, bytesOf, replayed, before}
@@ -40,19 +34,10 @@ pub two-taken : bytesOf (records buffer) ≡ 24
 unfolding records recordsIn recordsTo frontOf
 two-taken = refl
 
-abbrev bytesTest : List ℕ → Bool
-bytesTest [] = true
-bytesTest (x ∷ xs) = ltb x 256 && bytesTest xs
-
-tested : (xs : List ℕ) → bytesTest xs ≡ true → Bytes xs
-tested [] e i = omega arith
-tested (x ∷ xs) e zero = ltb-true x 256 (and-left (ltb x 256) (bytesTest xs) e)
-tested (x ∷ xs) e (suc i) = tested xs (and-right (ltb x 256) (bytesTest xs) e) i
-
 module _ (ram out : List ℕ) (four : length ram ≡ 65536) where
   starts-here : Starts (before noTables ram out) (records buffer)
   unfolding step completed decided noTables upTo callIn startIn
   starts-here = rw two-records (inl (rw four))
 
   pub run-here : Run (since [] (before noTables ram out) (records buffer)) (stateOf (replayed (before noTables ram out) (records buffer)))
-  run-here = replay-run (before noTables ram out) buffer (tested buffer refl) starts-here
+  run-here = replay-run (before noTables ram out) buffer starts-here

@@ -58,7 +58,7 @@ returns c =
       stepped (a .t) (now (a .ram)) (now (a .out)) (a .kind) (now (a .body)) (n .result) (n .ensures .0) (k .result) ram out (k .ensures)
           (now (a .text)) (a .used) _ _ _ x y (c .before .before .before .before .before .before .b .ensures) (l .last .1 .1 .1 .1 .1 .0) (l .result) (l .ensures .0) (l .ensures .1),
       good-after (a .t) (now (a .ram)) (now (a .out)) (a .kind) (now (a .body)) (n .result) (n .ensures .0) (k .result) ram out (k .ensures)
-          (s .pre .1) (λ i. omega (arith, c .before .before .before .before .before .before .before .before .before .before .before .before .before .before .before .before .before .before .before .shared-slice-known .given i)) (s .pre .0),
+          (s .pre .1) (s .pre .0),
     )
 
 pub record-spec : {M : Type 1} → statement M
