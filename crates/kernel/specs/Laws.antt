@@ -7,8 +7,8 @@ pub mod Shrink
 pub mod Facts
 pub mod Chains
 pub mod Records
-pub mod KeptLine
 pub mod Room
+pub mod KeptLine
 pub mod KeptSegments
 pub mod KeptNames
 pub mod KeptReset

@@ -18,7 +18,8 @@ use Rattle.kernel.specs.Definition.Step.{heard, decided, completed, step
 use Rattle.rows.specs.Laws.ChannelRows.{place-none}
 use Rattle.kernel.specs.Laws.Arrays.{link-default, word-good}
 use Rattle.kernel.specs.Laws.Body.{body}
-use Rattle.kernel.specs.Laws.KeptLine.{shares-yes, shares-no, opening-keeps, closing-keeps}
+use Rattle.kernel.specs.Laws.Room.{shares-yes, shares-no}
+use Rattle.kernel.specs.Laws.KeptLine.{opening-keeps, closing-keeps}
 use Rattle.kernel.specs.Laws.KeptSegments.{class-outside, granting-keeps, sharing-keeps, freeing-shared, freeing-outside, bounding-keeps}
 use Rattle.kernel.specs.Laws.KeptNames.{linking-keeps, naming-keeps}
 use Rattle.kernel.specs.Laws.KeptReset.{resetting-keeps, start-good}

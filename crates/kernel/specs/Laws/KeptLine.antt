@@ -19,49 +19,30 @@ use Rattle.rows.specs.declared.Channel.{Channel}
 use Rattle.kernel.specs.Definition.Tables.{SEGMENT, classAt, countOf, sharing, lastRow, withChannels}
 use Rattle.kernel.specs.Definition.Line.{totalOf, grown, roomFor, opening, closing}
 use Rattle.kernel.specs.Definition.Good.{Good}
-use Rattle.kernel.specs.Laws.Body.{Shares, Body, body, whole, last-known, first-class, body-channels, keeps-total}
+use Rattle.kernel.specs.Within.{spare}
+use Rattle.kernel.specs.Laws.Body.{Body, body, whole, last-known, first-class, body-channels, keeps-total}
 use Rattle.kernel.specs.Laws.Facts.{no-shorter}
 use Rattle.kernel.specs.Laws.Grow.{grown-body, grown-rest}
+use Rattle.kernel.specs.Laws.Room.{shares-no, line-sum, room-says}
 use Rattle.kernel.specs.Laws.Shrink.{cut}
 use Rattle.kernel.specs.declared.Tables.{Tables}
-
--- a segment is shared exactly if the chain's last is
-pub shares-yes : (t : Tables) → Body t → sharing t ≡ true → Shares t
-shares-yes t b e =
-    let row = firstOf SHARED (take (t .segments) (t .classes)) in
-    let h : row < t .segments = ltb-true _ _ e in
-    let five : classAt t row ≡ SHARED = first-class t b SHARED h in
-    rw (b .chain .last row h five) five
-
-pub shares-no : (t : Tables) → Body t → sharing t ≡ false → Shares t → ⊥
-shares-no t b f e =
-    let cs = take (t .segments) (t .classes) in
-    let h : t .segments ≤ firstOf SHARED cs = ltb-false _ _ f in
-    let r : lastRow t < t .segments = last-known t b in
-    let l : length cs ≡ t .segments = omega (arith, length-take (t .segments) (t .classes), b .sized .classes, b .list .most) in
-    first-none SHARED cs (omega arith) (lastRow t) (omega arith) (getD-take (t .segments) (t .classes) (lastRow t) 0 r ∙ e)
-
--- the room rule, read: with a segment shared, and with none
-room-shared : (t : Tables) (r n : ℕ) → sharing t ≡ true → roomFor t r n ≡ true → (chainLength r n ≡ t .held) × (t .user ≤ boundaryAt r n)
-unfolding roomFor
-room-shared t r n s e =
-    let f : eqb (chainLength r n) (t .held) && leb (t .user) (boundaryAt r n) ≡ true = rw s at e in
-    (eqb-true _ _ (and-left _ _ f), leb-true _ _ (and-right (eqb (chainLength r n) (t .held)) _ f))
-
-room-apart : (t : Tables) (r n : ℕ) → sharing t ≡ false → roomFor t r n ≡ true → n ≤ r + SEGMENT * (t .held - 1 + countOf FREE t)
-unfolding roomFor
-room-apart t r n s e = leb-true _ _ (rw s at e)
 
 fill-by : (t : Tables) (k : ℕ) → Body t → t .held + k ≡ chainLength (t .room) (totalOf t) → roomFor t (t .room) (totalOf t) ≡ true
     → (shared : Bool) → sharing t ≡ shared → Good (grown k t)
 unfolding grown
 fill-by t k b l e true s =
-    let f = room-shared t (t .room) (totalOf t) s e in
+    let h = room-says t b (t .room) (totalOf t) (omega arith) .yes e in
+    let none : spare t ≡ 0 = rw s in
+    let m = chain-most (t .room) (totalOf t) (t .held - 1) (omega arith) in
+    let some = b .chain .holds in
     let z : k ≡ 0 = omega arith in
-    rw z (whole t b (sym (f .0)) (f .1))
+    let q : t .held ≡ chainLength (t .room) (totalOf t) = omega arith in
+    rw z (whole t b q (omega (arith, line-sum (t .room) (totalOf t))))
 fill-by t k b l e false s =
+    let h = room-says t b (t .room) (totalOf t) (omega arith) .yes e in
+    let free : spare t ≡ countOf FREE t = rw s in
     let a = shares-no t b s in
-    let m = chain-most (t .room) (totalOf t) (t .held - 1 + countOf FREE t) (room-apart t (t .room) (totalOf t) s e) in
+    let m = chain-most (t .room) (totalOf t) (t .held - 1 + countOf FREE t) (omega arith) in
     let r = grown-rest k t in
     whole (grown k t) (grown-body k t b a (omega (arith, b .chain .holds))) (rw (r .keeps .room, keeps-total (r .keeps), r .held) l) (omega (arith, r .user, b .none a))
 
