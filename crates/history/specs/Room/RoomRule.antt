@@ -16,7 +16,7 @@ use Rattle.kernel.specs.Definition.Line.{roomFor}
 use Rattle.kernel.specs.Definition.Good.{Good}
 use Rattle.kernel.specs.Laws.Body.{body}
 use Rattle.kernel.specs.Laws.Facts.{chain-exactly, user-small}
-use Rattle.kernel.specs.Laws.Room.{shares-no, room-says}
+use Rattle.kernel.specs.Laws.Room.{shares-no, room-in-bytes}
 use Rattle.kernel.specs.Within.{spare}
 use Rattle.kernel.specs.declared.Tables.{Tables}
 use Rattle.history.specs.Room.Sums.{total}
@@ -31,7 +31,7 @@ module _ (t : Tables) (g : Good t) (r : ℕ) (small : r ≤ 16384) (lengths : Li
   fits c = outside-exists t g r (offered t) small (user-small t g) (λ row b e. rw e) c lengths (rw (top-in t g))
 
   rule : Says (roomFor t r (total lengths)) (total lengths + t .user ≤ r + 16384 * (t .held - 1 + spare t))
-  rule = room-says t (body t g) r (total lengths) long
+  rule = room-in-bytes t (body t g) r (total lengths) long
 
   go : (s : Bool) → sharing t ≡ s → (roomFor t r (total lengths) ≡ true) ↔ (Layout lengths (Outside t r (offered t)) × Clear t r)
   go true s =

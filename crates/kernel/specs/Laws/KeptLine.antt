@@ -23,7 +23,7 @@ use Rattle.kernel.specs.Within.{spare}
 use Rattle.kernel.specs.Laws.Body.{Body, body, whole, last-known, first-class, body-channels, keeps-total}
 use Rattle.kernel.specs.Laws.Facts.{no-shorter}
 use Rattle.kernel.specs.Laws.Grow.{grown-body, grown-rest}
-use Rattle.kernel.specs.Laws.Room.{shares-no, line-sum, room-says}
+use Rattle.kernel.specs.Laws.Room.{shares-no, line-sum, room-in-bytes}
 use Rattle.kernel.specs.Laws.Shrink.{cut}
 use Rattle.kernel.specs.declared.Tables.{Tables}
 
@@ -31,7 +31,7 @@ fill-by : (t : Tables) (k : ℕ) → Body t → t .held + k ≡ chainLength (t .
     → (shared : Bool) → sharing t ≡ shared → Good (grown k t)
 unfolding grown
 fill-by t k b l e true s =
-    let h = room-says t b (t .room) (totalOf t) (omega arith) .yes e in
+    let h = room-in-bytes t b (t .room) (totalOf t) (omega arith) .yes e in
     let none : spare t ≡ 0 = rw s in
     let m = chain-most (t .room) (totalOf t) (t .held - 1) (omega arith) in
     let some = b .chain .holds in
@@ -39,7 +39,7 @@ fill-by t k b l e true s =
     let q : t .held ≡ chainLength (t .room) (totalOf t) = omega arith in
     rw z (whole t b q (omega (arith, line-sum (t .room) (totalOf t))))
 fill-by t k b l e false s =
-    let h = room-says t b (t .room) (totalOf t) (omega arith) .yes e in
+    let h = room-in-bytes t b (t .room) (totalOf t) (omega arith) .yes e in
     let free : spare t ≡ countOf FREE t = rw s in
     let a = shares-no t b s in
     let m = chain-most (t .room) (totalOf t) (t .held - 1 + countOf FREE t) (omega arith) in

@@ -61,8 +61,8 @@ module _ (t : Tables) (b : Body t) (r n : ℕ) (long : t .held ≤ chainLength r
       let z : t .user ≡ 0 = b .none (shares-no t b s) in
       rw s (says-as (says-le n (r + SEGMENT * (t .held - 1 + countOf FREE t))) (λ h. omega arith) (λ e. omega arith))
 
-  pub room-says : Says (roomFor t r n) (n + t .user ≤ r + SEGMENT * (t .held - 1 + spare t))
-  room-says = says-by (sharing t) refl
+  pub room-in-bytes : Says (roomFor t r n) (n + t .user ≤ r + SEGMENT * (t .held - 1 + spare t))
+  room-in-bytes = says-by (sharing t) refl
 
 same : {a b : Bool} {P : Type 0} → Says a P → Says b P → a ≡ b
 same {a} {b} x y = go a refl
@@ -74,4 +74,4 @@ same {a} {b} x y = go a refl
 -- as the code asks it
 pub room-asked : (t : Tables) → Good t → (r n : ℕ) → r ≤ t .room → totalOf t ≤ n
     → leb (n + t .user) (r + SEGMENT * (t .held - 1 + spare t)) ≡ roomFor t r n
-room-asked t g r n h k = same (says-le _ _) (room-says t (body t g) r n (no-shorter t g r n h k))
+room-asked t g r n h k = same (says-le _ _) (room-in-bytes t (body t g) r n (no-shorter t g r n h k))
