@@ -12,7 +12,8 @@ use Rattle.kernel.specs.declared.Tables.{Tables}
 use Rattle.kernel.specs.declared.Answer.{Answer}
 use Rattle.kernel.specs.declared.Outcome.{Outcome}
 use Rattle.events.specs.Definition.Records.{u16At, stepOf}
-use Rattle.image.specs.Definition.Image.{SIZE, imageOf, tablesOf, answerBytes}
+use Rattle.image.specs.Definition.Offsets.{SIZE}
+use Rattle.image.specs.Definition.Image.{imageOf, tablesOf, answerBytes}
 use Rattle.image.specs.Laws.Bytes.{body-is}
 use Rattle.exos.specs.Definition.Call.{fits, stepOn, imageAfter, Done}
 

@@ -2,10 +2,12 @@
 ghost use mathlib.Core.Path.{_≡_};
 ghost use lib.ListN.{length};
 ghost use Rattle.kernel.specs.Definition.Answers as answers;
+ghost use Rattle.image.specs.Definition.Offsets.{SIZE};
 ghost use Rattle.exos.specs.Definition.Call.{imageAfter, Called};
 ghost use Rattle.exos.specs.Definition.Replays.{Replays};
 use events::call;
 use events::fields::u16_at;
+use image::offsets::SIZE;
 use image::put_answer;
 use image::tables::decode;
 use image::tables::encode;
@@ -23,7 +25,7 @@ fn granted(answer: Answer) -> bool
 
 // The image of the next tables where the call was done; a refused call leaves every byte.
 fn write_back(answer: Answer, next: Tables, image: &mut [u8])
-    requires { ⌜ length (now image) ≡ 776 ⌝ }
+    requires { ⌜ length (now image) ≡ SIZE ⌝ }
     ensures { λ _. ⌜ now (image .exit) ≡ imageAfter answer next (now (image .entry)) ⌝ }
 {
     if !granted(answer) {
@@ -43,7 +45,7 @@ pub extern "C" fn exos_call(
 ) -> bool
     ensures { λ r. ⌜ Called (now (image .entry)) (now (ram .entry)) (now («record» .entry)) (now (out .entry)) (now (reply .entry)) (now (image .exit)) (now (ram .exit)) (now (out .exit)) (now (reply .exit)) r ⌝ }
 {
-    if image.len() != 776 {
+    if image.len() != SIZE {
         return false;
     }
     if record.len() < 2 {

@@ -10,6 +10,7 @@ use Rattle.rows.specs.declared.Channel.{Channel}
 use Rattle.rows.specs.declared.Device.{Device}
 use Rattle.kernel.specs.declared.Tables.{Tables}
 use Rattle.events.specs.Definition.Records.{u8At, u16At}
+use Rattle.image.specs.Definition.Offsets.{CHANNEL, DEVICE, SEGMENTS, LIST, CLASSES, HELD, CHAIN, USER, ROOM, COLD, OPENED, CHANNELS, KNOWN, DEVICES, NAME, LENGTH, UNIT}
 use Rattle.image.specs.Definition.Image.{runAt, rowsOf, channelFrom, deviceFrom, tablesOf}
 
 -- a run of 32 has no zeros behind it
@@ -20,25 +21,25 @@ run-laid xs at run h e =
     e ∙ rw (take-all 32 (take 32 (drop at xs)) (omega arith), l, append-nil)
 
 pub tables-made : (xs list classes chain : List ℕ) (user room cold : ℕ) (channels : List Channel) (devices : List Device) (name : List ℕ)
-    → list ≡ runAt xs 1 32 → classes ≡ runAt xs 33 32 → chain ≡ runAt xs 66 32 → user ≡ u16At xs 98 → room ≡ u16At xs 100 → cold ≡ u16At xs 102
-    → channels ≡ rowsOf channelFrom 5 32 (drop 105 xs) → devices ≡ rowsOf deviceFrom 30 16 (drop 266 xs) → name ≡ runAt xs 746 28
+    → list ≡ runAt xs LIST 32 → classes ≡ runAt xs CLASSES 32 → chain ≡ runAt xs CHAIN 32 → user ≡ u16At xs USER → room ≡ u16At xs ROOM → cold ≡ u16At xs COLD
+    → channels ≡ rowsOf channelFrom CHANNEL 32 (drop CHANNELS xs) → devices ≡ rowsOf deviceFrom DEVICE 16 (drop DEVICES xs) → name ≡ runAt xs NAME 28
     → _≡_ {A = Tables}
     (record {
-      segments = u8At xs 0;
+      segments = u8At xs SEGMENTS;
       list = list;
       classes = classes;
-      held = u8At xs 65;
+      held = u8At xs HELD;
       chain = chain;
       user = user;
       room = room;
       cold = cold;
-      opened = u8At xs 104;
+      opened = u8At xs OPENED;
       channels = channels;
-      known = u8At xs 265;
+      known = u8At xs KNOWN;
       devices = devices;
       name = name;
-      length = u8At xs 774;
-      unit = u8At xs 775;
+      length = u8At xs LENGTH;
+      unit = u8At xs UNIT;
     })
     (tablesOf xs)
 unfolding tablesOf

@@ -1,2 +1,3 @@
 -- The image of the tables.
+pub mod Offsets
 pub mod Image

@@ -1,30 +1,31 @@
 // The rows of channels, from bytes and to bytes.
 ghost use mathlib.Core.Path.{_≡_};
-ghost use Prim.Native.Nat.{_+_, _≤_};
+ghost use Prim.Native.Nat.{_+_, _*_, _≤_};
 ghost use lib.ListN.{length, drop};
 ghost use Rattle.text.specs.Definition.Put.{Put};
+ghost use Rattle.image.specs.Definition.Offsets.{CHANNEL};
 ghost use Rattle.image.specs.Definition.Image.{channelBytes, channelFrom, rowsBytes, rowsOf};
 use super::fields::put_u16;
+use super::offsets;
 use events::fields::u16_at;
 use rows::Channel;
 use text::put;
 
-// A row of five bytes.
 fn channel_at(image: &[u8], at: usize) -> Channel
-    requires { ⌜ at + 5 ≤ length (now image) ⌝ }
+    requires { ⌜ at + CHANNEL ≤ length (now image) ⌝ }
     ensures { λ r. ⌜ r ≡ channelFrom (drop at (now (image .entry))) ⌝ }
 {
     Channel {
         number: image[at],
-        device: image[at + 1],
-        unit: image[at + 2],
-        n: u16_at(image, at + 3),
+        device: image[at + offsets::CHANNEL_DEVICE],
+        unit: image[at + offsets::CHANNEL_UNIT],
+        n: u16_at(image, at + offsets::CHANNEL_N),
     }
 }
 
 pub fn channels_at(image: &[u8], at: usize) -> [Channel; 32]
-    requires { ⌜ at + 160 ≤ length (now image) ⌝ }
-    ensures { λ r. ⌜ r ≡ rowsOf channelFrom 5 32 (drop at (now (image .entry))) ⌝ }
+    requires { ⌜ at + 32 * CHANNEL ≤ length (now image) ⌝ }
+    ensures { λ r. ⌜ r ≡ rowsOf channelFrom CHANNEL 32 (drop at (now (image .entry))) ⌝ }
 {
     let mut rows = [Channel {
         number: 0,
@@ -34,14 +35,14 @@ pub fn channels_at(image: &[u8], at: usize) -> [Channel; 32]
     }; 32];
     let mut i = 0;
     while i < 32 {
-        rows[i] = channel_at(image, at + 5 * i);
+        rows[i] = channel_at(image, at + offsets::CHANNEL * i);
         i += 1;
     }
     rows
 }
 
 fn put_channel(c: Channel, to: &mut [u8], at: usize) -> usize
-    requires { ⌜ at + 5 ≤ length (now to) ⌝ }
+    requires { ⌜ at + CHANNEL ≤ length (now to) ⌝ }
     ensures { λ r. ⌜ Put (now (to .entry)) (now (to .exit)) at r (channelBytes c) ⌝ }
 {
     let m = put(to, at, c.number);
@@ -51,8 +52,8 @@ fn put_channel(c: Channel, to: &mut [u8], at: usize) -> usize
 }
 
 pub fn put_channels(channels: [Channel; 32], to: &mut [u8], at: usize) -> usize
-    requires { ⌜ at + 160 ≤ length (now to) ⌝ }
-    ensures { λ r. ⌜ Put (now (to .entry)) (now (to .exit)) at r (rowsBytes channelBytes channels) × (r ≡ at + 160) ⌝ }
+    requires { ⌜ at + 32 * CHANNEL ≤ length (now to) ⌝ }
+    ensures { λ r. ⌜ Put (now (to .entry)) (now (to .exit)) at r (rowsBytes channelBytes channels) × (r ≡ at + 32 * CHANNEL) ⌝ }
 {
     let mut m = at;
     let mut i = 0;

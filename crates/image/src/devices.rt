@@ -1,30 +1,31 @@
 // The rows of devices, from bytes and to bytes.
 ghost use mathlib.Core.Path.{_≡_};
-ghost use Prim.Native.Nat.{_+_, _≤_};
+ghost use Prim.Native.Nat.{_+_, _*_, _≤_};
 ghost use lib.ListN.{length, drop};
 ghost use Rattle.text.specs.Definition.Put.{Put};
+ghost use Rattle.image.specs.Definition.Offsets.{DEVICE};
 ghost use Rattle.image.specs.Definition.Image.{bitOf, deviceBytes, deviceFrom, rowsBytes, rowsOf};
 use super::fields::name_at;
 use super::fields::put_run;
+use super::offsets;
 use rows::Device;
 use text::put;
 
-// A row of 30 bytes.
 fn device_at(image: &[u8], at: usize) -> Device
-    requires { ⌜ at + 30 ≤ length (now image) ⌝ }
+    requires { ⌜ at + DEVICE ≤ length (now image) ⌝ }
     ensures { λ r. ⌜ r ≡ deviceFrom (drop at (now (image .entry))) ⌝ }
 {
     let name = name_at(image, at);
     Device {
         name,
-        length: image[at + 28],
-        enabled: image[at + 29] != 0,
+        length: image[at + offsets::DEVICE_LENGTH],
+        enabled: image[at + offsets::DEVICE_ENABLED] != 0,
     }
 }
 
 pub fn devices_at(image: &[u8], at: usize) -> [Device; 16]
-    requires { ⌜ at + 480 ≤ length (now image) ⌝ }
-    ensures { λ r. ⌜ r ≡ rowsOf deviceFrom 30 16 (drop at (now (image .entry))) ⌝ }
+    requires { ⌜ at + 16 * DEVICE ≤ length (now image) ⌝ }
+    ensures { λ r. ⌜ r ≡ rowsOf deviceFrom DEVICE 16 (drop at (now (image .entry))) ⌝ }
 {
     let mut rows = [Device {
         name: [0u8; 28],
@@ -33,7 +34,7 @@ pub fn devices_at(image: &[u8], at: usize) -> [Device; 16]
     }; 16];
     let mut i = 0;
     while i < 16 {
-        rows[i] = device_at(image, at + 30 * i);
+        rows[i] = device_at(image, at + offsets::DEVICE * i);
         i += 1;
     }
     rows
@@ -46,8 +47,8 @@ fn bit(b: bool) -> u8
 }
 
 fn put_device(d: Device, to: &mut [u8], at: usize) -> usize
-    requires { ⌜ at + 30 ≤ length (now to) ⌝ }
-    ensures { λ r. ⌜ Put (now (to .entry)) (now (to .exit)) at r (deviceBytes d) × (r ≡ at + 30) ⌝ }
+    requires { ⌜ at + DEVICE ≤ length (now to) ⌝ }
+    ensures { λ r. ⌜ Put (now (to .entry)) (now (to .exit)) at r (deviceBytes d) × (r ≡ at + DEVICE) ⌝ }
 {
     let name = d.name;
     let m = put_run(&name, to, at);
@@ -56,8 +57,8 @@ fn put_device(d: Device, to: &mut [u8], at: usize) -> usize
 }
 
 pub fn put_devices(devices: [Device; 16], to: &mut [u8], at: usize) -> usize
-    requires { ⌜ at + 480 ≤ length (now to) ⌝ }
-    ensures { λ r. ⌜ Put (now (to .entry)) (now (to .exit)) at r (rowsBytes deviceBytes devices) × (r ≡ at + 480) ⌝ }
+    requires { ⌜ at + 16 * DEVICE ≤ length (now to) ⌝ }
+    ensures { λ r. ⌜ Put (now (to .entry)) (now (to .exit)) at r (rowsBytes deviceBytes devices) × (r ≡ at + 16 * DEVICE) ⌝ }
 {
     let mut m = at;
     let mut i = 0;

@@ -7,6 +7,7 @@ ghost use Rattle.image.specs.Definition.Image.{answerBytes};
 use fields::put_u16;
 use kernel::Answer;
 
+pub mod offsets; // where each field stands
 pub mod fields; // a number of two bytes, a run of bytes
 pub mod channels; // the rows of channels
 pub mod devices; // the rows of devices

@@ -1,9 +1,9 @@
 // The tables to their image and back.
 ghost use mathlib.Core.Path.{_≡_};
-ghost use Prim.Native.Nat.{_+_, _≤_};
 ghost use lib.ListN.{length};
 ghost use Rattle.text.specs.Definition.Put.{Put};
-ghost use Rattle.image.specs.Definition.Image.{SIZE, segmentBytes, boundaryBytes, rowBytes, defaultBytes, imageOf, tablesOf};
+ghost use Rattle.image.specs.Definition.Offsets.{SEGMENTS, USER, OPENED, NAME, SIZE};
+ghost use Rattle.image.specs.Definition.Image.{segmentBytes, boundaryBytes, rowBytes, defaultBytes, imageOf, tablesOf};
 use super::channels::channels_at;
 use super::channels::put_channels;
 use super::devices::devices_at;
@@ -11,54 +11,55 @@ use super::devices::put_devices;
 use super::fields::name_at;
 use super::fields::put_run;
 use super::fields::put_u16;
+use super::offsets;
 use events::fields::u16_at;
 use kernel::Tables;
 use rows::segments::lay;
 use text::put;
 
-fn put_segments(t: Tables, to: &mut [u8], at: usize) -> usize
-    requires { ⌜ at + 98 ≤ length (now to) ⌝ }
-    ensures { λ r. ⌜ Put (now (to .entry)) (now (to .exit)) at r (segmentBytes t) × (r ≡ at + 98) ⌝ }
+fn put_segments(t: Tables, image: &mut [u8])
+    requires { ⌜ length (now image) ≡ SIZE ⌝ }
+    ensures { λ _. ⌜ Put (now (image .entry)) (now (image .exit)) SEGMENTS USER (segmentBytes t) ⌝ }
 {
     let list = t.list;
     let classes = t.classes;
     let chain = t.chain;
-    let m = put(to, at, t.segments);
-    let m = put_run(&list, to, m);
-    let m = put_run(&classes, to, m);
-    let m = put(to, m, t.held);
-    put_run(&chain, to, m)
+    let m = put(image, offsets::SEGMENTS, t.segments);
+    let m = put_run(&list, image, m);
+    let m = put_run(&classes, image, m);
+    let m = put(image, m, t.held);
+    put_run(&chain, image, m);
 }
 
-fn put_boundaries(t: Tables, to: &mut [u8], at: usize) -> usize
-    requires { ⌜ at + 6 ≤ length (now to) ⌝ }
-    ensures { λ r. ⌜ Put (now (to .entry)) (now (to .exit)) at r (boundaryBytes t) × (r ≡ at + 6) ⌝ }
+fn put_boundaries(t: Tables, image: &mut [u8])
+    requires { ⌜ length (now image) ≡ SIZE ⌝ }
+    ensures { λ _. ⌜ Put (now (image .entry)) (now (image .exit)) USER OPENED (boundaryBytes t) ⌝ }
 {
-    let m = put_u16(t.user, to, at);
-    let m = put_u16(t.room, to, m);
-    put_u16(t.cold, to, m)
+    let m = put_u16(t.user, image, offsets::USER);
+    let m = put_u16(t.room, image, m);
+    put_u16(t.cold, image, m);
 }
 
-fn put_rows(t: Tables, to: &mut [u8], at: usize) -> usize
-    requires { ⌜ at + 642 ≤ length (now to) ⌝ }
-    ensures { λ r. ⌜ Put (now (to .entry)) (now (to .exit)) at r (rowBytes t) × (r ≡ at + 642) ⌝ }
+fn put_rows(t: Tables, image: &mut [u8])
+    requires { ⌜ length (now image) ≡ SIZE ⌝ }
+    ensures { λ _. ⌜ Put (now (image .entry)) (now (image .exit)) OPENED NAME (rowBytes t) ⌝ }
 {
     let channels = t.channels;
     let devices = t.devices;
-    let m = put(to, at, t.opened);
-    let m = put_channels(channels, to, m);
-    let m = put(to, m, t.known);
-    put_devices(devices, to, m)
+    let m = put(image, offsets::OPENED, t.opened);
+    let m = put_channels(channels, image, m);
+    let m = put(image, m, t.known);
+    put_devices(devices, image, m);
 }
 
-fn put_default(t: Tables, to: &mut [u8], at: usize) -> usize
-    requires { ⌜ at + 30 ≤ length (now to) ⌝ }
-    ensures { λ r. ⌜ Put (now (to .entry)) (now (to .exit)) at r (defaultBytes t) × (r ≡ at + 30) ⌝ }
+fn put_default(t: Tables, image: &mut [u8])
+    requires { ⌜ length (now image) ≡ SIZE ⌝ }
+    ensures { λ _. ⌜ Put (now (image .entry)) (now (image .exit)) NAME SIZE (defaultBytes t) ⌝ }
 {
     let name = t.name;
-    let m = put_run(&name, to, at);
-    let m = put(to, m, t.length);
-    put(to, m, t.unit)
+    let m = put_run(&name, image, offsets::NAME);
+    let m = put(image, m, t.length);
+    put(image, m, t.unit);
 }
 
 // The image of the tables.
@@ -66,10 +67,10 @@ pub fn encode(t: Tables, image: &mut [u8])
     requires { ⌜ length (now image) ≡ SIZE ⌝ }
     ensures { λ _. ⌜ now (image .exit) ≡ imageOf t ⌝ }
 {
-    let m = put_segments(t, image, 0);
-    let m = put_boundaries(t, image, m);
-    let m = put_rows(t, image, m);
-    put_default(t, image, m);
+    put_segments(t, image);
+    put_boundaries(t, image);
+    put_rows(t, image);
+    put_default(t, image);
 }
 
 // The tables that an image holds.
@@ -77,27 +78,27 @@ pub fn decode(image: &[u8]) -> Tables
     requires { ⌜ length (now image) ≡ SIZE ⌝ }
     ensures { λ r. ⌜ r ≡ tablesOf (now (image .entry)) ⌝ }
 {
-    let list = lay(&image[1..33]);
-    let classes = lay(&image[33..65]);
-    let chain = lay(&image[66..98]);
-    let channels = channels_at(image, 105);
-    let devices = devices_at(image, 266);
-    let name = name_at(image, 746);
+    let list = lay(&image[offsets::LIST..offsets::CLASSES]);
+    let classes = lay(&image[offsets::CLASSES..offsets::HELD]);
+    let chain = lay(&image[offsets::CHAIN..offsets::USER]);
+    let channels = channels_at(image, offsets::CHANNELS);
+    let devices = devices_at(image, offsets::DEVICES);
+    let name = name_at(image, offsets::NAME);
     Tables {
-        segments: image[0],
+        segments: image[offsets::SEGMENTS],
         list,
         classes,
-        held: image[65],
+        held: image[offsets::HELD],
         chain,
-        user: u16_at(image, 98),
-        room: u16_at(image, 100),
-        cold: u16_at(image, 102),
-        opened: image[104],
+        user: u16_at(image, offsets::USER),
+        room: u16_at(image, offsets::ROOM),
+        cold: u16_at(image, offsets::COLD),
+        opened: image[offsets::OPENED],
         channels,
-        known: image[265],
+        known: image[offsets::KNOWN],
         devices,
         name,
-        length: image[774],
-        unit: image[775],
+        length: image[offsets::LENGTH],
+        unit: image[offsets::UNIT],
     }
 }

@@ -6,7 +6,7 @@ use borrow.Author.Tests.{eq-eqb, ne-eqb, lt-ltb, le-ltb}
 use lib.ListN.{length}
 use Rattle.events.specs.Definition.Records.{u8At, u16At}
 use Rattle.stream.specs.Definition.Numbers.{u32At}
-use Rattle.stream.specs.Definition.Requests.{callAt, requestIn, Brings, CallFits, Fits}
+use Rattle.stream.specs.Definition.Requests.{RAM, CALL, callAt, requestIn, Brings, CallFits, Fits}
 use Rattle.stream.specs.declared.Found.{Found}
 use Rattle.stream.specs.declared.Found.the-variants.{Whole, Part, Bad}
 
@@ -44,18 +44,18 @@ module _ (bytes : List ℕ) where
       unknown b = rw (le-ltb (length bytes) 1 h, ne-eqb (u8At bytes 0) 0 a, ne-eqb (u8At bytes 0) 1 b)
 
       module _ (b : u8At bytes 0 ≡ 1) where
-        pub image-cut : length bytes < 785 → Part ≡ requestIn bytes
+        pub image-cut : length bytes < CALL → Part ≡ requestIn bytes
         unfolding requestIn
-        image-cut l = rw (le-ltb (length bytes) 1 h, ne-eqb (u8At bytes 0) 0 a, eq-eqb (u8At bytes 0) 1 b, lt-ltb (length bytes) 785 l)
+        image-cut l = rw (le-ltb (length bytes) 1 h, ne-eqb (u8At bytes 0) 0 a, eq-eqb (u8At bytes 0) 1 b, lt-ltb (length bytes) CALL l)
 
-        module _ (l : 785 ≤ length bytes) (n : ℕ) (e : n ≡ u32At bytes 777) where
+        module _ (l : CALL ≤ length bytes) (n : ℕ) (e : n ≡ u32At bytes RAM) where
           pub too-large : 524288 < n → Bad ≡ requestIn bytes
           unfolding requestIn
-          too-large k = rw (← e, le-ltb (length bytes) 1 h, ne-eqb (u8At bytes 0) 0 a, eq-eqb (u8At bytes 0) 1 b, le-ltb (length bytes) 785 l, lt-ltb 524288 n k)
+          too-large k = rw (← e, le-ltb (length bytes) 1 h, ne-eqb (u8At bytes 0) 0 a, eq-eqb (u8At bytes 0) 1 b, le-ltb (length bytes) CALL l, lt-ltb 524288 n k)
 
-          pub brings : n ≤ 524288 → callAt bytes 785 ≡ requestIn bytes
+          pub brings : n ≤ 524288 → callAt bytes CALL ≡ requestIn bytes
           unfolding requestIn
-          brings k = rw (← e, le-ltb (length bytes) 1 h, ne-eqb (u8At bytes 0) 0 a, eq-eqb (u8At bytes 0) 1 b, le-ltb (length bytes) 785 l, le-ltb 524288 n k)
+          brings k = rw (← e, le-ltb (length bytes) 1 h, ne-eqb (u8At bytes 0) 0 a, eq-eqb (u8At bytes 0) 1 b, le-ltb (length bytes) CALL l, le-ltb 524288 n k)
 
 -- a call that lies in the bytes is a request's
 pub call-fits : (bytes : List ℕ) (r : Found) → CallFits bytes r → 1 ≤ length bytes → Brings bytes → Fits bytes r

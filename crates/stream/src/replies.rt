@@ -8,6 +8,7 @@ ghost use Rattle.text.specs.Definition.Put.{Put};
 ghost use Rattle.image.specs.Definition.Image.{imageOf};
 ghost use Rattle.stream.specs.Definition.Digest.{digestOf};
 ghost use Rattle.stream.specs.Definition.Numbers.{u32At};
+ghost use Rattle.stream.specs.Definition.Requests.{RAM, CALL};
 ghost use Rattle.stream.specs.Definition.Replies.{Replied, Brought, channelIn, startOf, lentBytes, replyBytes};
 use super::Machine;
 use super::bytes::put_u64;
@@ -15,8 +16,12 @@ use super::bytes::u32_at;
 use super::digest::digest;
 use super::fill::blank;
 use super::fill::fill;
+use super::requests::IMAGE;
+use super::requests::RAM;
+use super::requests::SEED;
 use events::call;
 use events::fields::u16_at;
+use image::offsets::SIZE;
 use image::put_answer;
 use image::tables::decode;
 use image::tables::encode;
@@ -27,7 +32,7 @@ use line::Lent;
 fn image_digest(t: Tables) -> u64
     ensures { λ r. ⌜ r ≡ digestOf (imageOf t) ⌝ }
 {
-    let mut image = [0u8; 776];
+    let mut image = [0u8; SIZE];
     encode(t, &mut image);
     digest(&image)
 }
@@ -104,13 +109,13 @@ pub fn reply(
 
 // The tables of an image, and a RAM by its length and a seed.
 pub fn bring(ram: &mut [u8], bytes: &[u8]) -> Machine
-    requires { ⌜ (785 ≤ length (now bytes)) × (u32At (now bytes) 777 ≤ length (now ram)) ⌝ }
+    requires { ⌜ (CALL ≤ length (now bytes)) × (u32At (now bytes) RAM ≤ length (now ram)) ⌝ }
     ensures { λ r. ⌜ Brought (now (ram .entry)) (now (bytes .entry)) r (now (ram .exit)) ⌝ }
 {
-    let size = u32_at(bytes, 777) as usize;
-    fill(&mut ram[..size], u32_at(bytes, 781));
+    let size = u32_at(bytes, RAM) as usize;
+    fill(&mut ram[..size], u32_at(bytes, SEED));
     Machine {
-        tables: decode(&bytes[1..777]),
+        tables: decode(&bytes[IMAGE..RAM]),
         size,
     }
 }

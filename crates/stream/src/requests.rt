@@ -1,16 +1,26 @@
 // Where a request ends.
 ghost use mathlib.Core.Path.{_≡_};
-ghost use Prim.Native.Nat.{_<_};
-ghost use Rattle.stream.specs.Definition.Requests.{callAt, requestIn, CallFits, Fits};
+ghost use Prim.Native.Nat.{_≤_};
+ghost use Rattle.stream.specs.Definition.Requests.{CALL, callAt, requestIn, CallFits, Fits};
 use super::Found;
 use super::Request;
 use super::bytes::u32_at;
 use super::bytes::wide;
 use events::fields::u16_at;
+use image::offsets::SIZE;
+
+// Where the image, the RAM's length, the seed and the call stand.
+pub const IMAGE: usize = 1;
+
+pub const RAM: usize = IMAGE + SIZE;
+
+pub const SEED: usize = RAM + 4;
+
+pub const CALL: usize = SEED + 4;
 
 // The output's length, the event record's length and the event record.
 fn call_at(bytes: &[u8], at: usize) -> Found
-    requires { ⌜ at < 1000 ⌝ }
+    requires { ⌜ at ≤ CALL ⌝ }
     ensures { λ r. ⌜ (r ≡ callAt (now (bytes .entry)) at) × CallFits (now (bytes .entry)) r ⌝ }
 {
     let start = at + 4;
@@ -41,11 +51,11 @@ pub fn request(bytes: &[u8]) -> Found
     if first != 1 {
         return Found::Bad;
     }
-    if bytes.len() < 785 {
+    if bytes.len() < CALL {
         return Found::Part;
     }
-    if 524288 < u32_at(bytes, 777) {
+    if 524288 < u32_at(bytes, RAM) {
         return Found::Bad;
     }
-    call_at(bytes, 785)
+    call_at(bytes, CALL)
 }

@@ -10,7 +10,8 @@ use Rattle.kernel.specs.Definition.Step.{Result}
 use Rattle.kernel.specs.declared.Tables.{Tables}
 use Rattle.kernel.specs.declared.Answer.{Answer}
 use Rattle.events.specs.Definition.Records.{u16At, stepOf}
-use Rattle.image.specs.Definition.Image.{SIZE, imageOf, tablesOf, answerBytes}
+use Rattle.image.specs.Definition.Offsets.{SIZE}
+use Rattle.image.specs.Definition.Image.{imageOf, tablesOf, answerBytes}
 
 -- the lengths that a call over bytes takes
 unfoldable pub fits : (image event reply : List ℕ) → Bool

@@ -1,4 +1,4 @@
--- The tables as 776 bytes, in the order of their fields. Numbers are little-endian.
+-- The tables as bytes, in the order of their fields. Numbers are little-endian.
 use mathlib.Core.Bool.{Bool, true, false, not}
 use mathlib.Core.List.{List, [], _∷_, _++_}
 use Prim.Native.Nat.{ℕ, zero, suc, _/_, _%_}
@@ -10,9 +10,8 @@ use Rattle.kernel.specs.Definition.Answers.{numberOf, aOf, bOf}
 use Rattle.kernel.specs.declared.Tables.{Tables}
 use Rattle.kernel.specs.declared.Answer.{Answer}
 use Rattle.events.specs.Definition.Records.{u8At, u16At}
-
-abbrev pub SIZE : ℕ
-SIZE = 776
+use Rattle.image.specs.Definition.Offsets.{CHANNEL-DEVICE, CHANNEL-UNIT, CHANNEL-N, CHANNEL, DEVICE-LENGTH, DEVICE-ENABLED, DEVICE}
+use Rattle.image.specs.Definition.Offsets.{SEGMENTS, LIST, CLASSES, HELD, CHAIN, USER, ROOM, COLD, OPENED, CHANNELS, KNOWN, DEVICES, NAME, LENGTH, UNIT}
 
 abbrev pub u8Bytes : ℕ → List ℕ
 u8Bytes x = x ∷ []
@@ -41,33 +40,33 @@ abbrev pub rowsOf : {A : Type 0} → (List ℕ → A) → (width n : ℕ) → Li
 rowsOf row width zero xs = []
 rowsOf row width (suc n) xs = row xs ∷ rowsOf row width n (drop width xs)
 
--- five bytes
+-- CHANNEL bytes
 abbrev pub channelBytes : Channel → List ℕ
 channelBytes c = u8Bytes (c .number) ++ u8Bytes (c .device) ++ u8Bytes (c .unit) ++ u16Bytes (c .n)
 
 abbrev pub channelFrom : List ℕ → Channel
-channelFrom xs = record { number = u8At xs 0; device = u8At xs 1; unit = u8At xs 2; n = u16At xs 3 }
+channelFrom xs = record { number = u8At xs 0; device = u8At xs CHANNEL-DEVICE; unit = u8At xs CHANNEL-UNIT; n = u16At xs CHANNEL-N }
 
--- 30 bytes
+-- DEVICE bytes
 abbrev pub deviceBytes : Device → List ℕ
 deviceBytes d = d .name ++ u8Bytes (d .length) ++ u8Bytes (bitOf (d .enabled))
 
 abbrev pub deviceFrom : List ℕ → Device
-deviceFrom xs = record { name = take 28 xs; length = u8At xs 28; enabled = flagOf (u8At xs 29) }
+deviceFrom xs = record { name = take 28 xs; length = u8At xs DEVICE-LENGTH; enabled = flagOf (u8At xs DEVICE-ENABLED) }
 
--- offsets 0 to 97
+-- from SEGMENTS to USER
 unfoldable pub segmentBytes : Tables → List ℕ
 segmentBytes t = u8Bytes (t .segments) ++ t .list ++ t .classes ++ u8Bytes (t .held) ++ t .chain
 
--- 98 to 103
+-- from USER to OPENED
 unfoldable pub boundaryBytes : Tables → List ℕ
 boundaryBytes t = u16Bytes (t .user) ++ u16Bytes (t .room) ++ u16Bytes (t .cold)
 
--- 104 to 745
+-- from OPENED to NAME
 unfoldable pub rowBytes : Tables → List ℕ
 rowBytes t = u8Bytes (t .opened) ++ rowsBytes channelBytes (t .channels) ++ u8Bytes (t .known) ++ rowsBytes deviceBytes (t .devices)
 
--- 746 to 775
+-- from NAME to SIZE
 unfoldable pub defaultBytes : Tables → List ℕ
 defaultBytes t = t .name ++ u8Bytes (t .length) ++ u8Bytes (t .unit)
 
@@ -77,21 +76,21 @@ imageOf t = segmentBytes t ++ boundaryBytes t ++ rowBytes t ++ defaultBytes t
 unfoldable pub tablesOf : List ℕ → Tables
 tablesOf xs =
     record {
-      segments = u8At xs 0;
-      list = runAt xs 1 32;
-      classes = runAt xs 33 32;
-      held = u8At xs 65;
-      chain = runAt xs 66 32;
-      user = u16At xs 98;
-      room = u16At xs 100;
-      cold = u16At xs 102;
-      opened = u8At xs 104;
-      channels = rowsOf channelFrom 5 32 (drop 105 xs);
-      known = u8At xs 265;
-      devices = rowsOf deviceFrom 30 16 (drop 266 xs);
-      name = runAt xs 746 28;
-      length = u8At xs 774;
-      unit = u8At xs 775;
+      segments = u8At xs SEGMENTS;
+      list = runAt xs LIST 32;
+      classes = runAt xs CLASSES 32;
+      held = u8At xs HELD;
+      chain = runAt xs CHAIN 32;
+      user = u16At xs USER;
+      room = u16At xs ROOM;
+      cold = u16At xs COLD;
+      opened = u8At xs OPENED;
+      channels = rowsOf channelFrom CHANNEL 32 (drop CHANNELS xs);
+      known = u8At xs KNOWN;
+      devices = rowsOf deviceFrom DEVICE 16 (drop DEVICES xs);
+      name = runAt xs NAME 28;
+      length = u8At xs LENGTH;
+      unit = u8At xs UNIT;
     }
 
 -- an answer's number and values

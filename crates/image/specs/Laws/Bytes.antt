@@ -13,6 +13,9 @@ use Rattle.image.specs.Definition.Image.{rowsBytes, rowsOf}
 pub put-same : {d e : List ℕ} {at r : ℕ} {xs ys : List ℕ} → xs ≡ ys → Put d e at r xs → Put d e at r ys
 put-same h p = rw h at p
 
+pub put-to : {d e : List ℕ} {at r s : ℕ} {xs : List ℕ} → r ≡ s → Put d e at r xs → Put d e at s xs
+put-to h p = rw h at p
+
 -- a run, one byte a turn
 pub run-put : {d e f : List ℕ} {at m r : ℕ} (xs : List ℕ) (i : ℕ) → i < length xs → Put d e at m (take i xs) → Put e f m r (getD xs i 0 ∷ []) → Put d f at r (take (i + 1) xs)
 run-put xs i h p q = rw (add-one, take-suc xs i 0 h) (put-then p q)

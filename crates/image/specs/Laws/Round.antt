@@ -1,4 +1,4 @@
--- An image has 776 bytes and tells the tables.
+-- An image has SIZE bytes and tells the tables.
 use mathlib.Core.Path.{_≡_, refl, sym, ap, _∙_}
 use mathlib.Core.Bool.{Bool, true, false}
 use mathlib.Core.List.{List, [], _∷_, _++_, append-assoc}
@@ -13,7 +13,9 @@ use Rattle.rows.specs.declared.Device.{Device}
 use Rattle.kernel.specs.Definition.Good.{Sized}
 use Rattle.kernel.specs.declared.Tables.{Tables}
 use Rattle.events.specs.Definition.Records.{u8At, u16At}
-use Rattle.image.specs.Definition.Image.{SIZE, u16Bytes, bitOf, flagOf, runAt, rowsBytes, rowsOf, channelBytes, channelFrom, deviceBytes, deviceFrom, segmentBytes, boundaryBytes, rowBytes, defaultBytes, imageOf, tablesOf}
+use Rattle.image.specs.Definition.Offsets.{CHANNEL, DEVICE-LENGTH, DEVICE-ENABLED, DEVICE}
+use Rattle.image.specs.Definition.Offsets.{SEGMENTS, LIST, CLASSES, HELD, CHAIN, USER, ROOM, COLD, OPENED, CHANNELS, KNOWN, DEVICES, NAME, LENGTH, UNIT, SIZE}
+use Rattle.image.specs.Definition.Image.{u16Bytes, bitOf, flagOf, runAt, rowsBytes, rowsOf, channelBytes, channelFrom, deviceBytes, deviceFrom, segmentBytes, boundaryBytes, rowBytes, defaultBytes, imageOf, tablesOf}
 
 -- the arrays have their types' lengths
 pub record FullSize (t : Tables) : Type 0 where
@@ -74,7 +76,7 @@ channel-back c zs u = let e : c .n % 256 + 256 * (c .n / 256) ≡ c .n = omega a
 abbrev Named : Device → Type 0
 Named d = length (d .name) ≡ 28
 
-device-long : (d : Device) → Named d → length (deviceBytes d) ≡ 30
+device-long : (d : Device) → Named d → length (deviceBytes d) ≡ DEVICE
 device-long d h = simp length-append (omega arith)
 
 flag-back : (b : Bool) → flagOf (bitOf b) ≡ b
@@ -89,8 +91,8 @@ device-back d zs h =
     let b = bitOf (d .enabled) in
     let xs = deviceBytes d ++ zs in
     let p : At xs 0 (d .name) (d .length ∷ b ∷ zs) = record { is = simp append-assoc } in
-    let q : At xs 28 (d .length ∷ []) (b ∷ zs) = next p 28 h refl in
-    let r : At xs 29 (b ∷ []) zs = next q 1 refl refl in
+    let q : At xs DEVICE-LENGTH (d .length ∷ []) (b ∷ zs) = next p 28 h refl in
+    let r : At xs DEVICE-ENABLED (b ∷ []) zs = next q 1 refl refl in
     device-is d _ _ _ (run-is p 28 h) (u8-is q) (ap flagOf (u8-is r) ∙ flag-back (d .enabled))
 
 tables-is : (t : Tables) (segments : ℕ) (list classes : List ℕ) (held : ℕ) (chain : List ℕ) (user room cold opened : ℕ) (channels : List Channel) (known : ℕ) (devices : List Device) (name : List ℕ) (long unit : ℕ)
@@ -153,12 +155,12 @@ module _ (t : Tables) where
     named : (i : ℕ) → i < length (t .devices) → Named (getD (t .devices) i beyondDevices)
     named i h = w .names i (omega (arith, w .sized .devices))
 
-    channels-length : length cs ≡ 160
+    channels-length : length cs ≡ 32 * CHANNEL
     channels-length =
-        rows-length channelBytes channelFrom 5 zeroChannel (λ c. Unit {0}) (λ c u. refl) channel-back (t .channels) (λ i h. tt) ∙ rw (w .sized .channels)
+        rows-length channelBytes channelFrom CHANNEL zeroChannel (λ c. Unit {0}) (λ c u. refl) channel-back (t .channels) (λ i h. tt) ∙ rw (w .sized .channels)
 
-    devices-length : length ds ≡ 480
-    devices-length = rows-length deviceBytes deviceFrom 30 beyondDevices Named device-long device-back (t .devices) named ∙ rw (w .sized .devices)
+    devices-length : length ds ≡ 16 * DEVICE
+    devices-length = rows-length deviceBytes deviceFrom DEVICE beyondDevices Named device-long device-back (t .devices) named ∙ rw (w .sized .devices)
 
     pub image-length : length (imageOf t) ≡ SIZE
     unfolding imageOf segmentBytes boundaryBytes rowBytes defaultBytes
@@ -170,26 +172,26 @@ module _ (t : Tables) where
     unfolding tablesOf
     round =
         let xs = imageOf t in
-        let p₀ : At xs 0 (t .segments ∷ []) (t .list ++ (t .classes ++ (t .held ∷ (t .chain ++ boundaries)))) = record { is = image-is } in
-        let p₁ : At xs 1 (t .list) (t .classes ++ (t .held ∷ (t .chain ++ boundaries))) = next p₀ 1 refl refl in
-        let p₂ : At xs 33 (t .classes) (t .held ∷ (t .chain ++ boundaries)) = next p₁ 32 (w .sized .list) refl in
-        let p₃ : At xs 65 (t .held ∷ []) (t .chain ++ boundaries) = next p₂ 32 (w .sized .classes) refl in
-        let p₄ : At xs 66 (t .chain) boundaries = next p₃ 1 refl refl in
-        let p₅ : At xs 98 (u16Bytes (t .user)) (u16Bytes (t .room) ++ (u16Bytes (t .cold) ++ rows)) = next p₄ 32 (w .sized .chain) refl in
-        let p₆ : At xs 100 (u16Bytes (t .room)) (u16Bytes (t .cold) ++ rows) = next p₅ 2 refl refl in
-        let p₇ : At xs 102 (u16Bytes (t .cold)) rows = next p₆ 2 refl refl in
-        let p₈ : At xs 104 (t .opened ∷ []) (cs ++ (t .known ∷ (ds ++ default))) = next p₇ 2 refl refl in
-        let p₉ : At xs 105 cs (t .known ∷ (ds ++ default)) = next p₈ 1 refl refl in
-        let q₀ : At xs 265 (t .known ∷ []) (ds ++ default) = next p₉ 160 channels-length refl in
-        let q₁ : At xs 266 ds default = next q₀ 1 refl refl in
-        let q₂ : At xs 746 (t .name) (t .length ∷ t .unit ∷ []) = next q₁ 480 devices-length refl in
-        let q₃ : At xs 774 (t .length ∷ []) (t .unit ∷ []) = next q₂ 28 (w .name) refl in
-        let q₄ : At xs 775 (t .unit ∷ []) [] = next q₃ 1 refl refl in
-        let c : rowsOf channelFrom 5 32 (drop 105 xs) ≡ t .channels =
-        ap (rowsOf channelFrom 5 32) (p₉ .is) ∙ ap (λ (n : ℕ). rowsOf channelFrom 5 n (cs ++ (t .known ∷ (ds ++ default)))) (sym (w .sized .channels))
-        ∙ rows-back channelBytes channelFrom 5 zeroChannel (λ c. Unit {0}) (λ c u. refl) channel-back (t .channels) (t .known ∷ (ds ++ default)) (λ i h. tt) in
-        let d : rowsOf deviceFrom 30 16 (drop 266 xs) ≡ t .devices =
-        ap (rowsOf deviceFrom 30 16) (q₁ .is) ∙ ap (λ (n : ℕ). rowsOf deviceFrom 30 n (ds ++ default)) (sym (w .sized .devices))
-        ∙ rows-back deviceBytes deviceFrom 30 beyondDevices Named device-long device-back (t .devices) default named in
+        let p₀ : At xs SEGMENTS (t .segments ∷ []) (t .list ++ (t .classes ++ (t .held ∷ (t .chain ++ boundaries)))) = record { is = image-is } in
+        let p₁ : At xs LIST (t .list) (t .classes ++ (t .held ∷ (t .chain ++ boundaries))) = next p₀ 1 refl refl in
+        let p₂ : At xs CLASSES (t .classes) (t .held ∷ (t .chain ++ boundaries)) = next p₁ 32 (w .sized .list) refl in
+        let p₃ : At xs HELD (t .held ∷ []) (t .chain ++ boundaries) = next p₂ 32 (w .sized .classes) refl in
+        let p₄ : At xs CHAIN (t .chain) boundaries = next p₃ 1 refl refl in
+        let p₅ : At xs USER (u16Bytes (t .user)) (u16Bytes (t .room) ++ (u16Bytes (t .cold) ++ rows)) = next p₄ 32 (w .sized .chain) refl in
+        let p₆ : At xs ROOM (u16Bytes (t .room)) (u16Bytes (t .cold) ++ rows) = next p₅ 2 refl refl in
+        let p₇ : At xs COLD (u16Bytes (t .cold)) rows = next p₆ 2 refl refl in
+        let p₈ : At xs OPENED (t .opened ∷ []) (cs ++ (t .known ∷ (ds ++ default))) = next p₇ 2 refl refl in
+        let p₉ : At xs CHANNELS cs (t .known ∷ (ds ++ default)) = next p₈ 1 refl refl in
+        let q₀ : At xs KNOWN (t .known ∷ []) (ds ++ default) = next p₉ (32 * CHANNEL) channels-length refl in
+        let q₁ : At xs DEVICES ds default = next q₀ 1 refl refl in
+        let q₂ : At xs NAME (t .name) (t .length ∷ t .unit ∷ []) = next q₁ (16 * DEVICE) devices-length refl in
+        let q₃ : At xs LENGTH (t .length ∷ []) (t .unit ∷ []) = next q₂ 28 (w .name) refl in
+        let q₄ : At xs UNIT (t .unit ∷ []) [] = next q₃ 1 refl refl in
+        let c : rowsOf channelFrom CHANNEL 32 (drop CHANNELS xs) ≡ t .channels =
+        ap (rowsOf channelFrom CHANNEL 32) (p₉ .is) ∙ ap (λ (n : ℕ). rowsOf channelFrom CHANNEL n (cs ++ (t .known ∷ (ds ++ default)))) (sym (w .sized .channels))
+        ∙ rows-back channelBytes channelFrom CHANNEL zeroChannel (λ c. Unit {0}) (λ c u. refl) channel-back (t .channels) (t .known ∷ (ds ++ default)) (λ i h. tt) in
+        let d : rowsOf deviceFrom DEVICE 16 (drop DEVICES xs) ≡ t .devices =
+        ap (rowsOf deviceFrom DEVICE 16) (q₁ .is) ∙ ap (λ (n : ℕ). rowsOf deviceFrom DEVICE n (ds ++ default)) (sym (w .sized .devices))
+        ∙ rows-back deviceBytes deviceFrom DEVICE beyondDevices Named device-long device-back (t .devices) default named in
         tables-is t _ _ _ _ _ _ _ _ _ _ _ _ _ _ _ (u8-is p₀) (run-is p₁ 32 (w .sized .list)) (run-is p₂ 32 (w .sized .classes)) (u8-is p₃) (run-is p₄ 32 (w .sized .chain)) (u16-is (t .user) p₅)
         (u16-is (t .room) p₆) (u16-is (t .cold) p₇) (u8-is p₈) c (u8-is q₀) d (run-is q₂ 28 (w .name)) (u8-is q₃) (u8-is q₄)

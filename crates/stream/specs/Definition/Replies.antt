@@ -10,17 +10,19 @@ use Rattle.line.specs.declared.Lent.{Lent}
 use Rattle.line.specs.declared.Lent.the-variants.{Part, Nothing}
 use Rattle.text.specs.Definition.Put.{Put}
 use Rattle.events.specs.Definition.Records.{u8At, u16At, stepOf}
+use Rattle.image.specs.Definition.Offsets.{SIZE}
 use Rattle.image.specs.Definition.Image.{runAt, imageOf, tablesOf, answerBytes}
 use Rattle.stream.specs.Definition.Digest.{digestOf}
 use Rattle.stream.specs.Definition.Seed.{seeded}
 use Rattle.stream.specs.Definition.Numbers.{u32At, u64Bytes}
+use Rattle.stream.specs.Definition.Requests.{IMAGE, RAM, SEED}
 use Rattle.stream.specs.declared.Machine.{Machine}
 
 -- the tables of the image, and the RAM by its length and the seed, at the front of what is lent for it
 pub record Brought (ram bytes : List ℕ) (m : Machine) (ram′ : List ℕ) : Type 0 where
-  pub tables-is : m .tables ≡ tablesOf (runAt bytes 1 776)
-  pub size-is : m .size ≡ u32At bytes 777
-  pub ram-is : take (m .size) ram′ ≡ seeded (u32At bytes 777) (u32At bytes 781)
+  pub tables-is : m .tables ≡ tablesOf (runAt bytes IMAGE SIZE)
+  pub size-is : m .size ≡ u32At bytes RAM
+  pub ram-is : take (m .size) ram′ ≡ seeded (u32At bytes RAM) (u32At bytes SEED)
   pub behind : drop (m .size) ram′ ≡ drop (m .size) ram
 
 -- the call of an event record on n bytes of output, all 165

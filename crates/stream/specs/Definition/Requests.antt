@@ -1,4 +1,4 @@
--- Where a request ends. Its first byte is 0, or 1 before an image of 776 bytes, the RAM's length and a seed of 4 bytes each.
+-- Where a request ends. Its first byte is 0, or 1 before an image, the RAM's length and a seed of 4 bytes each.
 use mathlib.Core.Path.{_≡_}
 use mathlib.Core.Bool.{cond, not}
 use mathlib.Core.List.{List}
@@ -6,10 +6,24 @@ use Prim.Native.Nat.{ℕ, _+_, _<_, _≤_}
 use lib.Dec.{eqb, ltb}
 use lib.ListN.{length}
 use Rattle.events.specs.Definition.Records.{u8At, u16At}
+use Rattle.image.specs.Definition.Offsets.{SIZE}
 use Rattle.stream.specs.Definition.Numbers.{u32At}
 use Rattle.stream.specs.declared.Request.{Request}
 use Rattle.stream.specs.declared.Found.{Found}
 use Rattle.stream.specs.declared.Found.the-variants.{Whole, Part, Bad}
+
+-- where the image, the RAM's length, the seed and the call stand
+abbrev pub IMAGE : ℕ
+IMAGE = 1
+
+abbrev pub RAM : ℕ
+RAM = IMAGE + SIZE
+
+abbrev pub SEED : ℕ
+SEED = RAM + 4
+
+abbrev pub CALL : ℕ
+CALL = SEED + 4
 
 -- the output's length and the event record's length, of 2 bytes each, and the event record, of 2 bytes or more
 unfoldable pub callAt : (bytes : List ℕ) (at : ℕ) → Found
@@ -28,9 +42,9 @@ requestIn bytes =
     cond (ltb (length bytes) 1) Part
     (cond (eqb (u8At bytes 0) 0) (callAt bytes 1)
     (cond (not (eqb (u8At bytes 0) 1)) Bad
-    (cond (ltb (length bytes) 785) Part
-    (cond (ltb 524288 (u32At bytes 777)) Bad
-    (callAt bytes 785)))))
+    (cond (ltb (length bytes) CALL) Part
+    (cond (ltb 524288 (u32At bytes RAM)) Bad
+    (callAt bytes CALL)))))
 
 -- the event record has a kind and lies in the bytes, and the output's length fits two bytes
 pub record Spans (bytes : List ℕ) (q : Request) : Type 0 where
@@ -40,7 +54,7 @@ pub record Spans (bytes : List ℕ) (q : Request) : Type 0 where
 
 -- a first byte other than 0 brings an image, a RAM's length and a seed
 abbrev pub Brings : List ℕ → Type 0
-Brings bytes = (u8At bytes 0 ≡ 0 → ⊥) → (785 ≤ length bytes) × (u32At bytes 777 ≤ 524288)
+Brings bytes = (u8At bytes 0 ≡ 0 → ⊥) → (CALL ≤ length bytes) × (u32At bytes RAM ≤ 524288)
 
 abbrev pub CallFits : List ℕ → Found → Type 0
 CallFits bytes (Whole q) = Spans bytes q

@@ -1,4 +1,4 @@
--- `channels::channel_at` reads five bytes.
+-- `channels::channel_at` reads a row.
 use denote.Ref.{now}
 use Rattle.image.proofs.Rows.{channel-read}
 use borrow.Author.Needs.{needs}

@@ -5,13 +5,14 @@ use Prim.Native.Nat.{_-_, _≤_}
 use native.Mathlib.Omega.{arith}
 use lib.ListN.{length, take, drop, length-set}
 use lib.Seq.{take-all}
+use Rattle.image.specs.Definition.Offsets.{CHANNEL}
 use Rattle.image.specs.Definition.Image.{channelFrom, rowsOf}
 use Rattle.image.specs.Laws.Bytes.{row-read}
 use Rattle.image.proofs.channels.channels_at.Statement.{statement}
 use Rattle.image.proofs.channels.channels_at.Tie as tie
 
 abbrev Inv-loop : tie.InvT-loop
-Inv-loop image at rows₀ i₀ rows i = (take i rows ≡ rowsOf channelFrom 5 i (drop at image)) × (i ≤ 32) × (length rows ≡ 32)
+Inv-loop image at rows₀ i₀ rows i = (take i rows ≡ rowsOf channelFrom CHANNEL i (drop at image)) × (i ≤ 32) × (length rows ≡ 32)
 
 abbrev μ-loop : tie.MeasureT-loop
 μ-loop image at rows₀ i₀ rows i = 32 - i
@@ -44,7 +45,7 @@ loop-again : tie.Need-loop-again Inv-loop μ-loop
 loop-again c =
     let l = c .before .before .loop in
     let a = c .before .before .before .before .args in
-    (row-read channelFrom 5 (l .rows) (now (a .image)) (a .at) (l .i) (c .channel-at .result) (omega arith) (c .channel-at .ensures) (l .inv .0), omega arith, simp length-set (l .inv .2))
+    (row-read channelFrom CHANNEL (l .rows) (now (a .image)) (a .at) (l .i) (c .channel-at .result) (omega arith) (c .channel-at .ensures) (l .inv .0), omega arith, simp length-set (l .inv .2))
 
 returns : tie.Need-returns Inv-loop μ-loop
 returns c =

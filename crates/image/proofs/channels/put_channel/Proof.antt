@@ -1,4 +1,4 @@
--- `channels::put_channel` puts five bytes.
+-- `channels::put_channel` puts a row.
 use Rattle.text.specs.Laws.Text.{put-then}
 use borrow.Author.Needs.{needs}
 use Rattle.image.proofs.channels.put_channel.Statement.{statement}

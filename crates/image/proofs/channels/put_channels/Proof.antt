@@ -8,13 +8,14 @@ use lib.Seq.{take-all}
 use Rattle.text.specs.Definition.Put.{Put}
 use Rattle.text.specs.Laws.Text.{put-none}
 use Rattle.rows.specs.Definition.Channels.{zeroChannel}
+use Rattle.image.specs.Definition.Offsets.{CHANNEL}
 use Rattle.image.specs.Definition.Image.{rowsBytes, channelBytes}
 use Rattle.image.specs.Laws.Bytes.{row-put}
 use Rattle.image.proofs.channels.put_channels.Statement.{statement}
 use Rattle.image.proofs.channels.put_channels.Tie as tie
 
 abbrev Inv-loop : tie.InvT-loop
-Inv-loop to₀ at channels m₀ i₀ to m i = Put to₀ to at m (rowsBytes channelBytes (take i channels)) × (m ≡ at + 5 * i) × (i ≤ 32) × (length to ≡ length to₀) × (length channels ≡ 32)
+Inv-loop to₀ at channels m₀ i₀ to m i = Put to₀ to at m (rowsBytes channelBytes (take i channels)) × (m ≡ at + CHANNEL * i) × (i ≤ 32) × (length to ≡ length to₀) × (length channels ≡ 32)
 
 abbrev μ-loop : tie.MeasureT-loop
 μ-loop to₀ at channels m₀ i₀ to m i = 32 - i

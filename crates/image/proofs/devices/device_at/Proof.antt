@@ -1,4 +1,4 @@
--- `devices::device_at` reads 30 bytes.
+-- `devices::device_at` reads a row.
 use denote.Ref.{now}
 use Rattle.image.proofs.Rows.{device-read}
 use borrow.Author.Needs.{needs}

@@ -1,4 +1,4 @@
--- `devices::put_device` puts 30 bytes.
+-- `devices::put_device` puts a row.
 use mathlib.Core.Path.{_≡_, ap}
 use native.Mathlib.Omega.{arith}
 use lib.ListN.{length}

@@ -8,13 +8,14 @@ use lib.Seq.{take-all}
 use Rattle.text.specs.Definition.Put.{Put}
 use Rattle.text.specs.Laws.Text.{put-none}
 use Rattle.rows.specs.Definition.Devices.{beyondDevices}
+use Rattle.image.specs.Definition.Offsets.{DEVICE}
 use Rattle.image.specs.Definition.Image.{rowsBytes, deviceBytes}
 use Rattle.image.specs.Laws.Bytes.{row-put}
 use Rattle.image.proofs.devices.put_devices.Statement.{statement}
 use Rattle.image.proofs.devices.put_devices.Tie as tie
 
 abbrev Inv-loop : tie.InvT-loop
-Inv-loop to₀ at devices m₀ i₀ to m i = Put to₀ to at m (rowsBytes deviceBytes (take i devices)) × (m ≡ at + 30 * i) × (i ≤ 16) × (length to ≡ length to₀) × (length devices ≡ 16)
+Inv-loop to₀ at devices m₀ i₀ to m i = Put to₀ to at m (rowsBytes deviceBytes (take i devices)) × (m ≡ at + DEVICE * i) × (i ≤ 16) × (length to ≡ length to₀) × (length devices ≡ 16)
 
 abbrev μ-loop : tie.MeasureT-loop
 μ-loop to₀ at devices m₀ i₀ to m i = 16 - i

@@ -1,6 +1,7 @@
 -- `tables::decode` reads each field at its offset.
 use denote.Ref.{now}
 use native.Mathlib.Omega.{arith}
+use Rattle.image.specs.Definition.Offsets.{LIST, CLASSES, CHAIN}
 use Rattle.image.proofs.Made.{run-laid, tables-made}
 use borrow.Author.Needs.{needs}
 use Rattle.image.proofs.tables.decode.Statement.{statement}
@@ -91,9 +92,9 @@ returns c =
     let room = c .before .before .before .before .before .u16-at2 in
     let cold = c .before .before .before .before .u16-at3 in
     tables-made image (list .result) (classes .result) (chain .result) (user .result) (room .result) (cold .result) (channels .result) (devices .result) (name .result)
-    (run-laid image 1 (list .result) (omega (arith, c .before .before .before .before .before .before .before .before .before .before .before .before .before .before .before .before .before .before .before .pre)) (list .ensures))
-    (run-laid image 33 (classes .result) (omega (arith, c .before .before .before .before .before .before .before .before .before .before .before .before .before .before .before .before .before .before .before .pre)) (classes .ensures))
-    (run-laid image 66 (chain .result) (omega (arith, c .before .before .before .before .before .before .before .before .before .before .before .before .before .before .before .before .before .before .before .pre)) (chain .ensures))
+    (run-laid image LIST (list .result) (omega (arith, c .before .before .before .before .before .before .before .before .before .before .before .before .before .before .before .before .before .before .before .pre)) (list .ensures))
+    (run-laid image CLASSES (classes .result) (omega (arith, c .before .before .before .before .before .before .before .before .before .before .before .before .before .before .before .before .before .before .before .pre)) (classes .ensures))
+    (run-laid image CHAIN (chain .result) (omega (arith, c .before .before .before .before .before .before .before .before .before .before .before .before .before .before .before .before .before .before .before .pre)) (chain .ensures))
     (user .ensures) (room .ensures) (cold .ensures) (channels .ensures) (devices .ensures) (name .ensures)
 
 pub decode-spec : {M : Type 1} → statement M

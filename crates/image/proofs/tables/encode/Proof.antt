@@ -31,7 +31,7 @@ returns c =
     let r = c .before .before .before .before .before .before .put-rows in
     let s = c .before .before .put-default in
     let long = s .kept .1 .0 ∙ r .kept .1 .0 ∙ q .kept .1 .0 ∙ p .kept .1 .0 ∙ c .before .before .before .before .before .before .before .before .before .before .before .before .before .before .before .before .before .pre in
-    whole (put-then (put-then (put-then (p .ensures .0) (q .ensures .0)) (r .ensures .0)) (s .ensures .0)) (omega (arith, long, p .ensures .1, q .ensures .1, r .ensures .1, s .ensures .1))
+    whole (put-then (put-then (put-then (p .ensures) (q .ensures)) (r .ensures)) (s .ensures)) (omega (arith, long))
 
 pub encode-spec : {M : Type 1} → statement M
 encode-spec =

@@ -2,6 +2,7 @@
 use native.Mathlib.Omega.{arith}
 use Rattle.text.specs.Laws.Text.{put-then}
 use Rattle.image.specs.Definition.Image.{boundaryBytes}
+use Rattle.image.specs.Laws.Bytes.{put-to}
 use borrow.Author.Needs.{needs}
 use Rattle.image.proofs.tables.put_boundaries.Statement.{statement}
 use Rattle.image.proofs.tables.put_boundaries.Tie as tie
@@ -24,7 +25,7 @@ returns c =
     let p = c .before .before .before .before .before .before .before .before .before .before .put-u16 in
     let q = c .before .before .before .before .before .before .put-u162 in
     let r = c .before .before .put-u163 in
-    (put-then (put-then (p .ensures) (q .ensures)) (r .ensures), omega (arith, p .ensures .stop, q .ensures .stop, r .ensures .stop))
+    put-to (omega (arith, p .ensures .stop, q .ensures .stop, r .ensures .stop)) (put-then (put-then (p .ensures) (q .ensures)) (r .ensures))
 
 pub put-boundaries-spec : {M : Type 1} → statement M
 put-boundaries-spec =

@@ -1,10 +1,11 @@
--- `tables::put_default` puts 30 bytes.
+-- `tables::put_default` puts the default's name, length and unit.
 use mathlib.Core.Path.{_≡_}
 use native.Mathlib.Omega.{arith}
 use lib.ListN.{length}
 use Rattle.text.specs.Laws.Text.{put-then}
 use Rattle.image.specs.Definition.Image.{defaultBytes}
 use Rattle.image.proofs.Known.{default-name}
+use Rattle.image.specs.Laws.Bytes.{put-to}
 use borrow.Author.Needs.{needs}
 use Rattle.image.proofs.tables.put_default.Statement.{statement}
 use Rattle.image.proofs.tables.put_default.Tie as tie
@@ -33,7 +34,7 @@ returns c =
     let p = c .before .before .before .before .before .before .before .before .before .before .put-run in
     let q = c .before .before .before .before .before .before .put in
     let r = c .before .before .put2 in
-    (put-then (put-then (p .ensures) (q .ensures)) (r .ensures), omega (arith, p .ensures .stop, q .ensures .stop, r .ensures .stop))
+    put-to (omega (arith, p .ensures .stop, q .ensures .stop, r .ensures .stop)) (put-then (put-then (p .ensures) (q .ensures)) (r .ensures))
 
 pub put-default-spec : {M : Type 1} → statement M
 put-default-spec =

@@ -1,7 +1,8 @@
--- `tables::put_rows` puts 642 bytes.
+-- `tables::put_rows` puts the channels and the devices, each behind their number.
 use native.Mathlib.Omega.{arith}
 use Rattle.text.specs.Laws.Text.{put-then}
 use Rattle.image.specs.Definition.Image.{rowBytes}
+use Rattle.image.specs.Laws.Bytes.{put-to}
 use borrow.Author.Needs.{needs}
 use Rattle.image.proofs.tables.put_rows.Statement.{statement}
 use Rattle.image.proofs.tables.put_rows.Tie as tie
@@ -28,7 +29,7 @@ returns c =
     let q = c .before .before .before .before .before .before .before .before .before .before .put-channels .ensures in
     let r = c .before .before .before .before .before .before .put2 .ensures in
     let s = c .before .before .put-devices .ensures in
-    (put-then (put-then (put-then p (q .0)) r) (s .0), omega (arith, p .stop, q .1, r .stop, s .1))
+    put-to (omega (arith, p .stop, q .1, r .stop, s .1)) (put-then (put-then (put-then p (q .0)) r) (s .0))
 
 pub put-rows-spec : {M : Type 1} → statement M
 put-rows-spec =

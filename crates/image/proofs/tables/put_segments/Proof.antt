@@ -1,8 +1,9 @@
--- `tables::put_segments` puts 98 bytes.
+-- `tables::put_segments` puts the list, the classes and the chain.
 use native.Mathlib.Omega.{arith}
 use Rattle.kernel.proofs.Known.{sized}
 use Rattle.text.specs.Laws.Text.{put-then}
 use Rattle.image.specs.Definition.Image.{segmentBytes}
+use Rattle.image.specs.Laws.Bytes.{put-to}
 use borrow.Author.Needs.{needs}
 use Rattle.image.proofs.tables.put_segments.Statement.{statement}
 use Rattle.image.proofs.tables.put_segments.Tie as tie
@@ -49,7 +50,7 @@ returns c =
     let r = c .before .before .before .before .before .before .before .before .before .before .before .put-run2 .ensures in
     let s = c .before .before .before .before .before .before .before .put2 .ensures in
     let u = c .before .before .put-run3 .ensures in
-    (put-then (put-then (put-then (put-then p q) r) s) u, omega (arith, l .list, l .classes, l .chain, p .stop, q .stop, r .stop, s .stop, u .stop))
+    put-to (omega (arith, l .list, l .classes, l .chain, p .stop, q .stop, r .stop, s .stop, u .stop)) (put-then (put-then (put-then (put-then p q) r) s) u)
 
 pub put-segments-spec : {M : Type 1} → statement M
 put-segments-spec =
