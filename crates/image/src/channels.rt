@@ -9,6 +9,7 @@ use super::fields::put_u16;
 use super::offsets;
 use events::fields::u16_at;
 use rows::Channel;
+use rows::channels::NO_CHANNEL;
 use text::put;
 
 fn channel_at(image: &[u8], at: usize) -> Channel
@@ -27,12 +28,7 @@ pub fn channels_at(image: &[u8], at: usize) -> [Channel; 32]
     requires { ⌜ at + 32 * CHANNEL ≤ length (now image) ⌝ }
     ensures { λ r. ⌜ r ≡ rowsOf channelFrom CHANNEL 32 (drop at (now (image .entry))) ⌝ }
 {
-    let mut rows = [Channel {
-        number: 0,
-        device: 0,
-        unit: 0,
-        n: 0,
-    }; 32];
+    let mut rows = [NO_CHANNEL; 32];
     let mut i = 0;
     while i < 32 {
         rows[i] = channel_at(image, at + offsets::CHANNEL * i);

@@ -9,6 +9,7 @@ use super::fields::name_at;
 use super::fields::put_run;
 use super::offsets;
 use rows::Device;
+use rows::devices::NO_DEVICE;
 use text::put;
 
 fn device_at(image: &[u8], at: usize) -> Device
@@ -27,11 +28,7 @@ pub fn devices_at(image: &[u8], at: usize) -> [Device; 16]
     requires { ⌜ at + 16 * DEVICE ≤ length (now image) ⌝ }
     ensures { λ r. ⌜ r ≡ rowsOf deviceFrom DEVICE 16 (drop at (now (image .entry))) ⌝ }
 {
-    let mut rows = [Device {
-        name: [0u8; 28],
-        length: 0,
-        enabled: false,
-    }; 16];
+    let mut rows = [NO_DEVICE; 16];
     let mut i = 0;
     while i < 16 {
         rows[i] = device_at(image, at + offsets::DEVICE * i);

@@ -8,7 +8,7 @@ use borrow.Author.Tests.{lt-ltb, le-ltb, le-leb, lt-leb, ltb-false, not-true, no
 use lib.Dec.{ltb}
 use lib.ListN.{length, take, set}
 use lib.Seq.{take-all}
-use Rattle.rows.specs.Definition.Devices.{disabledBy}
+use Rattle.rows.specs.Definition.Devices.{newDevice, disabledBy}
 use Rattle.rows.specs.Definition.Sizes.{chainLength}
 use Rattle.rows.specs.Laws.Lists.{or-left, or-right, not-not}
 use Rattle.rows.specs.declared.Device.{Device}
@@ -41,7 +41,7 @@ module _ (t : Tables) (m : ℕ) (name : List ℕ) (total long held more : ℕ) (
 
   pub device-made : (bytes : List ℕ) (rows : List Device) (known : ℕ) (after : Tables) → bytes ≡ wordOf (take (length name) name)
       → rows ≡ map (disabledBy bytes (length name)) (t .devices) → known ≡ t .known
-      → after ≡ grown more (withDevices t (t .room - m) (t .known + 1) (set rows known (record { name = bytes; length = length name; enabled = true })))
+      → after ≡ grown more (withDevices t (t .room - m) (t .known + 1) (set rows known (newDevice bytes (length name))))
       → after ≡ linking t m (wordOf name) (length name)
   unfolding linking
   device-made bytes rows known after p q k h =

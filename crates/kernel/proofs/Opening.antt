@@ -7,7 +7,7 @@ use native.Mathlib.Omega.{arith}
 use borrow.Author.Tests.{lt-ltb, le-ltb, le-leb, lt-leb, ne-eqb, ltb-false, not-false}
 use lib.Dec.{ltb}
 use lib.ListN.{length, take, set, length-take}
-use Rattle.rows.specs.Definition.Channels.{rowIn, foundAt}
+use Rattle.rows.specs.Definition.Channels.{newChannel, rowIn, foundAt}
 use Rattle.rows.specs.Laws.Channels.{found-at, found-nowhere}
 use Rattle.rows.specs.Definition.Devices.{deviceIn}
 use Rattle.rows.specs.Definition.Sizes.{chainLength}
@@ -154,11 +154,11 @@ module _ (t : Tables) (channel driver n : ℕ) (w : Wanted) (known : ℕ) (place
       fitting : row % 256 ≡ row
       fitting = omega (arith, row-is .1, g .devices .most)
 
-      pub to-row : driver ≡ 0 → onOpenTo t channel driver n w ≡ onOpenRow t (record { number = channel; device = row % 256; unit = w .unit; n = n })
+      pub to-row : driver ≡ 0 → onOpenTo t channel driver n w ≡ onOpenRow t (newChannel channel (row % 256) (w .unit) n)
       unfolding onOpenTo onOpenRow
       to-row z = rw (fitting, row-is .0, lt-leb _ _ (row-is .1), z)
 
-      pub to-new : channel < 255 → t .opened ≤ channelAt t channel → New t (record { number = channel; device = row % 256; unit = w .unit; n = n })
+      pub to-new : channel < 255 → t .opened ≤ channelAt t channel → New t (newChannel channel (row % 256) (w .unit) n)
       to-new c a = record { number = c; device = rw fitting (row-is .1); absent = a }
 
 -- the string

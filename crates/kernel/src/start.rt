@@ -10,8 +10,8 @@ use super::Answer;
 use super::Outcome;
 use super::Tables;
 use line::ram::zero_all;
-use rows::Channel;
-use rows::Device;
+use rows::channels::NO_CHANNEL;
+use rows::devices::NO_DEVICE;
 use rows::devices::built_in;
 use rows::segments::fresh_classes;
 use rows::segments::lay;
@@ -49,12 +49,7 @@ fn fresh_tables(room: u16, list: &[u8]) -> Tables
         room,
         cold: room,
         opened: 0,
-        channels: [Channel {
-            number: 0,
-            device: 0,
-            unit: 0,
-            n: 0,
-        }; 32],
+        channels: [NO_CHANNEL; 32],
         known: 3,
         devices,
         name: [0u8; 28],
@@ -78,18 +73,9 @@ impl Tables {
             room: 0,
             cold: 0,
             opened: 0,
-            channels: [Channel {
-                number: 0,
-                device: 0,
-                unit: 0,
-                n: 0,
-            }; 32],
+            channels: [NO_CHANNEL; 32],
             known: 0,
-            devices: [Device {
-                name: [0u8; 28],
-                length: 0,
-                enabled: false,
-            }; 16],
+            devices: [NO_DEVICE; 16],
             name: [0u8; 28],
             length: 0,
             unit: 0,

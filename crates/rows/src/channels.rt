@@ -4,11 +4,25 @@ ghost use Prim.Native.Nat.{ℕ, _≤_, _<_};
 ghost use lib.ListN.{take, getD, replicate};
 ghost use Rattle.rows.specs.Definition.Lists.{without, upTo};
 ghost use Rattle.rows.specs.Definition.Channels.{zeroChannel, sumOf, rowIn, foundAt};
-ghost use Rattle.rows.specs.Definition.Tests.{restChannel, channelRow, channelTest};
+ghost use Rattle.rows.specs.Definition.Tests.{emptyChannel, restChannel, channelRow, channelTest};
 use super::Channel;
 use super::Lookup;
 use super::numbers::wide;
 use super::numbers::wide16;
+
+// An unused row.
+pub const NO_CHANNEL: Channel = Channel {
+    number: 0,
+    device: 0,
+    unit: 0,
+    n: 0,
+};
+
+fn empty_channel(c: Channel) -> bool
+    ensures { λ r. ⌜ r ≡ emptyChannel c ⌝ }
+{
+    (c.number == 0) & (c.device == 0) & (c.unit == 0) & (c.n == 0)
+}
 
 // The length of the first `count` records.
 pub fn total(channels: [Channel; 32], count: usize) -> usize
@@ -53,12 +67,7 @@ pub fn without_row(channels: [Channel; 32], i: usize) -> [Channel; 32]
         rows[j] = c;
         j = j + 1;
     }
-    rows[j] = Channel {
-        number: 0,
-        device: 0,
-        unit: 0,
-        n: 0,
-    };
+    rows[j] = NO_CHANNEL;
     rows
 }
 
@@ -70,12 +79,7 @@ pub fn emptied(channels: [Channel; 32], opened: usize) -> [Channel; 32]
     let mut rows = channels;
     let mut i: usize = 0;
     while i < opened {
-        rows[i] = Channel {
-            number: 0,
-            device: 0,
-            unit: 0,
-            n: 0,
-        };
+        rows[i] = NO_CHANNEL;
         i = i + 1;
     }
     rows
@@ -90,7 +94,7 @@ fn empty_from(channels: [Channel; 32], opened: usize) -> bool
     let mut i = opened;
     while i < 32 {
         let c = channels[i];
-        ok = ok & ((c.number == 0) & (c.device == 0) & (c.unit == 0) & (c.n == 0));
+        ok = ok & empty_channel(c);
         i = i + 1;
     }
     ok

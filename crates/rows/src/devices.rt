@@ -1,14 +1,14 @@
-// The rows of devices, and names: 28 bytes, of which the first `length` count.
+// The rows of devices, and names: 28 bytes, of which the first n count.
 ghost use mathlib.Core.Path.{_≡_};
-ghost use mathlib.Core.Bool.{_&&_, _||_};
+ghost use mathlib.Core.Bool.{false, _&&_, _||_};
 ghost use mathlib.Core.List.{map};
 ghost use Prim.Native.Nat.{_≤_};
 ghost use lib.ListN.{take};
 ghost use lib.Dec.{leb, ltb};
 ghost use Rattle.rows.specs.Definition.Lists.{upTo};
 ghost use Rattle.rows.specs.Definition.Channels.{foundAt};
-ghost use Rattle.rows.specs.Definition.Devices.{builtIn, sameName, sameBytes, disabledBy, hasName, deviceIn};
-ghost use Rattle.rows.specs.Definition.Tests.{letterRow, nameTest, defaultTest, zeroRow, restDevice, deviceRow, builtTest, deviceTest};
+ghost use Rattle.rows.specs.Definition.Devices.{newDevice, enabling, builtIn, sameName, sameBytes, disabledBy, hasName, deviceIn};
+ghost use Rattle.rows.specs.Definition.Tests.{letterRow, nameTest, defaultTest, zeroRow, emptyDevice, restDevice, deviceRow, builtTest, deviceTest};
 use super::Device;
 use super::Lookup;
 use super::numbers::wide;
@@ -19,30 +19,32 @@ const NET: [u8; 28] = *b"NET\0\0\0\0\0\0\0\0\0\0\0\0\0\0\0\0\0\0\0\0\0\0\0\0\0";
 
 const KEYBOARD: [u8; 28] = *b"KEYBOARD\0\0\0\0\0\0\0\0\0\0\0\0\0\0\0\0\0\0\0\0";
 
+// An unused row.
+pub const NO_DEVICE: Device = Device {
+    name: [0; 28],
+    length: 0,
+    enabled: false,
+};
+
+// An enabled device of this name.
+pub fn new_device(name: [u8; 28], n: u8) -> Device
+    ensures { λ r. ⌜ r ≡ newDevice name n ⌝ }
+{
+    Device {
+        name,
+        length: n,
+        enabled: true,
+    }
+}
+
 // The devices that are built in, and unused rows behind them.
 pub fn built_in() -> [Device; 16]
     ensures { λ r. ⌜ r ≡ builtIn ⌝ }
 {
-    let mut rows = [Device {
-        name: [0; 28],
-        length: 0,
-        enabled: false,
-    }; 16];
-    rows[0] = Device {
-        name: VIDEO,
-        length: 5,
-        enabled: true,
-    };
-    rows[1] = Device {
-        name: NET,
-        length: 3,
-        enabled: true,
-    };
-    rows[2] = Device {
-        name: KEYBOARD,
-        length: 8,
-        enabled: true,
-    };
+    let mut rows = [NO_DEVICE; 16];
+    rows[0] = new_device(VIDEO, 5);
+    rows[1] = new_device(NET, 3);
+    rows[2] = new_device(KEYBOARD, 8);
     rows
 }
 
@@ -69,22 +71,22 @@ fn same_name(a: [u8; 28], length_a: u8, b: [u8; 28], length_b: u8) -> bool
 }
 
 // `d` is enabled and has this name, which is not empty.
-fn has_name(d: Device, name: [u8; 28], length: u8) -> bool
-    ensures { λ r. ⌜ r ≡ hasName name length d ⌝ }
+fn has_name(d: Device, name: [u8; 28], n: u8) -> bool
+    ensures { λ r. ⌜ r ≡ hasName name n d ⌝ }
 {
     let other = d.name;
-    (0 < length) & (d.enabled & same_name(other, d.length, name, length))
+    (0 < n) & (d.enabled & same_name(other, d.length, name, n))
 }
 
 // Where the first enabled device of this name stands among the first `known` rows.
-pub fn device_row(devices: [Device; 16], known: usize, name: [u8; 28], length: u8) -> Lookup
+pub fn device_row(devices: [Device; 16], known: usize, name: [u8; 28], n: u8) -> Lookup
     requires { ⌜ known ≤ 16 ⌝ }
-    ensures { λ r. ⌜ r ≡ foundAt (deviceIn (take known devices) name length) known ⌝ }
+    ensures { λ r. ⌜ r ≡ foundAt (deviceIn (take known devices) name n) known ⌝ }
 {
     let mut i: usize = 0;
     while i < known {
         let d = devices[i];
-        if has_name(d, name, length) {
+        if has_name(d, name, n) {
             return Lookup::At(i);
         }
         i = i + 1;
@@ -92,21 +94,25 @@ pub fn device_row(devices: [Device; 16], known: usize, name: [u8; 28], length: u
     Lookup::Nowhere
 }
 
+fn disabled(d: Device) -> Device
+    ensures { λ r. ⌜ r ≡ enabling d false ⌝ }
+{
+    let mut off = d;
+    off.enabled = false;
+    off
+}
+
 // Each device of this name is disabled.
-pub fn disable(devices: [Device; 16], name: [u8; 28], length: u8) -> [Device; 16]
-    ensures { λ r. ⌜ r ≡ map (disabledBy name length) devices ⌝ }
+pub fn disable(devices: [Device; 16], name: [u8; 28], n: u8) -> [Device; 16]
+    ensures { λ r. ⌜ r ≡ map (disabledBy name n) devices ⌝ }
 {
     let mut rows = devices;
     let mut i: usize = 0;
     while i < 16 {
         let d = devices[i];
         let other = d.name;
-        if same_name(other, d.length, name, length) {
-            rows[i] = Device {
-                name: other,
-                length: d.length,
-                enabled: false,
-            };
+        if same_name(other, d.length, name, n) {
+            rows[i] = disabled(d);
         }
         i = i + 1;
     }
@@ -128,16 +134,16 @@ fn letters(name: [u8; 28], n: u8) -> bool
 }
 
 // A capital below the length, zero from it on.
-fn name_test(name: [u8; 28], length: u8) -> bool
-    ensures { λ r. ⌜ r ≡ nameTest name length ⌝ }
+fn name_test(name: [u8; 28], n: u8) -> bool
+    ensures { λ r. ⌜ r ≡ nameTest name n ⌝ }
 {
-    (length <= 28) & letters(name, length)
+    (n <= 28) & letters(name, n)
 }
 
-pub fn default_test(name: [u8; 28], length: u8, unit: u8) -> bool
-    ensures { λ r. ⌜ r ≡ defaultTest name length unit ⌝ }
+pub fn default_test(name: [u8; 28], n: u8, unit: u8) -> bool
+    ensures { λ r. ⌜ r ≡ defaultTest name n unit ⌝ }
 {
-    name_test(name, length) & ((0 < length) | (unit == 0))
+    name_test(name, n) & ((0 < n) | (unit == 0))
 }
 
 fn nameless(name: [u8; 28]) -> bool
@@ -152,6 +158,13 @@ fn nameless(name: [u8; 28]) -> bool
     ok
 }
 
+fn empty_device(d: Device) -> bool
+    ensures { λ r. ⌜ r ≡ emptyDevice d ⌝ }
+{
+    let name = d.name;
+    (d.length == 0) & !d.enabled & nameless(name)
+}
+
 // Rows from `known` on are empty.
 fn unused_from(devices: [Device; 16], known: usize) -> bool
     requires { ⌜ known ≤ 16 ⌝ }
@@ -161,21 +174,20 @@ fn unused_from(devices: [Device; 16], known: usize) -> bool
     let mut i = known;
     while i < 16 {
         let d = devices[i];
-        let name = d.name;
-        ok = ok & ((d.length == 0) & !d.enabled & nameless(name));
+        ok = ok & empty_device(d);
         i = i + 1;
     }
     ok
 }
 
 // The name of a row behind those that are built in. Their names are known.
-fn linked_named(i: usize, name: [u8; 28], length: u8) -> bool
-    ensures { λ r. ⌜ r ≡ ltb i 3 || (leb 1 length && nameTest name length) ⌝ }
+fn linked_named(i: usize, name: [u8; 28], n: u8) -> bool
+    ensures { λ r. ⌜ r ≡ ltb i 3 || (leb 1 n && nameTest name n) ⌝ }
 {
     if i < 3 {
         return true;
     }
-    (1 <= length) & name_test(name, length)
+    (1 <= n) & name_test(name, n)
 }
 
 // The first `known` rows are devices, first those that are built in, each with a name, and enabled exactly if no later
@@ -198,15 +210,15 @@ fn devices_fine(devices: [Device; 16], known: usize) -> bool
     while i < known {
         let d = devices[i];
         let name = d.name;
-        let length = d.length;
+        let n = d.length;
         let on = d.enabled;
-        let fine = linked_named(i, name, length);
+        let fine = linked_named(i, name, n);
         let mut last = true;
         let mut j = i + 1;
         while j < known {
             let e = devices[j];
             let other = e.name;
-            last = last & !same_name(other, e.length, name, length);
+            last = last & !same_name(other, e.length, name, n);
             j = j + 1;
         }
         ok = ok & (fine & ((on & last) | (!on & !last)));

@@ -10,7 +10,7 @@ use Rattle.names.specs.Definition.Grammar.{Reading}
 use Rattle.names.specs.Definition.Read.{reading}
 use Rattle.names.specs.Definition.Tests.{linkNameTest, defaultNameTest}
 use Rattle.names.specs.Definition.Words.{wordOf}
-use Rattle.rows.specs.declared.Channel.{Channel}
+use Rattle.rows.specs.Definition.Channels.{newChannel}
 use Rattle.kernel.specs.Definition.Tables.{SEGMENT, numberAt, rowOf, lowestFree, sharing, lastRow, channelAt, withDefault}
 use Rattle.kernel.specs.Definition.Line.{totalOf, sizeAt, boundaryOf, roomFor, opening, closing}
 use Rattle.kernel.specs.Definition.Segments.{someFree, mayShare, granting, sharingLast, mayFree, freeing, bounding, mayReach, reachOf, guarded}
@@ -84,7 +84,7 @@ onReset t flags = unless (BadFlags when otherBits flags ∷ []) t (gives (Done 0
 unfoldable pub onOpenTo : Tables → (channel driver n : ℕ) → Wanted → Decision
 unfolding roomFor opening
 onOpenTo t channel driver n w =
-    let c : Channel = record { number = channel; device = deviceFor t w; unit = w .unit; n = n } in
+    let c = newChannel channel (deviceFor t w) (w .unit) n in
     unless
     (NoDevice when leb (t .known) (deviceFor t w)
     ∷ Driver driver when not (eqb driver 0)

@@ -16,6 +16,7 @@ use Rattle.names.specs.Laws.Runs.{link-right, default-right}
 use Rattle.rows.specs.Laws.Lists.{and-left, and-right, or-left, or-right}
 use Rattle.rows.specs.Laws.Says.{says-lt, says-eq, says-and, says-not, says-false}
 use Rattle.rows.specs.Definition.Classes.{SHARED}
+use Rattle.rows.specs.Definition.Channels.{newChannel}
 use Rattle.rows.specs.declared.Channel.{Channel}
 use Rattle.kernel.specs.Definition.Tables.{SEGMENT, numberAt, classAt, rowOf, lowestFree, sharing, lastRow, channelAt, withDefault}
 use Rattle.kernel.specs.Definition.Line.{totalOf, sizeAt, boundaryOf, roomFor, opening, closing}
@@ -111,7 +112,7 @@ module _ (t : Tables) (ram : ℕ) where
         either (not (eqb driver 0)) (λ e. drives (eqb-false driver 0 (not-true _ e))) (λ _.
         past (leb 32 (t .opened)) _ refl (λ few.
         past (not (roomFor t (t .room) (totalOf t + (16 + n)))) _ refl (λ fits.
-        does refl (opens (record { number = channel; device = deviceFor t w; unit = w .unit; n = n }) refl low new (leb-false _ _ device) (leb-false _ _ few) (not-false _ fits))))))
+        does refl (opens (newChannel channel (deviceFor t w) (w .unit) n) refl low new (leb-false _ _ device) (leb-false _ _ few) (not-false _ fits))))))
 
     open-named : (r : Option Reading) → Verdict t ram («open» channel driver n name) (onOpenNamed t channel driver n r)
     unfolding onOpenNamed

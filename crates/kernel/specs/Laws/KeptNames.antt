@@ -5,11 +5,10 @@ use mathlib.Core.List.{List, map}
 use Prim.Native.Nat.{ℕ, _+_, _-_, _≤_, _<_}
 use native.Mathlib.Omega.{arith}
 use lib.ListN.{length, length-set, length-map}
-use Rattle.rows.specs.Definition.Devices.{disabledBy, added}
+use Rattle.rows.specs.Definition.Devices.{newDevice, disabledBy, added}
 use Rattle.rows.specs.Definition.Good.{NameGood}
 use Rattle.rows.specs.Laws.ChannelRows.{channels-known}
 use Rattle.rows.specs.Laws.DeviceRows.{devices-more}
-use Rattle.rows.specs.declared.Device.{Device}
 use Rattle.kernel.specs.Definition.Tables.{withDevices, withDefault}
 use Rattle.kernel.specs.Definition.Line.{totalOf, roomFor}
 use Rattle.kernel.specs.Definition.Devices.{linking}
@@ -24,8 +23,7 @@ pub linking-keeps : (t : Tables) (m : ℕ) (name : List ℕ) (n : ℕ) → Good 
 unfolding linking roomFor
 linking-keeps t m name n g k w p h e =
     let ds = added (t .devices) (t .known) name n in
-    let new : Device = record { name = name; length = n; enabled = true } in
-    let l : length ds ≡ 16 = length-set (map (disabledBy name n) (t .devices)) (t .known) new ∙ length-map (t .devices) (disabledBy name n) ∙ g .sized .devices in
+    let l : length ds ≡ 16 = length-set (map (disabledBy name n) (t .devices)) (t .known) (newDevice name n) ∙ length-map (t .devices) (disabledBy name n) ∙ g .sized .devices in
     fill (withDevices t (t .room - m) (t .known + 1) ds)
     (body-devices t (t .room - m) (t .known + 1) ds l (record { least = omega arith; most = omega (arith, g .room .most); top = g .room .top })
     (devices-more (t .devices) (t .known) name n (g .sized .devices) k w p (g .devices))

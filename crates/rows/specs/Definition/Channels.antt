@@ -8,9 +8,12 @@ use Rattle.rows.specs.declared.Channel.{Channel}
 use Rattle.rows.specs.declared.Lookup.{Lookup}
 use Rattle.rows.specs.declared.Lookup.the-variants.{At, Nowhere}
 
+abbrev pub newChannel : (number device unit n : ℕ) → Channel
+newChannel number device unit n = record { number = number; device = device; unit = unit; n = n }
+
 -- "Unused rows and bytes of the tables are zero"
 abbrev pub zeroChannel : Channel
-zeroChannel = record { number = 0; device = 0; unit = 0; n = 0 }
+zeroChannel = newChannel 0 0 0 0
 
 -- "length L = 16 + n"; "T is the sum of their lengths"
 abbrev pub sumOf : List Channel → ℕ

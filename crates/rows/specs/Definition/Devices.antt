@@ -7,13 +7,25 @@ use lib.ListN.{length, set, replicate}
 use Rattle.rows.specs.Definition.Lists.{at, padded, upTo, firstWhere}
 use Rattle.rows.specs.declared.Device.{Device}
 
+-- a row with no device
+abbrev pub blankDevice : (name : List ℕ) → Device
+blankDevice name = record { name = name; length = 0; enabled = false }
+
 -- what reading beyond the rows would give
 abbrev pub beyondDevices : Device
-beyondDevices = record { name = []; length = 0; enabled = false }
+beyondDevices = blankDevice []
 
 -- "Unused rows and bytes of the tables are zero"
 abbrev pub zeroDevice : Device
-zeroDevice = record { name = replicate {A = ℕ} 28 0; length = 0; enabled = false }
+zeroDevice = blankDevice (replicate 28 0)
+
+-- an enabled device: its name in 28 bytes, of which n count
+abbrev pub newDevice : (name : List ℕ) (n : ℕ) → Device
+newDevice name n = record { name = name; length = n; enabled = true }
+
+-- the device enabled or not, and else as it was
+abbrev pub enabling : Device → Bool → Device
+enabling d on = record { name = d .name; length = d .length; enabled = on }
 
 abbrev pub sameBytes : List ℕ → List ℕ → ℕ → Bool
 sameBytes a b k = eqb (at a k) (at b k)
@@ -24,7 +36,7 @@ sameName a length-a b length-b = eqb length-a length-b && upTo 28 (sameBytes a b
 
 -- an enabled device of this name
 abbrev pub deviceOf : List ℕ → Device
-deviceOf s = record { name = padded 28 s; length = length s; enabled = true }
+deviceOf s = newDevice (padded 28 s) (length s)
 
 abbrev pub VIDEO : List ℕ
 VIDEO = 86 ∷ 73 ∷ 68 ∷ 69 ∷ 79 ∷ []
@@ -41,11 +53,11 @@ builtIn = deviceOf VIDEO ∷ deviceOf NET ∷ deviceOf KEYBOARD ∷ replicate {A
 
 -- "An older device of the same name is disabled": the device once one of this name is linked
 abbrev pub disabledBy : List ℕ → ℕ → Device → Device
-disabledBy s n d = record { name = d .name; length = d .length; enabled = d .enabled && not (sameName (d .name) (d .length) s n) }
+disabledBy s n d = enabling d (d .enabled && not (sameName (d .name) (d .length) s n))
 
 -- "Link adds a device"
 abbrev pub added : List Device → ℕ → List ℕ → ℕ → List Device
-added ds known s n = set (map (disabledBy s n) ds) known (record { name = s; length = n; enabled = true })
+added ds known s n = set (map (disabledBy s n) ds) known (newDevice s n)
 
 -- enabled and so named. "The empty default matches no device"
 abbrev pub hasName : List ℕ → ℕ → Device → Bool

@@ -8,7 +8,7 @@ use native.Mathlib.Omega.{arith}
 use lib.ListN.{length, getD, set, length-map, List·getD-map}
 use lib.Seq.{getD-set-same, getD-set-other}
 use Rattle.rows.specs.Definition.Lists.{upTo}
-use Rattle.rows.specs.Definition.Devices.{beyondDevices, builtIn, disabledBy, added}
+use Rattle.rows.specs.Definition.Devices.{beyondDevices, newDevice, builtIn, disabledBy, added}
 use Rattle.rows.specs.Definition.Good.{NameGood, Same, DevicesGood}
 use Rattle.rows.specs.Laws.Good.{same-yes, same-no, device-says}
 use Rattle.rows.specs.declared.Device.{Device}
@@ -20,7 +20,7 @@ turned e = record { long = sym (e .long); bytes = λ k l. sym (e .bytes k l) }
 pub devices-more : (ds : List Device) (known : ℕ) (s : List ℕ) (n : ℕ) → length ds ≡ 16 → known < 16 → NameGood s n → 1 ≤ n → DevicesGood ds known
     → DevicesGood (added ds known s n) (known + 1)
 devices-more ds known s n l h w p g =
-    let new : Device = record { name = s; length = n; enabled = true } in
+    let new = newDevice s n in
     let ms = map (disabledBy s n) ds in
     let here : getD (set ms known new) known beyondDevices ≡ new = getD-set-same ms known new beyondDevices (omega (arith, length-map ds (disabledBy s n))) in
     let old : (i : ℕ) → (i ≡ known → ⊥) → getD (set ms known new) i beyondDevices ≡ disabledBy s n (getD ds i beyondDevices) =

@@ -11,7 +11,7 @@ use Rattle.rows.specs.Definition.Lists.{at, padded, tally, upTo}
 use Rattle.rows.specs.Laws.Lists.{is-false}
 use Rattle.rows.specs.Laws.Says.{Says, says-le, says-lt, says-eq, says-and, says-below, says-from, says-all, says-no, says-not, says-as, says-else, says-cond, says-or, says-false}
 use Rattle.rows.specs.Definition.Classes.{FREE, SHARED, timesHeld}
-use Rattle.rows.specs.Definition.Channels.{zeroChannel}
+use Rattle.rows.specs.Definition.Channels.{newChannel, zeroChannel}
 use Rattle.rows.specs.Definition.Devices.{beyondDevices, sameBytes, sameName, VIDEO, NET, KEYBOARD}
 use Rattle.rows.specs.Definition.Good.{ListGood, ClassesGood, ChainGood, RoomGood, ChannelsGood, UserGood, NameGood, Same, ZeroDevice, Alias, Named, DevicesGood, DefaultGood}
 use Rattle.rows.specs.Definition.Tests.{restRow, riseRow, listTest, classRow, classTest, chainRow, exactRow, chainTest, roomTest, userTest, emptyChannel, restChannel, differRow, channelRow, channelTest, letterRow, nameTest, defaultTest, zeroRow, emptyDevice, restDevice, aliasRow, agree, deviceRow, namedRow, deviceTest}
@@ -87,7 +87,7 @@ empty-says c =
     (λ h. made (c .number) (c .device) (c .unit) (c .n) (h .0 .0 .0) (h .0 .0 .1) (h .0 .1) (h .1))
     (λ e. (((ap (λ (x : Channel). x .number) e, ap (λ (x : Channel). x .device) e), ap (λ (x : Channel). x .unit) e), ap (λ (x : Channel). x .n) e))
   where
-    made : (a b c d : ℕ) → a ≡ 0 → b ≡ 0 → c ≡ 0 → d ≡ 0 → _≡_ {A = Channel} (record { number = a; device = b; unit = c; n = d }) zeroChannel
+    made : (a b c d : ℕ) → a ≡ 0 → b ≡ 0 → c ≡ 0 → d ≡ 0 → newChannel a b c d ≡ zeroChannel
     made a b c d p q r s = rw (p, q, r, s)
 
 pub channel-says : (cs : List Channel) (opened known : ℕ) → Says (channelTest cs opened known) (ChannelsGood cs opened known)

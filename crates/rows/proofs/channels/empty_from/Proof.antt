@@ -25,6 +25,9 @@ mul-c c = search needs
 array-copy-out-c : tie.Need-array-copy-out-c Inv-loop μ-loop
 array-copy-out-c c = search needs
 
+empty-channel-requires : tie.Need-empty-channel-requires Inv-loop μ-loop
+empty-channel-requires c κs = search needs
+
 add-i : tie.Need-add-i Inv-loop μ-loop
 add-i c = search needs
 
@@ -32,7 +35,10 @@ loop-less : tie.Need-loop-less Inv-loop μ-loop
 loop-less c = search needs
 
 loop-again : tie.Need-loop-again Inv-loop μ-loop
-loop-again c = let s = c .before .before .before .before .before .before .before .args in let l = c .before .before .before .before .before .before .loop in (search needs, search needs, row-more (restChannel (s .t1) (s .opened)) _ _ _ (l .inv .2) (not-excused _ _ (le-ltb (l .i) (s .opened) (l .inv .0))))
+loop-again c =
+    let l = c .before .before .before in
+    let s = l .before .args in
+    (search needs, search needs, rw (c .empty-channel .ensures) (row-more (restChannel (s .t1) (s .opened)) _ _ _ (l .loop .inv .2) (not-excused _ _ (le-ltb (l .loop .i) (s .opened) (l .loop .inv .0)))))
 
 returns : tie.Need-returns Inv-loop μ-loop
 returns c = let e : c .before .loop .i ≡ 32 = omega arith in rw e at (c .before .loop .inv .2)
@@ -40,4 +46,4 @@ returns c = let e : c .before .loop .i ≡ 32 = omega arith in rw e at (c .befor
 pub empty-from-spec : {M : Type 1} → statement M
 empty-from-spec =
     tie.close
-    (tie.spec Inv-loop μ-loop loop-holds mul-c array-copy-out-c add-i loop-less loop-again returns)
+    (tie.spec Inv-loop μ-loop loop-holds mul-c array-copy-out-c empty-channel-requires add-i loop-less loop-again returns)

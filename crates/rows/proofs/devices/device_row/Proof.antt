@@ -14,10 +14,10 @@ use Rattle.rows.proofs.devices.device_row.Statement.{statement}
 use Rattle.rows.proofs.devices.device_row.Tie as tie
 
 abbrev Inv-loop : tie.InvT-loop
-Inv-loop known name length devices i₀ i = (i ≤ known) × ((j : ℕ) → j < i → hasName name length (getD devices j beyondDevices) ≡ false)
+Inv-loop known name n devices i₀ i = (i ≤ known) × ((j : ℕ) → j < i → hasName name n (getD devices j beyondDevices) ≡ false)
 
 abbrev μ-loop : tie.MeasureT-loop
-μ-loop known name length devices i₀ i = known - i
+μ-loop known name n devices i₀ i = known - i
 
 loop-holds : tie.Need-loop-holds Inv-loop μ-loop
 loop-holds c = (search needs, λ j h. absurd (omega arith))
@@ -36,8 +36,8 @@ returns c =
     let s = c .before .before .before .before .before in
     let at = c .before .before .before .before .loop in
     let l : length (s .args .t1) ≡ 16 = s .good .0 .1 .0 .1 in
-    let e : deviceIn (take (s .args .known) (s .args .t1)) (s .args .name) (s .args .length) ≡ at .i =
-    where-here (hasName (s .args .name) (s .args .length)) (s .args .t1) beyondDevices (at .i) (s .args .known) (omega arith) (omega arith)
+    let e : deviceIn (take (s .args .known) (s .args .t1)) (s .args .name) (s .args .n) ≡ at .i =
+    where-here (hasName (s .args .name) (s .args .n)) (s .args .t1) beyondDevices (at .i) (s .args .known) (omega arith) (omega arith)
     (at .inv .1) (sym (c .before .has-name .ensures) ∙ c .if1 .taken) in
     sym (ap (λ (k : ℕ). foundAt k (s .args .known)) e ∙ found-yes (at .i) (s .args .known) (omega arith))
 
@@ -54,8 +54,8 @@ returns-2 : tie.Need-returns-2 Inv-loop μ-loop
 returns-2 c =
     let s = c .before .before in
     let l : length (s .args .t1) ≡ 16 = s .good .0 .1 .0 .1 in
-    let e : deviceIn (take (s .args .known) (s .args .t1)) (s .args .name) (s .args .length) ≡ s .args .known =
-    where-none (hasName (s .args .name) (s .args .length)) (s .args .t1) beyondDevices (s .args .known) (omega arith)
+    let e : deviceIn (take (s .args .known) (s .args .t1)) (s .args .name) (s .args .n) ≡ s .args .known =
+    where-none (hasName (s .args .name) (s .args .n)) (s .args .t1) beyondDevices (s .args .known) (omega arith)
     (λ j g. c .before .loop .inv .1 j (omega arith)) in
     sym (found-no _ (s .args .known) (omega (arith, e)))
 

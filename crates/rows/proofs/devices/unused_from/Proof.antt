@@ -25,8 +25,8 @@ mul-d c = search needs
 array-copy-out-d : tie.Need-array-copy-out-d Inv-loop μ-loop
 array-copy-out-d c = search needs
 
-nameless-requires : tie.Need-nameless-requires Inv-loop μ-loop
-nameless-requires c κs = search needs
+empty-device-requires : tie.Need-empty-device-requires Inv-loop μ-loop
+empty-device-requires c κs = search needs
 
 add-i : tie.Need-add-i Inv-loop μ-loop
 add-i c = search needs
@@ -35,7 +35,10 @@ loop-less : tie.Need-loop-less Inv-loop μ-loop
 loop-less c = search needs
 
 loop-again : tie.Need-loop-again Inv-loop μ-loop
-loop-again c = let s = c .before .before .before .before .before .before .before .args in let l = c .before .before .before .before .before .before .loop in (search needs, search needs, rw (c .nameless .ensures) (row-more (restDevice (s .t1) (s .known)) _ _ _ (l .inv .2) (not-excused _ _ (le-ltb (l .i) (s .known) (l .inv .0)))))
+loop-again c =
+    let l = c .before .before .before in
+    let s = l .before .args in
+    (search needs, search needs, rw (c .empty-device .ensures) (row-more (restDevice (s .t1) (s .known)) _ _ _ (l .loop .inv .2) (not-excused _ _ (le-ltb (l .loop .i) (s .known) (l .loop .inv .0)))))
 
 returns : tie.Need-returns Inv-loop μ-loop
 returns c = let e : c .before .loop .i ≡ 16 = omega arith in rw e at (c .before .loop .inv .2)
@@ -49,7 +52,7 @@ unused-from-spec =
     loop-holds
     mul-d
     array-copy-out-d
-    nameless-requires
+    empty-device-requires
     add-i
     loop-less
     loop-again
