@@ -15,7 +15,7 @@ use Rattle.events.specs.Definition.Records.{frontOf, bodyOf, restOf}
 use Rattle.listing.specs.declared.Stop.{Stop}
 use Rattle.listing.specs.declared.Stop.the-variants.{More, Full, Bad as Ends}
 use Rattle.listing.specs.Definition.Log.{badText, ending}
-use Rattle.listing.specs.Definition.Pieces.{Stepped, Mark, Drains, full, more, ends, line}
+use Rattle.listing.specs.Definition.Pieces.{longest, Stepped, Mark, Drains, full, more, ends, line}
 
 -- the bytes behind those that are written
 pub put-behind : (d : List ℕ) {u v : List ℕ} {m r : ℕ} {xs : List ℕ} → drop m u ≡ drop m d → Put u v m r xs → drop r v ≡ drop r d
@@ -30,13 +30,13 @@ mark t ram out left text = record { tables = t; ram = ram; output = out; left = 
 module _ (size : ℕ) (start : Mark) (t : Tables) (ram out left text : List ℕ) (used : ℕ)
     (goes : (to : Mark) (stop : Stop) → Drains size (mark t ram out left (take used text)) to stop → Drains size start to stop) (h : used ≤ length text)
     (e : length text ≡ size) where
-  room : used + 8217 ≤ length text → length (take used text) + 8217 ≤ size
+  room : used + longest ≤ length text → length (take used text) + longest ≤ size
   room r = rw (length-take-le used text h, ← e) r
 
-  pub drain-full : length text < used + 8217 → Drains (length text) start (mark t ram out left (take used text)) Full
+  pub drain-full : length text < used + longest → Drains (length text) start (mark t ram out left (take used text)) Full
   drain-full r = rw e (goes _ _ (full (omega (arith, r, e, length-take-le used text h))))
 
-  module _ (r : used + 8217 ≤ length text) where
+  module _ (r : used + longest ≤ length text) where
     pub drain-more : frontOf left ≡ Cut → Drains (length text) start (mark t ram out left (take used text)) More
     drain-more f = rw e (goes _ _ (more (room r) f))
 
@@ -54,7 +54,7 @@ module _ (size : ℕ) (start : Mark) (t : Tables) (ram out left text : List ℕ)
 -- the same with the input as the code takes it: the record's body, and the place after it
 pub drain-at : (size : ℕ) (start : Mark) (t : Tables) (ram out xs : List ℕ) (at : ℕ) (text : List ℕ) (used kind n : ℕ)
     → ((to : Mark) (stop : Stop) → Drains size (mark t ram out (drop at xs) (take used text)) to stop → Drains size start to stop) → used ≤ length text
-    → length text ≡ size → used + 8217 ≤ length text → frontOf (drop at xs) ≡ Record kind n → (t₂ : Tables) (ram₂ out₂ text₂ : List ℕ) (used₂ : ℕ)
+    → length text ≡ size → used + longest ≤ length text → frontOf (drop at xs) ≡ Record kind n → (t₂ : Tables) (ram₂ out₂ text₂ : List ℕ) (used₂ : ℕ)
     → Stepped t ram out kind (take (at + 4 + n - (at + 4)) (drop (at + 4) xs)) text used t₂ ram₂ out₂ text₂ used₂
     → (to : Mark) (stop : Stop) → Drains size (mark t₂ ram₂ out₂ (drop (at + 4 + n) xs) (take used₂ text₂)) to stop → Drains size start to stop
 drain-at size start t ram out xs at text used kind n goes h e r f t₂ ram₂ out₂ text₂ used₂ s =

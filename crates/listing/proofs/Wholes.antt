@@ -15,7 +15,7 @@ use Rattle.events.specs.declared.Front.the-variants.{Cut}
 use Rattle.events.specs.Definition.Records.{frontOf}
 use Rattle.events.specs.Laws.Front.{bad-stays, record-stays, body-stays, rest-stays}
 use Rattle.listing.specs.Definition.Log.{ending, textFrom, listing}
-use Rattle.listing.specs.Definition.Pieces.{Mark, begin, Drains, full, more, ends, line, reached, Fills}
+use Rattle.listing.specs.Definition.Pieces.{longest, Mark, begin, Drains, full, more, ends, line, reached, Fills}
 use Rattle.listing.specs.Laws.Log.{text-record, text-bad, text-cut}
 use Rattle.listing.specs.Laws.One.{one-stop}
 use Rattle.listing.specs.Laws.Pieces.{Carry}
@@ -35,8 +35,8 @@ more-first e f = omega (arith, ap number (sym e ∙ f))
 
 -- where the lines stop
 abbrev Stopped : ℕ → Mark → Stop → Type 0
-Stopped size to More = (frontOf (to .left) ≡ Cut) × (length (to .text) + 8217 ≤ size)
-Stopped size to Full = size < length (to .text) + 8217
+Stopped size to More = (frontOf (to .left) ≡ Cut) × (length (to .text) + longest ≤ size)
+Stopped size to Full = size < length (to .text) + longest
 Stopped size to Bad = Unit {0}
 
 stopped : {size : ℕ} {m to : Mark} {stop : Stop} → Drains size m to stop → Stopped size to stop
@@ -46,7 +46,7 @@ stopped (ends h e) = tt
 stopped (line h e d) = stopped d
 
 pub room-left : (m : Mark) (r : Drained) (ram out input text : List ℕ) → r .stop ≡ More → Drains (length text) m (reached r ram out input text) (r .stop)
-    → (frontOf (drop (r .taken) input) ≡ Cut) × (length (take (r .used) text) + 8217 ≤ length text)
+    → (frontOf (drop (r .taken) input) ≡ Cut) × (length (take (r .used) text) + longest ≤ length text)
 room-left m r ram out input text e d = rw e at (stopped d)
 
 -- the text of a log that is listed up to a mark, whatever follows
@@ -82,6 +82,9 @@ pub carry-bad : {size : ℕ} {t : Tables} {ram out xs : List ℕ} {to : Mark} �
     → (ys : List ℕ) → textFrom t ram out (xs ++ ys) ≡ to .text
 carry-bad d = goes-on d
 
+pub put-first : {d e : List ℕ} {n : ℕ} {xs : List ℕ} → take n e ≡ xs → n ≤ length e → drop n e ≡ drop n d → Put d e 0 n xs
+put-first {d} {e} {n} {xs} t h b = record { stop = omega (arith, ap length t, length-take-le n e h); text = t; behind = b }
+
 module _ (t : Tables) (e : t ≡ noTables) (log : List ℕ) (r : Drained) (ram out text : List ℕ)
     (d : Drains (length text) (begin t (replicate 65536 0) (replicate 4096 0) log) (reached r ram out log text) (r .stop)) where
   is-listing : textFrom t (replicate 65536 0) (replicate 4096 0) (log ++ []) ≡ listing log
@@ -91,8 +94,9 @@ module _ (t : Tables) (e : t ≡ noTables) (log : List ℕ) (r : Drained) (ram o
   pub never-full : (r .stop ≡ Full → ⊥) → (size : ℕ) → size ≡ length text → (to : Mark) → ¬ Fills log size to
   never-full n size q to f = n (one-stop d (rw (q, ← e) at f) .1)
 
-  pub fills : r .stop ≡ Full → (to : Mark) × Fills log (length text) to
-  fills q = (_, rw (e, q) at d)
+  pub fills : r .stop ≡ Full → (text₀ : List ℕ) → r .used ≤ length text → drop (r .used) text ≡ drop (r .used) text₀
+      → (to : Mark) × Fills log (length text) to × Put text₀ text 0 (length (to .text)) (to .text)
+  fills q text₀ h b = (_, rw (e, q) at d, rw (length-take-le (r .used) text h) (put-first refl h b))
 
   pub listed-bad : r .stop ≡ Bad → take (r .used) text ≡ listing log
   listed-bad q = let b = rw q at d in sym (carry-bad b []) ∙ is-listing
@@ -101,7 +105,7 @@ module _ (t : Tables) (e : t ≡ noTables) (log : List ℕ) (r : Drained) (ram o
       → take (r .used) text ++ textFrom (r .tables) ram out (drop (r .taken) log) ≡ listing log
   carried c = rw (append-nil (drop (r .taken) log)) at (sym (c .holds []) ∙ is-listing)
 
-  pub listed-over : r .stop ≡ Full → r .used ≤ length text → length text < length (listing log) + 8217
+  pub listed-over : r .stop ≡ Full → r .used ≤ length text → length text < length (listing log) + longest
   listed-over q h =
       let f = rw q at d in
       rw (← carried (carry-full f), length-append, length-take-le (r .used) text h) (omega (arith, stopped f, length-take-le (r .used) text h))

@@ -5,6 +5,7 @@ ghost use lib.ListN.{length, drop};
 ghost use Rattle.listing.specs.Definition.NoneOrGood.{NoneOrGood};
 ghost use Rattle.listing.specs.Definition.Pieces.{begin, reached, Drains};
 use super::Drained;
+use super::LONGEST;
 use super::Stop;
 use super::lines::put_bad;
 use super::records::record;
@@ -26,7 +27,7 @@ pub fn drain(
     let mut tables = t;
     let mut at: usize = 0;
     let mut used: usize = 0;
-    while 8217 <= text.len() - used {
+    while LONGEST <= text.len() - used {
         let f = front(&input[at..]);
         match f {
             Front::Cut => {

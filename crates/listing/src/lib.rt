@@ -6,6 +6,9 @@ pub mod records; // one record: its call and its line
 pub mod buffers; // the lines of a buffer
 pub mod pieces; // a log read in pieces, and a whole log
 
+// The most bytes of a line: four numbers of at most five digits, four spaces and a newline, and two digits for each of the 4,096 bytes of output.
+const LONGEST: usize = 25 + 2 * 4096;
+
 // What one record leaves: the tables, and how much of the text is used.
 pub struct After {
     pub tables: Tables,
@@ -27,7 +30,7 @@ pub struct Drained {
     pub stop: Stop,
 }
 
-// The text of a whole log: so many bytes; or fewer than 8,217 bytes of the text were left, the most that one line takes.
+// The text of a whole log: so many bytes; or less than a longest line was left of the text.
 pub enum Listed {
     Text(usize),
     Over,

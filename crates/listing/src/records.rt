@@ -6,7 +6,7 @@ ghost use Rattle.kernel.specs.Definition.Step.{result};
 ghost use Rattle.events.specs.Definition.Records.{stepOf};
 ghost use Rattle.listing.specs.Definition.Log.{lentTo};
 ghost use Rattle.listing.specs.Definition.NoneOrGood.{NoneOrGood};
-ghost use Rattle.listing.specs.Definition.Pieces.{Stepped};
+ghost use Rattle.listing.specs.Definition.Pieces.{longest, Stepped};
 use super::After;
 use super::lines::put_line;
 use events::call_good;
@@ -70,7 +70,7 @@ pub fn record(
     text: &mut [u8],
     used: usize,
 ) -> After
-    requires { ⌜ NoneOrGood t × (length (now ram) ≡ 65536) × (used + 8217 ≤ length (now text)) ⌝ }
+    requires { ⌜ NoneOrGood t × (length (now ram) ≡ 65536) × (used + longest ≤ length (now text)) ⌝ }
     ensures { λ r. ⌜ Stepped t (now (ram .entry)) (now (out .entry)) kind (now (body .entry)) (now (text .entry)) used (r .tables) (now (ram .exit)) (now (out .exit)) (now (text .exit)) (r .used) × NoneOrGood (r .tables) ⌝ }
 {
     let n = lent(t.segments, kind, body.len());

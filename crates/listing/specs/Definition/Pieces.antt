@@ -1,7 +1,7 @@
 -- A log that is read in pieces: what one record, and what the records of a piece, leave of it.
 use mathlib.Core.Path.{_≡_}
 use mathlib.Core.List.{List, [], _++_}
-use Prim.Native.Nat.{ℕ, _+_, _≤_, _<_}
+use Prim.Native.Nat.{ℕ, _+_, _*_, _≤_, _<_}
 use lib.ListN.{length, take, drop, replicate}
 use Rattle.kernel.specs.Definition.Start.{noTables}
 use Rattle.kernel.specs.declared.Tables.{Tables}
@@ -14,6 +14,10 @@ use Rattle.listing.specs.declared.Listed.the-variants.{Text, Over}
 use Rattle.listing.specs.declared.Stop.{Stop}
 use Rattle.listing.specs.declared.Stop.the-variants.{More, Full, Bad as Ends}
 use Rattle.listing.specs.Definition.Log.{logStep, lineAfter, listing, badText}
+
+-- the most bytes of a line: four numbers of at most five digits, four spaces and a newline, and two digits for each of the 4,096 bytes of output
+abbrev pub longest : ℕ
+longest = 25 + 2 * 4096
 
 -- what one record leaves: the definition's tables, RAM and output, and its line in the text
 pub record Stepped (t : Tables) (ram out : List ℕ) (kind : ℕ) (body text : List ℕ) (used : ℕ) (t′ : Tables) (ram′ out′ text′ : List ℕ) (used′ : ℕ) : Type 0 where
@@ -46,10 +50,10 @@ ended m = record { tables = m .tables; ram = m .ram; output = m .output; left = 
 -- from a mark to the one where the lines stop, and why: the text, of `size` bytes, has no room for the longest line; less than a record is left;
 -- or the log is bad
 pub data Drains (size : ℕ) : Mark → Mark → Stop → Type 0 where
-  full : {m : Mark} → size < length (m .text) + 8217 → Drains size m m Full
-  more : {m : Mark} → length (m .text) + 8217 ≤ size → frontOf (m .left) ≡ Cut → Drains size m m More
-  ends : {m : Mark} → length (m .text) + 8217 ≤ size → frontOf (m .left) ≡ Bad → Drains size m (ended m) Ends
-  line : {m to : Mark} {kind n : ℕ} {stop : Stop} → length (m .text) + 8217 ≤ size → frontOf (m .left) ≡ Record kind n → Drains size (lined m kind n) to stop
+  full : {m : Mark} → size < length (m .text) + longest → Drains size m m Full
+  more : {m : Mark} → length (m .text) + longest ≤ size → frontOf (m .left) ≡ Cut → Drains size m m More
+  ends : {m : Mark} → length (m .text) + longest ≤ size → frontOf (m .left) ≡ Bad → Drains size m (ended m) Ends
+  line : {m to : Mark} {kind n : ℕ} {stop : Stop} → length (m .text) + longest ≤ size → frontOf (m .left) ≡ Record kind n → Drains size (lined m kind n) to stop
       → Drains size m to stop
 
 -- the mark that an outcome stands for: what is left of the input, and the part of the text that is used
@@ -60,9 +64,9 @@ reached r ram out input text = record { tables = r .tables; ram = ram; output = 
 abbrev pub Fills : (log : List ℕ) (size : ℕ) → Mark → Type 0
 Fills log size to = Drains size (begin noTables (replicate 65536 0) (replicate 4096 0) log) to Full
 
--- the first bytes of `text` are the text of the whole log, and those behind are as they were; or there was no room, and it is shorter than the log's
--- with a longest line more
+-- the text of the whole log stands at the front of `text`, and behind it what stood there; or there was no room, the lines up to there stand at the
+-- front, and the text is shorter than the log's with a longest line more
 abbrev pub Lists : (log text text′ : List ℕ) → Listed → Type 0
-Lists log text text′ (Text n) =
-    (take n text′ ≡ listing log) × (n ≤ length text′) × (drop n text′ ≡ drop n text) × ((to : Mark) → ¬ Fills log (length text′) to)
-Lists log text text′ Over = (length text′ < length (listing log) + 8217) × ((to : Mark) × Fills log (length text′) to)
+Lists log text text′ (Text n) = Put text text′ 0 n (listing log) × ((to : Mark) → ¬ Fills log (length text′) to)
+Lists log text text′ Over =
+    ((to : Mark) × Fills log (length text′) to × Put text text′ 0 (length (to .text)) (to .text)) × (length text′ < length (listing log) + longest)

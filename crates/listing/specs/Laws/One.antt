@@ -1,5 +1,5 @@
 -- That each promise of this crate has at most one outcome.
-use mathlib.Core.Path.{_≡_, refl, sym, ap, _∙_}
+use mathlib.Core.Path.{_≡_, refl, sym, ap, subst, _∙_}
 use mathlib.Core.List.{List}
 use Prim.Native.Nat.{ℕ, _≤_}
 use native.Mathlib.Omega.{arith}
@@ -8,7 +8,7 @@ use lib.Seq.{length-take-le}
 use Rattle.kernel.specs.declared.Tables.{Tables}
 use Rattle.text.specs.Definition.Put.{Put}
 use Rattle.text.specs.Laws.One.{one-buffer, one-put}
-use Rattle.listing.specs.Definition.Pieces.{Stepped, Mark, Drains, full, more, ends, line, reached, Lists}
+use Rattle.listing.specs.Definition.Pieces.{Stepped, Mark, Drains, full, more, ends, line, reached, Fills, Lists}
 use Rattle.listing.specs.declared.Drained.{Drained}
 use Rattle.events.specs.declared.Front.{Front}
 use Rattle.events.specs.declared.Front.the-variants.{Record, Cut, Bad}
@@ -71,16 +71,14 @@ one-drained m xs text r s ram′ out′ text′ ram″ out″ text″ l d i h b 
     )
 
 -- whether the log's text is written, how long it is, and every byte of the text that is lent
-pub one-listed : (log text text′ text″ : List ℕ) (r s : Listed) → length text′ ≡ length text″ → Lists log text text′ r → Lists log text text″ s
-    → (r ≡ s) × ((r ≡ Over → ⊥) → text′ ≡ text″)
-one-listed log text text′ text″ (Text n) (Text k) l p q =
-    let f : take n text′ ≡ take k text″ = p .0 ∙ sym (q .0) in
-    let e : n ≡ k = omega (arith, ap length f, length-take-le n text′ (p .1), length-take-le k text″ (q .1)) in
-    let s : Lists log text text″ (Text n) = rw (← e) at q in
-    (ap Text e, λ z. one-buffer n (p .0 ∙ sym (s .0)) (p .2 ∙ sym (s .2)))
-one-listed log text text′ text″ (Text n) Over l p q = absurd (p .3 (q .1 .0) (rw l (q .1 .1)))
-one-listed log text text′ text″ Over (Text k) l p q = absurd (q .3 (p .1 .0) (rw (← l) (p .1 .1)))
-one-listed log text text′ text″ Over Over l p q = (refl, λ z. absurd (z refl))
+pub one-listed : (log text text′ text″ : List ℕ) (r s : Listed) → length text′ ≡ length text″ → Lists log text text′ r → Lists log text text″ s → (r ≡ s) × (text′ ≡ text″)
+one-listed log text text′ text″ (Text n) (Text k) l p q = let (e, u) = one-put (p .0) (q .0) in (ap Text u, e)
+one-listed log text text′ text″ (Text n) Over l p q = absurd (p .1 (q .0 .0) (rw l (q .0 .1)))
+one-listed log text text′ text″ Over (Text k) l p q = absurd (q .1 (p .0 .0) (rw (← l) (p .0 .1)))
+one-listed log text text′ text″ Over Over l p q =
+    let f : Fills log (length text′) (q .0 .0) = rw l (q .0 .1) in
+    let e : p .0 .0 ≡ q .0 .0 = one-stop (p .0 .1) f .0 in
+    (refl, one-put (p .0 .2) (subst (λ (m : Mark). Put text text″ 0 (length (m .text)) (m .text)) (sym e) (q .0 .2)) .0)
 
 -- bytes that are moved to the front
 pub one-kept : (buf buf′ buf″ : List ℕ) (from n : ℕ) → (take n buf′ ≡ take n (drop from buf)) × (drop n buf′ ≡ drop n buf)

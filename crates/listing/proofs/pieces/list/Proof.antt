@@ -5,7 +5,7 @@ use native.Mathlib.Omega.{arith}
 use lib.Seq.{length-take-le}
 use Rattle.listing.specs.Definition.NoneOrGood.{none}
 use Rattle.listing.proofs.Carries.{put-behind}
-use Rattle.listing.proofs.Wholes.{bad-first, more-first, room-left, never-full, fills, listed-bad, listed-over, listed-text}
+use Rattle.listing.proofs.Wholes.{bad-first, more-first, room-left, put-first, never-full, fills, listed-bad, listed-over, listed-text}
 use borrow.Author.Needs.{needs}
 use Rattle.listing.proofs.pieces.list.Statement.{statement}
 use Rattle.listing.proofs.pieces.list.Tie as tie
@@ -43,9 +43,7 @@ returns c =
     let log = now (c .before .before .before .before .before .before .before .before .before .before .before .args .log) in
     let n = c .before .before .before .before .before .before .before .before .«none» .ensures in
     let stop = c .enum-told .given .1 in (
-      listed-bad _ n log (d .result) (d .last .1 .0) (d .last .1 .1 .0) (d .last .1 .1 .1 .1 .0) (d .ensures .0) stop,
-      d .ensures .3,
-      d .ensures .4,
+      put-first (listed-bad _ n log (d .result) (d .last .1 .0) (d .last .1 .1 .0) (d .last .1 .1 .1 .1 .0) (d .ensures .0) stop) (d .ensures .3) (d .ensures .4),
       never-full _ n log (d .result) (d .last .1 .0) (d .last .1 .1 .0) (d .last .1 .1 .1 .1 .0) (d .ensures .0) (bad-first stop) _ refl,
     )
 
@@ -58,7 +56,7 @@ returns-2 c =
     let log = now (c .before .before .before .before .before .before .before .before .before .before .before .args .log) in
     let n = c .before .before .before .before .before .before .before .before .«none» .ensures in
     let stop = c .enum-told2 .given .1 in
-    (listed-over _ n log (d .result) (d .last .1 .0) (d .last .1 .1 .0) (d .last .1 .1 .1 .1 .0) (d .ensures .0) stop (d .ensures .3), fills _ n log (d .result) (d .last .1 .0) (d .last .1 .1 .0) (d .last .1 .1 .1 .1 .0) (d .ensures .0) stop)
+    (fills _ n log (d .result) (d .last .1 .0) (d .last .1 .1 .0) (d .last .1 .1 .1 .1 .0) (d .ensures .0) stop _ (d .ensures .3) (d .ensures .4), listed-over _ n log (d .result) (d .last .1 .0) (d .last .1 .1 .0) (d .last .1 .1 .1 .1 .0) (d .ensures .0) stop (d .ensures .3))
 
 same-length-3 : tie.Need-same-length-3
 same-length-3 c = search needs
@@ -72,9 +70,7 @@ returns-3 c =
     let stop = c .before .before .before .before .enum-told3 .given .1 in
     let f = c .before .before .finish in
     let p = f .ensures .0 in (
-      listed-text _ n log (d .result) (d .last .1 .0) (d .last .1 .1 .0) (d .last .1 .1 .1 .1 .0) (d .ensures .0) stop _ _ p,
-      f .ensures .1,
-      put-behind text (d .ensures .4) p,
+      put-first (listed-text _ n log (d .result) (d .last .1 .0) (d .last .1 .1 .0) (d .last .1 .1 .1 .1 .0) (d .ensures .0) stop _ _ p) (f .ensures .1) (put-behind text (d .ensures .4) p),
       never-full _ n log (d .result) (d .last .1 .0) (d .last .1 .1 .0) (d .last .1 .1 .1 .1 .0) (d .ensures .0) (more-first stop) _ (f .kept .1 .0),
     )
 
