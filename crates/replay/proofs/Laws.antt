@@ -21,8 +21,8 @@ use Rattle.events.specs.Laws.Front.{whole, within}
 use Rattle.replay.specs.Definition.Replay.{EventRecord, records, bytesOf, asked, replayed}
 use Rattle.replay.specs.Laws.Records.{records-more}
 
-pub accepted-ready : (t : Tables) (ram : ℕ) (b : Bool) → b ≡ accepted t ram → (b ≡ true → Good t) → b ≡ true → Good t × (ram ≡ ramSize t)
-accepted-ready t ram b e g h = (g h, eqb-true ram (ramSize t) (and-right (goodTest t) (eqb ram (ramSize t)) (sym e ∙ h)))
+pub tested-ready : (t : Tables) (ram : ℕ) (b : Bool) → b ≡ accepted t ram → (b ≡ true → Good t) → b ≡ true → Good t × (ram ≡ ramSize t)
+tested-ready t ram b e g h = (g h, eqb-true ram (ramSize t) (and-right (goodTest t) (eqb ram (ramSize t)) (sym e ∙ h)))
 
 pub stays-ready : (t : Tables) (ram : List ℕ) (kind : ℕ) (body out : List ℕ) (r : Outcome) (ram' out' : List ℕ) → Good t × (length ram ≡ ramSize t)
     → length ram' ≡ length ram → result r ram' out' ≡ stepOf t ram kind body out → Good (r .tables) × (length ram' ≡ ramSize (r .tables))

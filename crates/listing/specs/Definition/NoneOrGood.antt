@@ -8,4 +8,4 @@ use Rattle.kernel.specs.declared.Tables.{Tables}
 -- no tables before an accepted start; after it good tables, of at most the four segments that are lent
 pub data NoneOrGood (t : Tables) : Type 0 where
   none : t ≡ noTables → NoneOrGood t
-  started : Good t → t .segments ≤ 4 → NoneOrGood t
+  good : Good t → t .segments ≤ 4 → NoneOrGood t

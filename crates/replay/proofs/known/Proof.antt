@@ -1,7 +1,7 @@
 -- `replay::known` meets its contract.
 use mathlib.Core.Bool.{false≢true}
 use borrow.Author.Needs.{needs}
-use Rattle.replay.proofs.Laws.{accepted-ready}
+use Rattle.replay.proofs.Laws.{tested-ready}
 use Rattle.replay.proofs.known.Statement.{statement}
 use Rattle.replay.proofs.known.Tie as tie
 
@@ -9,7 +9,7 @@ accepts-requires : tie.Need-accepts-requires
 accepts-requires c κs = search needs
 
 returns : tie.Need-returns
-returns c = accepted-ready _ _ _ (c .accepts .ensures .0) (c .accepts .ensures .1)
+returns c = tested-ready _ _ _ (c .accepts .ensures .0) (c .accepts .ensures .1)
 
 returns-2 : tie.Need-returns-2
 returns-2 c e = absurd (false≢true e)

@@ -24,15 +24,15 @@ abbrev pub eventOf : Result → EventRecord → Event
 eventOf m r = event (stateOf m) (callOf r) (m .output)
 
 -- "an accepted start"
-abbrev pub starts : Event → Bool
-starts e = isStart (e .call) && granted (e .answer)
+abbrev pub acceptedStart : Event → Bool
+acceptedStart e = isStart (e .call) && granted (e .answer)
 
 -- the events since the last accepted start, after those of h
 abbrev pub since : History → Result → List EventRecord → History
 since h m [] = h
-since h m (r ∷ rs) = since (cond (starts (eventOf m r)) [] (eventOf m r ∷ h)) (asked m r) rs
+since h m (r ∷ rs) = since (cond (acceptedStart (eventOf m r)) [] (eventOf m r ∷ h)) (asked m r) rs
 
 -- one of the records is an accepted start
-abbrev pub Starts : Result → List EventRecord → Type 0
-Starts m [] = ⊥
-Starts m (r ∷ rs) = (starts (eventOf m r) ≡ true) ⊎ Starts (asked m r) rs
+abbrev pub HasAcceptedStart : Result → List EventRecord → Type 0
+HasAcceptedStart m [] = ⊥
+HasAcceptedStart m (r ∷ rs) = (acceptedStart (eventOf m r) ≡ true) ⊎ HasAcceptedStart (asked m r) rs

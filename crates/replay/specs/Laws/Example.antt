@@ -10,7 +10,7 @@ use Rattle.kernel.specs.Definition.Step.{decided, completed, step}
 use Rattle.events.specs.Definition.Records.{frontOf, startIn, callIn}
 use Rattle.history.specs.Definition.Runs.{Run}
 use Rattle.replay.specs.Definition.Replay.{EventRecord, recordsTo, recordsIn, records, bytesOf, replayed, before}
-use Rattle.replay.specs.Definition.Runs.{stateOf, since, Starts}
+use Rattle.replay.specs.Definition.Runs.{stateOf, since, HasAcceptedStart}
 use Rattle.replay.specs.Laws.Runs.{replay-run}
 
 -- "start, bytes 08 00 00 01 42 2B FC FD FE FF; open 5, status 0, n 100, "VIDEO:"", and two bytes of a boundary's four
@@ -35,9 +35,9 @@ unfolding records recordsIn recordsTo frontOf
 two-taken = refl
 
 module _ (ram out : List ℕ) (four : length ram ≡ 65536) where
-  starts-here : Starts (before noTables ram out) (records buffer)
+  start-here : HasAcceptedStart (before noTables ram out) (records buffer)
   unfolding step completed decided noTables upTo callIn startIn
-  starts-here = rw two-records (inl (rw four))
+  start-here = rw two-records (inl (rw four))
 
   pub run-here : Run (since [] (before noTables ram out) (records buffer)) (stateOf (replayed (before noTables ram out) (records buffer)))
-  run-here = replay-run (before noTables ram out) buffer starts-here
+  run-here = replay-run (before noTables ram out) buffer start-here

@@ -11,9 +11,9 @@ use Rattle.kernel.specs.Definition.Step.{Result, heard, decided, completed, ste
 use Rattle.history.specs.Definition.Runs.{State, History, after, event, stay, then, Run, LastWritten}
 use Rattle.history.specs.Bytes.BytesRead.{bytes-read}
 use Rattle.replay.specs.Definition.Replay.{EventRecord, records, asked, replayed}
-use Rattle.replay.specs.Definition.Runs.{stateOf, callOf, eventOf, starts, since, Starts}
+use Rattle.replay.specs.Definition.Runs.{stateOf, callOf, eventOf, acceptedStart, since, HasAcceptedStart}
 
-start-run : (s : State) (c : Call) (output : List ℕ) → starts (event s c output) ≡ true → Run [] (after s c output)
+start-run : (s : State) (c : Call) (output : List ℕ) → acceptedStart (event s c output) ≡ true → Run [] (after s c output)
 unfolding step decided heard completed
 start-run s (start room list) output e = record {
   first = after s (start room list) output;
@@ -38,10 +38,10 @@ start-run s no-call output e = absurd (false≢true e)
 start-run s short-start output e = absurd (false≢true e)
 
 module _ (m : Result) (r : EventRecord) where
-  next-run : (h : History) → Run h (stateOf m) → Run (cond (starts (eventOf m r)) [] (eventOf m r ∷ h)) (stateOf (asked m r))
-  next-run h run = go (starts (eventOf m r)) refl
+  next-run : (h : History) → Run h (stateOf m) → Run (cond (acceptedStart (eventOf m r)) [] (eventOf m r ∷ h)) (stateOf (asked m r))
+  next-run h run = go (acceptedStart (eventOf m r)) refl
     where
-      go : (s : Bool) → starts (eventOf m r) ≡ s → Run (cond s [] (eventOf m r ∷ h)) (stateOf (asked m r))
+      go : (s : Bool) → acceptedStart (eventOf m r) ≡ s → Run (cond s [] (eventOf m r ∷ h)) (stateOf (asked m r))
       go true e = start-run (stateOf m) (callOf r) (m .output) e
       go false e = record {
         first = run .first;
@@ -55,13 +55,13 @@ run-on h m [] run = run
 run-on h m (r ∷ rs) run = run-on _ (asked m r) rs (next-run m r h run)
 
 -- and from any tables, RAM and output, once one of them is an accepted start
-pub run-from : (h : History) (m : Result) (rs : List EventRecord) → Starts m rs → Run (since h m rs) (stateOf (replayed m rs))
+pub run-from : (h : History) (m : Result) (rs : List EventRecord) → HasAcceptedStart m rs → Run (since h m rs) (stateOf (replayed m rs))
 run-from h m [] s = absurd s
 run-from h m (r ∷ rs) (inl e) = rw e (run-on [] (asked m r) rs (start-run (stateOf m) (callOf r) (m .output) e))
 run-from h m (r ∷ rs) (inr s) = run-from _ (asked m r) rs s
 
 -- What `replay` leaves of a buffer with an accepted start is a state of a run: its history is the events since the last one.
-pub replay-run : (m : Result) (xs : List ℕ) → Starts m (records xs) → Run (since [] m (records xs)) (stateOf (replayed m (records xs)))
+pub replay-run : (m : Result) (xs : List ℕ) → HasAcceptedStart m (records xs) → Run (since [] m (records xs)) (stateOf (replayed m (records xs)))
 replay-run m xs s = run-from [] m (records xs) s
 
 -- ---- for example: a byte read
@@ -72,7 +72,7 @@ replayed-last m (r ∷ rs) q = replayed-last (asked m r) rs q
 
 -- The last record of a replayed buffer is a read, and is done: each byte that it gives is the one last written there through that channel since its
 -- opening, or zero if none was.
-pub last-read : (m : Result) (xs : List ℕ) (rs : List EventRecord) (q : EventRecord) → records xs ≡ rs ++ (q ∷ []) → Starts m rs
+pub last-read : (m : Result) (xs : List ℕ) (rs : List EventRecord) (q : EventRecord) → records xs ≡ rs ++ (q ∷ []) → HasAcceptedStart m rs
     → (channel offset size : ℕ) → callOf q ≡ read channel offset size → granted (replayed m (records xs) .answer) ≡ true
     → (i : ℕ) → i < size → LastWritten channel (offset + i) (since [] m rs) (getD (replayed m (records xs) .output) i 0)
 last-read m xs rs q e s channel offset size is done i h =
