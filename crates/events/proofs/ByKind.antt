@@ -9,7 +9,7 @@ use Rattle.kernel.specs.Definition.Answers.{gives}
 use Rattle.kernel.specs.Definition.Calls.{Call, no-call}
 use Rattle.kernel.specs.Definition.Good.{Good}
 use Rattle.kernel.specs.Definition.Tables.{ramSize}
-use Rattle.kernel.specs.Definition.Step.{Result, accepted, result, step}
+use Rattle.kernel.specs.Definition.Step.{Result, readyTest, result, step}
 use Rattle.kernel.specs.declared.Tables.{Tables}
 use Rattle.kernel.specs.declared.Outcome.{Outcome}
 use Rattle.kernel.specs.declared.Answer.the-variants.{BadTables, BadCall}
@@ -48,5 +48,5 @@ module _ (t : Tables) (ram : List ℕ) (kind : ℕ) (body out : List ℕ) where
   pub no-kind : Good t → length ram ≡ ramSize t → (r : Outcome) → callIn kind body ≡ no-call → r ≡ gives BadCall t → result r ram out ≡ stepOf t ram kind body out
   no-kind g s r e q = bad-call t ram out g s (callIn kind body) r e q
 
-  pub bad-tables : (b : Bool) → b ≡ accepted t (length ram) → (kind ≡ 256 → ⊥) → not b ≡ true → (r : Outcome) → r ≡ gives BadTables t → result r ram out ≡ stepOf t ram kind body out
+  pub bad-tables : (b : Bool) → b ≡ readyTest t (length ram) → (kind ≡ 256 → ⊥) → not b ≡ true → (r : Outcome) → r ≡ gives BadTables t → result r ram out ≡ stepOf t ram kind body out
   bad-tables b e n h r q = call-refused t ram (callIn kind body) out b e (no-start kind body n) h r q

@@ -69,7 +69,7 @@ pub fn call(t: Tables, ram: &mut [u8], kind: u16, body: &[u8], out: &mut [u8]) -
     if kind == 256 {
         return start_event(t, ram, body);
     }
-    if !t.accepts(ram.len()) {
+    if !t.is_ready(ram.len()) {
         return t.refuse(Answer::BadTables);
     }
     call_good(t, ram, kind, body, out)

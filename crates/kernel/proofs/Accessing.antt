@@ -17,7 +17,7 @@ use Rattle.kernel.specs.Definition.Line.{sizeAt, bufferAt}
 use Rattle.kernel.specs.Definition.Segments.{mayReach, reachOf, guarded}
 use Rattle.kernel.specs.Definition.Answers.{gives}
 use Rattle.kernel.specs.Definition.Calls.{onRead, onWrite, onStore, onLoad}
-use Rattle.kernel.specs.Definition.Step.{completed, result, accepted}
+use Rattle.kernel.specs.Definition.Step.{completed, result, readyTest}
 use Rattle.kernel.specs.Definition.Lend.{lentOnGood, partOnGood, lentOn, partOn}
 use Rattle.kernel.specs.declared.Tables.{Tables}
 use Rattle.kernel.specs.declared.Answer.the-variants.{Done, NoChannel, NotOwner, BadRange, Guarded}
@@ -91,21 +91,21 @@ module _ (t : Tables) (channel : ℕ) where
 
   -- the same of any tables and any RAM
 
-  pub lent-refused : (ram : ℕ) → accepted t ram ≡ false → Nothing ≡ lentOn t ram channel
+  pub lent-refused : (ram : ℕ) → readyTest t ram ≡ false → Nothing ≡ lentOn t ram channel
   unfolding lentOn
   lent-refused ram h = rw h
 
-  pub lent-accepted : (ram : ℕ) → accepted t ram ≡ true → lentOnGood t channel ≡ lentOn t ram channel
+  pub lent-ready : (ram : ℕ) → readyTest t ram ≡ true → lentOnGood t channel ≡ lentOn t ram channel
   unfolding lentOn
-  lent-accepted ram h = rw h
+  lent-ready ram h = rw h
 
-  pub part-refused : (ram : List ℕ) → accepted t (length ram) ≡ false → [] ≡ partOn t ram channel
+  pub part-refused : (ram : List ℕ) → readyTest t (length ram) ≡ false → [] ≡ partOn t ram channel
   unfolding partOn
   part-refused ram h = rw h
 
-  pub part-accepted : (ram : List ℕ) → accepted t (length ram) ≡ true → partOnGood t ram channel ≡ partOn t ram channel
+  pub part-ready : (ram : List ℕ) → readyTest t (length ram) ≡ true → partOnGood t ram channel ≡ partOn t ram channel
   unfolding partOnGood partOn
-  part-accepted ram h = rw h
+  part-ready ram h = rw h
 
 -- store
 

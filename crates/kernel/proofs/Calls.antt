@@ -12,24 +12,24 @@ use Rattle.kernel.specs.Definition.Good.{Good, goodTest}
 use Rattle.kernel.specs.Definition.Answers.{gives, Decision, _changing_}
 use Rattle.kernel.specs.Definition.Calls.{Call, isStart}
 use Rattle.kernel.specs.Definition.Bytes.{nothing}
-use Rattle.kernel.specs.Definition.Step.{accepted, heard, decided, result, completed, step}
+use Rattle.kernel.specs.Definition.Step.{readyTest, heard, decided, result, completed, step}
 use Rattle.kernel.specs.declared.Tables.{Tables}
 use Rattle.kernel.specs.declared.Outcome.{Outcome}
 use Rattle.kernel.specs.declared.Answer.the-variants.{BadTables}
 
--- what `accepts` told, once its answer is yes
-pub accepted-good : (t : Tables) (b : Bool) → (b ≡ true → Good t) → not b ≡ false → Good t
-accepted-good t b f n = f (not-false b n)
+-- what `is_ready` told, once its answer is yes
+pub ready-good : (t : Tables) (b : Bool) → (b ≡ true → Good t) → not b ≡ false → Good t
+ready-good t b f n = f (not-false b n)
 
-pub accepted-size : (t : Tables) (ram : ℕ) (b : Bool) → b ≡ accepted t ram → not b ≡ false → ram ≡ ramSize t
-accepted-size t ram b e n = eqb-true ram (ramSize t) (and-right (goodTest t) (eqb ram (ramSize t)) (sym e ∙ not-false b n))
+pub ready-size : (t : Tables) (ram : ℕ) (b : Bool) → b ≡ readyTest t ram → not b ≡ false → ram ≡ ramSize t
+ready-size t ram b e n = eqb-true ram (ramSize t) (and-right (goodTest t) (eqb ram (ramSize t)) (sym e ∙ not-false b n))
 
-module _ (t : Tables) (ram : List ℕ) (c : Call) (out : List ℕ) (b : Bool) (e : b ≡ accepted t (length ram)) where
+module _ (t : Tables) (ram : List ℕ) (c : Call) (out : List ℕ) (b : Bool) (e : b ≡ readyTest t (length ram)) where
   pub call-refused : isStart c ≡ false → not b ≡ true → (r : Outcome) → r ≡ gives BadTables t → result r ram out ≡ step t ram c out
   unfolding step decided completed
-  call-refused s n r q = let a : accepted t (length ram) ≡ false = sym e ∙ not-true b n in rw (q, s, a)
+  call-refused s n r q = let a : readyTest t (length ram) ≡ false = sym e ∙ not-true b n in rw (q, s, a)
 
-  heard-by : (s : Bool) → accepted t (length ram) ≡ true → (d : Decision) → cond (not (s || accepted t (length ram))) (gives BadTables t changing nothing) d ≡ d
+  heard-by : (s : Bool) → readyTest t (length ram) ≡ true → (d : Decision) → cond (not (s || readyTest t (length ram))) (gives BadTables t changing nothing) d ≡ d
   heard-by true a d = refl
   heard-by false a d = rw a
 

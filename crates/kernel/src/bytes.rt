@@ -54,7 +54,7 @@ impl Tables {
     pub fn read(self, ram: &[u8], channel: u8, offset: u16, size: u16, out: &mut [u8]) -> Outcome
         ensures { λ r. ⌜ result r (now (ram .entry)) (now (out .exit)) ≡ step self (now (ram .entry)) (calls.read channel offset size) (now (out .entry)) ⌝ }
     {
-        if !self.accepts(ram.len()) {
+        if !self.is_ready(ram.len()) {
             return self.refuse(Answer::BadTables);
         }
         self.read_good(ram, channel, offset, size, out)
@@ -94,7 +94,7 @@ impl Tables {
     pub fn write(self, ram: &mut [u8], channel: u8, offset: u16, bytes: &[u8]) -> Outcome
         ensures { λ r. ⌜ ((out : List ℕ) → result r (now (ram .exit)) out ≡ step self (now (ram .entry)) (calls.write channel offset (now (bytes .entry))) out) ⌝ }
     {
-        if !self.accepts(ram.len()) {
+        if !self.is_ready(ram.len()) {
             return self.refuse(Answer::BadTables);
         }
         self.write_good(ram, channel, offset, bytes)
@@ -151,7 +151,7 @@ impl Tables {
     pub fn store(self, ram: &mut [u8], segment: u8, offset: u16, bytes: &[u8]) -> Outcome
         ensures { λ r. ⌜ ((out : List ℕ) → result r (now (ram .exit)) out ≡ step self (now (ram .entry)) (calls.store segment offset (now (bytes .entry))) out) ⌝ }
     {
-        if !self.accepts(ram.len()) {
+        if !self.is_ready(ram.len()) {
             return self.refuse(Answer::BadTables);
         }
         self.store_good(ram, segment, offset, bytes)
@@ -185,7 +185,7 @@ impl Tables {
     pub fn load(self, ram: &[u8], segment: u8, offset: u16, size: u16, out: &mut [u8]) -> Outcome
         ensures { λ r. ⌜ result r (now (ram .entry)) (now (out .exit)) ≡ step self (now (ram .entry)) (calls.load segment offset size) (now (out .entry)) ⌝ }
     {
-        if !self.accepts(ram.len()) {
+        if !self.is_ready(ram.len()) {
             return self.refuse(Answer::BadTables);
         }
         self.load_good(ram, segment, offset, size, out)
@@ -224,7 +224,7 @@ impl Tables {
     pub fn lent(self, ram: &[u8], channel: u8) -> Lent
         ensures { λ r. ⌜ r ≡ lentOn self (length (now (ram .entry))) channel ⌝ }
     {
-        if !self.accepts(ram.len()) {
+        if !self.is_ready(ram.len()) {
             return Lent::Nothing;
         }
         self.lent_good(channel)
@@ -249,7 +249,7 @@ impl Tables {
     pub fn lend<'a>(self, ram: &'a [u8], channel: u8) -> &'a [u8]
         ensures { λ r. ⌜ now r ≡ partOn self (now (ram .entry)) channel ⌝ }
     {
-        if !self.accepts(ram.len()) {
+        if !self.is_ready(ram.len()) {
             return &ram[0..0];
         }
         self.lend_good(ram, channel)

@@ -60,7 +60,7 @@ impl Tables {
     pub fn close(self, ram: &mut [u8], channel: u8) -> Outcome
         ensures { λ r. ⌜ ((out : List ℕ) → result r (now (ram .exit)) out ≡ step self (now (ram .entry)) (calls.close channel) out) ⌝ }
     {
-        if !self.accepts(ram.len()) {
+        if !self.is_ready(ram.len()) {
             return self.refuse(Answer::BadTables);
         }
         self.close_good(ram, channel)

@@ -18,7 +18,7 @@ impl Tables {
     pub fn default(self, ram: &[u8], unit: u8, name: &[u8]) -> Outcome
         ensures { λ r. ⌜ ((out : List ℕ) → result r (now (ram .entry)) out ≡ step self (now (ram .entry)) (calls.default unit (now (name .entry))) out) ⌝ }
     {
-        if !self.accepts(ram.len()) {
+        if !self.is_ready(ram.len()) {
             return self.refuse(Answer::BadTables);
         }
         self.default_good(unit, name)

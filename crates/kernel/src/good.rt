@@ -4,7 +4,7 @@ ghost use mathlib.Core.Bool.{true, _&&_};
 ghost use lib.Dec.{leb};
 ghost use Rattle.rows.specs.Definition.Lists.{at};
 ghost use Rattle.kernel.specs.Definition.Good.{Sized, Good, goodTest};
-ghost use Rattle.kernel.specs.Definition.Step.{accepted};
+ghost use Rattle.kernel.specs.Definition.Step.{readyTest};
 use super::Tables;
 use rows::channels::channel_test;
 use rows::channels::total;
@@ -75,8 +75,8 @@ impl Tables {
     }
 
     // Good tables, and a RAM of their length. The arrays of any tables have the sizes that the theorems ask.
-    pub fn accepts(self, ram: usize) -> bool
-        ensures { λ r. ⌜ (r ≡ accepted self ram) × (r ≡ true → Good self) × Sized self ⌝ }
+    pub fn is_ready(self, ram: usize) -> bool
+        ensures { λ r. ⌜ (r ≡ readyTest self ram) × (r ≡ true → Good self) × Sized self ⌝ }
     {
         if !self.is_good() {
             return false;

@@ -69,7 +69,7 @@ impl Tables {
     pub fn link(self, ram: &mut [u8], m: u16, name: &[u8]) -> Outcome
         ensures { λ r. ⌜ ((out : List ℕ) → result r (now (ram .exit)) out ≡ step self (now (ram .entry)) (calls.link m (now (name .entry))) out) ⌝ }
     {
-        if !self.accepts(ram.len()) {
+        if !self.is_ready(ram.len()) {
             return self.refuse(Answer::BadTables);
         }
         self.link_good(ram, m, name)

@@ -168,7 +168,7 @@ impl Tables {
     pub fn open(self, ram: &mut [u8], channel: u8, driver: u8, n: u16, name: &[u8]) -> Outcome
         ensures { λ r. ⌜ ((out : List ℕ) → result r (now (ram .exit)) out ≡ step self (now (ram .entry)) (calls.«open» channel driver n (now (name .entry))) out) ⌝ }
     {
-        if !self.accepts(ram.len()) {
+        if !self.is_ready(ram.len()) {
             return self.refuse(Answer::BadTables);
         }
         self.open_good(ram, channel, driver, n, name)

@@ -118,7 +118,7 @@ impl Tables {
     pub fn reset(self, ram: &mut [u8], flags: u8) -> Outcome
         ensures { λ r. ⌜ ((out : List ℕ) → result r (now (ram .exit)) out ≡ step self (now (ram .entry)) (calls.reset flags) out) ⌝ }
     {
-        if !self.accepts(ram.len()) {
+        if !self.is_ready(ram.len()) {
             return self.refuse(Answer::BadTables);
         }
         self.reset_good(ram, flags)

@@ -28,7 +28,7 @@ impl Tables {
     pub fn boundary(self, ram: &[u8]) -> Outcome
         ensures { λ r. ⌜ ((out : List ℕ) → result r (now (ram .entry)) out ≡ step self (now (ram .entry)) calls.boundary out) ⌝ }
     {
-        if !self.accepts(ram.len()) {
+        if !self.is_ready(ram.len()) {
             return self.refuse(Answer::BadTables);
         }
         self.boundary_good()
@@ -52,7 +52,7 @@ impl Tables {
     pub fn set_user_boundary(self, ram: &[u8], value: u16) -> Outcome
         ensures { λ r. ⌜ ((out : List ℕ) → result r (now (ram .entry)) out ≡ step self (now (ram .entry)) (calls.set-user-boundary value) out) ⌝ }
     {
-        if !self.accepts(ram.len()) {
+        if !self.is_ready(ram.len()) {
             return self.refuse(Answer::BadTables);
         }
         self.set_user_boundary_good(value)
@@ -82,7 +82,7 @@ impl Tables {
     pub fn allocate(self, ram: &[u8], caller: u8) -> Outcome
         ensures { λ r. ⌜ ((out : List ℕ) → result r (now (ram .entry)) out ≡ step self (now (ram .entry)) (calls.allocate caller) out) ⌝ }
     {
-        if !self.accepts(ram.len()) {
+        if !self.is_ready(ram.len()) {
             return self.refuse(Answer::BadTables);
         }
         self.allocate_good(caller)
@@ -133,7 +133,7 @@ impl Tables {
     pub fn free(self, ram: &[u8], caller: u8, segment: u8) -> Outcome
         ensures { λ r. ⌜ ((out : List ℕ) → result r (now (ram .entry)) out ≡ step self (now (ram .entry)) (calls.free caller segment) out) ⌝ }
     {
-        if !self.accepts(ram.len()) {
+        if !self.is_ready(ram.len()) {
             return self.refuse(Answer::BadTables);
         }
         self.free_good(caller, segment)
@@ -193,7 +193,7 @@ impl Tables {
     pub fn status(self, ram: &[u8], out: &mut [u8]) -> Outcome
         ensures { λ r. ⌜ result r (now (ram .entry)) (now (out .exit)) ≡ step self (now (ram .entry)) calls.status (now (out .entry)) ⌝ }
     {
-        if !self.accepts(ram.len()) {
+        if !self.is_ready(ram.len()) {
             return self.refuse(Answer::BadTables);
         }
         self.status_good(out)

@@ -11,7 +11,7 @@ use lib.Seq.{drop-drop, length-take-le}
 use Rattle.rows.specs.Laws.Lists.{and-right}
 use Rattle.kernel.specs.Definition.Tables.{ramSize}
 use Rattle.kernel.specs.Definition.Good.{Good, goodTest}
-use Rattle.kernel.specs.Definition.Step.{Result, accepted, result, completed, step}
+use Rattle.kernel.specs.Definition.Step.{Result, readyTest, result, completed, step}
 use Rattle.kernel.specs.Laws.Ready.{decided-ready}
 use Rattle.kernel.specs.declared.Tables.{Tables}
 use Rattle.kernel.specs.declared.Outcome.{Outcome}
@@ -21,7 +21,7 @@ use Rattle.events.specs.Laws.Front.{whole, within}
 use Rattle.replay.specs.Definition.Replay.{EventRecord, records, bytesOf, asked, replayed}
 use Rattle.replay.specs.Laws.Records.{records-more}
 
-pub tested-ready : (t : Tables) (ram : ℕ) (b : Bool) → b ≡ accepted t ram → (b ≡ true → Good t) → b ≡ true → Good t × (ram ≡ ramSize t)
+pub tested-ready : (t : Tables) (ram : ℕ) (b : Bool) → b ≡ readyTest t ram → (b ≡ true → Good t) → b ≡ true → Good t × (ram ≡ ramSize t)
 tested-ready t ram b e g h = (g h, eqb-true ram (ramSize t) (and-right (goodTest t) (eqb ram (ramSize t)) (sym e ∙ h)))
 
 pub stays-ready : (t : Tables) (ram : List ℕ) (kind : ℕ) (body out : List ℕ) (r : Outcome) (ram' out' : List ℕ) → Good t × (length ram ≡ ramSize t)

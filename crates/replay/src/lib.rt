@@ -30,7 +30,7 @@ struct Turned {
 fn known(t: Tables, size: usize, hold: bool) -> bool
     ensures { λ r. ⌜ (r ≡ true → Good t × (size ≡ ramSize t)) ⌝ }
 {
-    if hold { t.accepts(size) } else { false }
+    if hold { t.is_ready(size) } else { false }
 }
 
 // One record. Good tables stay good by theorem, so that only others are tested.

@@ -1,6 +1,6 @@
 -- `events::call` meets its contract.
 use mathlib.Core.Path.{refl}
-use Rattle.kernel.proofs.Calls.{accepted-good, accepted-size}
+use Rattle.kernel.proofs.Calls.{ready-good, ready-size}
 use Rattle.events.specs.Definition.Records.{callIn}
 use Rattle.events.proofs.ByKind.{by-kind, bad-tables}
 use borrow.Author.Needs.{needs}
@@ -17,17 +17,17 @@ returns : tie.Need-returns
 unfolding callIn
 returns c = by-kind _ _ _ _ _ 256 _ _ (c .before .before .before .before .if1 .taken) refl (c .before .before .start-event .ensures _)
 
-accepts-requires : tie.Need-accepts-requires
-accepts-requires c κs = search needs
+is-ready-requires : tie.Need-is-ready-requires
+is-ready-requires c κs = search needs
 
 refuse-requires : tie.Need-refuse-requires
 refuse-requires c κs = search needs
 
 returns-2 : tie.Need-returns-2
-returns-2 c = bad-tables _ _ _ _ _ _ (c .before .before .accepts .ensures .0) (c .before .before .before .if1 .left) (c .before .if2 .taken) _ (c .refuse .ensures)
+returns-2 c = bad-tables _ _ _ _ _ _ (c .before .before .is-ready .ensures .0) (c .before .before .before .if1 .left) (c .before .if2 .taken) _ (c .refuse .ensures)
 
 call-good-requires : tie.Need-call-good-requires
-call-good-requires c κs = (accepted-good _ _ (c .before .before .before .accepts .ensures .1) (c .before .before .if2 .left), accepted-size _ _ _ (c .before .before .before .accepts .ensures .0) (c .before .before .if2 .left))
+call-good-requires c κs = (ready-good _ _ (c .before .before .before .is-ready .ensures .1) (c .before .before .if2 .left), ready-size _ _ _ (c .before .before .before .is-ready .ensures .0) (c .before .before .if2 .left))
 
 same-length-2 : tie.Need-same-length-2
 same-length-2 c = search needs
@@ -45,7 +45,7 @@ call-spec =
     start-event-requires
     same-length
     returns
-    accepts-requires
+    is-ready-requires
     refuse-requires
     returns-2
     call-good-requires

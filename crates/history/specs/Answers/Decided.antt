@@ -12,7 +12,7 @@ use Rattle.kernel.specs.Definition.Bytes.{nothing}
 use Rattle.kernel.specs.Definition.Answers.{gives, _changing_}
 use Rattle.kernel.specs.Definition.Calls.{Call, start, reset, «open», close, read, write, default, status, link, boundary, set-user-boundary, allocate, free, store, load, no-call, short-start, isStart, onBoundary}
 use Rattle.kernel.specs.Definition.Refusals.{Row, tables-bad, ram-wrong, call-unknown, start-short}
-use Rattle.kernel.specs.Definition.Step.{accepted, heard, decided}
+use Rattle.kernel.specs.Definition.Step.{readyTest, heard, decided}
 use Rattle.kernel.specs.Laws.Good.{good-says}
 use Rattle.kernel.specs.declared.Tables.{Tables}
 use Rattle.kernel.specs.declared.Answer.the-variants.{BadTables, BadCall}
@@ -38,7 +38,7 @@ module _ (t : Tables) (ram output : ℕ) where
   row-1 (ram-wrong s n) (inr (g, e)) = n e
 
   -- 1 TABLES: "not for start: tables not good, or RAM length wrong"
-  heard-says : (c : Call) → Sized t → Says (isStart c || accepted t ram) (Heard t ram c)
+  heard-says : (c : Call) → Sized t → Says (isStart c || readyTest t ram) (Heard t ram c)
   heard-says c s = says-or (says-true (isStart c)) (says-and (good-says t s) (says-eq ram (ramSize t)))
 
   unheard : (c : Call) → Sized t → ¬ Heard t ram c → Row t ram output c 1

@@ -19,7 +19,7 @@ use Rattle.kernel.specs.Definition.Line.{totalOf}
 use Rattle.kernel.specs.Definition.Lend.{lentOnGood, partOnGood, lentOn, partOn}
 use Rattle.kernel.specs.Laws.Chains.{good-chain}
 use Rattle.kernel.specs.Laws.Records.{record-within}
-use Rattle.kernel.specs.Laws.Ready.{Ready, ready-accepted}
+use Rattle.kernel.specs.Laws.Ready.{Ready, ready-test}
 use Rattle.kernel.specs.declared.Tables.{Tables}
 use Rattle.history.specs.Definition.Runs.{State, History, Run, LastWritten}
 use Rattle.history.specs.Bytes.Words.{lastWritten, last-written}
@@ -37,15 +37,15 @@ module _ (t : Tables) (ram : List ℕ) (r : Ready t (length ram)) (channel : ℕ
   -- what is lent of a channel that is open, and of one that is not
   lent-open : channelAt t channel < t .opened → lentOn t (length ram) channel ≡ lentAt (t .chain) (t .room) (bufferOf t channel) (sizeOf t channel)
   unfolding lentOn lentOnGood
-  lent-open h = rw (ready-accepted r, lt-ltb (channelAt t channel) (t .opened) h)
+  lent-open h = rw (ready-test r, lt-ltb (channelAt t channel) (t .opened) h)
 
   lent-closed : t .opened ≤ channelAt t channel → lentOn t (length ram) channel ≡ Nothing
   unfolding lentOn lentOnGood
-  lent-closed h = rw (ready-accepted r, le-ltb (channelAt t channel) (t .opened) h)
+  lent-closed h = rw (ready-test r, le-ltb (channelAt t channel) (t .opened) h)
 
   part-lent : partOn t ram channel ≡ partOf ram (sizeOf t channel) (lentOn t (length ram) channel)
   unfolding lentOn partOn partOnGood
-  part-lent = rw (ready-accepted r)
+  part-lent = rw (ready-test r)
 
   one-lent : OneSegment t channel → Part (placeOf (t .chain) (t .room) (bufferOf t channel + sizeOf t channel - 1)) ≡ lentOn t (length ram) channel
   unfolding lentAt

@@ -25,7 +25,7 @@ pub data IsAnswer (C : ℕ → Type 0) : ℕ → Type 0 where
 abbrev pub refusal : Answer → ℕ
 refusal answer = cond (granted answer) 0 (numberOf answer)
 
--- A call on tables of the type's sizes, as all tables of the code are (the contract of `accepts`), is answered by the lowest row that holds
+-- A call on tables of the type's sizes, as all tables of the code are (the contract of `is_ready`), is answered by the lowest row that holds
 abbrev pub AnswersLowest : Type 0
 AnswersLowest =
     (t : Tables) (ram output : ℕ) (c : Call) → Sized t → IsAnswer (Row t ram output c) (refusal (decided t ram output c .answer))

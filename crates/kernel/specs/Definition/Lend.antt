@@ -9,7 +9,7 @@ use Rattle.line.specs.declared.Lent.{Lent}
 use Rattle.line.specs.declared.Lent.the-variants.{Nothing}
 use Rattle.kernel.specs.Definition.Tables.{channelAt}
 use Rattle.kernel.specs.Definition.Line.{sizeAt, bufferAt}
-use Rattle.kernel.specs.Definition.Step.{accepted}
+use Rattle.kernel.specs.Definition.Step.{readyTest}
 use Rattle.kernel.specs.declared.Tables.{Tables}
 
 -- of good tables: where the part starts that is lent of a channel's buffer; nothing is lent where the channel is not open
@@ -22,7 +22,7 @@ lentOnGood t channel =
 -- of any tables, with `ram` bytes lent: nothing where the tables are not good or the RAM has another length
 unfoldable pub lentOn : Tables → (ram channel : ℕ) → Lent
 unfolding lentOnGood
-lentOn t ram channel = cond (accepted t ram) (lentOnGood t channel) Nothing
+lentOn t ram channel = cond (readyTest t ram) (lentOnGood t channel) Nothing
 
 -- the part itself, in the order of the RAM: the buffer's last byte first
 unfoldable pub partOnGood : Tables → (ram : List ℕ) (channel : ℕ) → List ℕ
@@ -31,4 +31,4 @@ partOnGood t ram channel = partOf ram (sizeAt t (channelAt t channel)) (lentOnGo
 
 unfoldable pub partOn : Tables → (ram : List ℕ) (channel : ℕ) → List ℕ
 unfolding partOnGood
-partOn t ram channel = cond (accepted t (length ram)) (partOnGood t ram channel) []
+partOn t ram channel = cond (readyTest t (length ram)) (partOnGood t ram channel) []

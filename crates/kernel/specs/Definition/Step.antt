@@ -15,8 +15,8 @@ use Rattle.kernel.specs.declared.Answer.the-variants.{BadTables, BadCall
 use Rattle.kernel.specs.declared.Outcome.{Outcome}
 
 -- good tables, and a RAM of their length
-abbrev pub accepted : Tables → (ram : ℕ) → Bool
-accepted t ram = goodTest t && eqb ram (ramSize t)
+abbrev pub readyTest : Tables → (ram : ℕ) → Bool
+readyTest t ram = goodTest t && eqb ram (ramSize t)
 
 -- what a call that is heard decides
 unfoldable pub heard : Tables → (ram output : ℕ) → Call → Decision
@@ -43,7 +43,7 @@ heard t ram output short-start = gives BadCall t changing nothing
 -- never reads it back."
 unfoldable pub decided : Tables → (ram output : ℕ) → Call → Decision
 unfolding goodTest heard
-decided t ram output c = unless (BadTables when not (isStart c || accepted t ram) ∷ []) t (heard t ram output c)
+decided t ram output c = unless (BadTables when not (isStart c || readyTest t ram) ∷ []) t (heard t ram output c)
 
 -- what a call leaves
 pub record Result : Type 0 where

@@ -29,7 +29,7 @@ use Rattle.kernel.specs.declared.Wanted.{Wanted}
 use Rattle.kernel.specs.Definition.Bytes.{nothing, zeroed, cleared, appended, removed, moved, in-buffer, in-segment, these, from-buffer, from-segment, countsOf}
 use Rattle.kernel.specs.Definition.Answers.{numberOf, aOf, bOf, granted, gives, Decision, _changing_, _filling_}
 use Rattle.kernel.specs.Definition.Calls.{Call, start, reset, «open», close, read, write, default, status, link, boundary, set-user-boundary, allocate, free, store, load, no-call, short-start, isStart, onStart, onReset, onOpenTo, onOpenNamed, onOpen, onClose, onRead, onWrite, onDefault, onStatus, onLink, onBoundary, onSetUserBoundary, onAllocate, onFree, onStore, onLoad}
-use Rattle.kernel.specs.Definition.Step.{accepted, heard, decided}
+use Rattle.kernel.specs.Definition.Step.{readyTest, heard, decided}
 use Rattle.kernel.specs.declared.Tables.{Tables}
 use Rattle.kernel.specs.declared.Answer.{Answer}
 use Rattle.kernel.specs.declared.Answer.the-variants.{Done, BadTables, Driver, Shared}
@@ -85,7 +85,7 @@ pub data Effect (t : Tables) : Call → Decision → Type 0 where
 -- of a call on the tables t with `ram` bytes lent
 pub data Verdict (t : Tables) (ram : ℕ) : Call → Decision → Type 0 where
   -- refused: for the tables or the RAM's length, for the driver's status, and for any other reason
-  bars : {c : Call} → accepted t ram ≡ false → Verdict t ram c (gives BadTables t changing nothing)
+  bars : {c : Call} → readyTest t ram ≡ false → Verdict t ram c (gives BadTables t changing nothing)
   drives : {channel driver n : ℕ} {name : List ℕ} → (driver ≡ 0 → ⊥) → Verdict t ram («open» channel driver n name) (gives (Driver driver) t changing nothing)
   refuses : {c : Call} (answer : Answer) → Plain answer → Verdict t ram c (gives answer t changing nothing)
   -- done
@@ -183,7 +183,7 @@ module _ (t : Tables) (ram : ℕ) where
   heard-verdict output no-call = refuses _ (plain-is _ refl)
   heard-verdict output short-start = refuses _ (plain-is _ refl)
 
-  barred : {c : Call} (starting right : Bool) (o : Decision) → accepted t ram ≡ right → Verdict t ram c o
+  barred : {c : Call} (starting right : Bool) (o : Decision) → readyTest t ram ≡ right → Verdict t ram c o
       → Verdict t ram c (cond (not (starting || right)) (gives BadTables t changing nothing) o)
   barred true right o e f = f
   barred false true o e f = f
@@ -192,7 +192,7 @@ module _ (t : Tables) (ram : ℕ) where
   -- every call decides one of these
   pub verdict : (output : ℕ) (c : Call) → Verdict t ram c (decided t ram output c)
   unfolding decided
-  verdict output c = barred (isStart c) (accepted t ram) (heard t ram output c) refl (heard-verdict output c)
+  verdict output c = barred (isStart c) (readyTest t ram) (heard t ram output c) refl (heard-verdict output c)
 
 -- of a call that is no start and is done
 effect-of : {t : Tables} {ram : ℕ} {c : Call} {d : Decision} → isStart c ≡ false → granted (d .answer) ≡ true → Verdict t ram c d → Effect t c d

@@ -16,7 +16,7 @@ use Rattle.kernel.specs.Definition.Bytes.{nothing}
 use Rattle.kernel.specs.Definition.Answers.{numberOf, granted, gives, Decision, _changing_}
 use Rattle.kernel.specs.Definition.Calls.{Call, start, isStart}
 use Rattle.kernel.specs.Definition.Good.{Good}
-use Rattle.kernel.specs.Definition.Step.{accepted, heard, decided}
+use Rattle.kernel.specs.Definition.Step.{readyTest, heard, decided}
 use Rattle.kernel.specs.Laws.Good.{good-says}
 use Rattle.kernel.specs.Laws.KeptReset.{start-good}
 use Rattle.kernel.specs.Laws.Effects.{Verdict, bars, drives, refuses, starts, does, verdict}
@@ -30,8 +30,8 @@ pub record Ready (t : Tables) (ram : ℕ) : Type 0 where
   pub good : Good t
   pub size : ram ≡ ramSize t
 
-pub ready-accepted : {t : Tables} {ram : ℕ} → Ready t ram → accepted t ram ≡ true
-ready-accepted {t} {ram} r = rw (good-says t (r .good .sized) .make (r .good), eq-eqb ram (ramSize t) (r .size))
+pub ready-test : {t : Tables} {ram : ℕ} → Ready t ram → readyTest t ram ≡ true
+ready-test {t} {ram} r = rw (good-says t (r .good .sized) .make (r .good), eq-eqb ram (ramSize t) (r .size))
 
 heard-by : (starting : Bool) (t : Tables) (d : Decision) → cond (not (starting || true)) (gives BadTables t changing nothing) d ≡ d
 heard-by true t d = refl
@@ -40,10 +40,10 @@ heard-by false t d = refl
 -- every call is heard
 pub ready-heard : (t : Tables) (ram output : ℕ) (c : Call) → Ready t ram → decided t ram output c ≡ heard t ram output c
 unfolding decided
-ready-heard t ram output c r = rw (ready-accepted r) (heard-by (isStart c) t (heard t ram output c))
+ready-heard t ram output c r = rw (ready-test r) (heard-by (isStart c) t (heard t ram output c))
 
 never : {t : Tables} {ram : ℕ} {c : Call} {d : Decision} → Ready t ram → Verdict t ram c d → numberOf (d .answer) ≡ 1 → ⊥
-never r (bars e) q = false≢true (sym e ∙ ready-accepted r)
+never r (bars e) q = false≢true (sym e ∙ ready-test r)
 never r (drives h) q = omega arith
 never r (refuses answer p) q = omega (arith, p .high)
 never r (starts e) q = omega arith

@@ -5,14 +5,14 @@ use Rattle.replay.proofs.Laws.{tested-ready}
 use Rattle.replay.proofs.known.Statement.{statement}
 use Rattle.replay.proofs.known.Tie as tie
 
-accepts-requires : tie.Need-accepts-requires
-accepts-requires c κs = search needs
+is-ready-requires : tie.Need-is-ready-requires
+is-ready-requires c κs = search needs
 
 returns : tie.Need-returns
-returns c = tested-ready _ _ _ (c .accepts .ensures .0) (c .accepts .ensures .1)
+returns c = tested-ready _ _ _ (c .is-ready .ensures .0) (c .is-ready .ensures .1)
 
 returns-2 : tie.Need-returns-2
 returns-2 c e = absurd (false≢true e)
 
 pub known-spec : {M : Type 1} → statement M
-known-spec = tie.close (tie.spec accepts-requires returns returns-2)
+known-spec = tie.close (tie.spec is-ready-requires returns returns-2)

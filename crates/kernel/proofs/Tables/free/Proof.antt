@@ -2,27 +2,27 @@
 use mathlib.Core.Path.{refl}
 use Rattle.kernel.specs.Definition.Calls.{free}
 use Rattle.kernel.specs.Definition.Step.{heard}
-use Rattle.kernel.proofs.Calls.{accepted-good, call-refused, call-quiet}
+use Rattle.kernel.proofs.Calls.{ready-good, call-refused, call-quiet}
 use borrow.Author.Needs.{needs}
 use Rattle.kernel.proofs.Tables.free.Statement.{statement}
 use Rattle.kernel.proofs.Tables.free.Tie as tie
 
-accepts-requires : tie.Need-accepts-requires
-accepts-requires c κs = search needs
+is-ready-requires : tie.Need-is-ready-requires
+is-ready-requires c κs = search needs
 
 refuse-requires : tie.Need-refuse-requires
 refuse-requires c κs = search needs
 
 returns : tie.Need-returns
-returns c = λ out. call-refused _ _ (free _ _) out _ (c .before .before .accepts .ensures .0) refl (c .before .if1 .taken) _ (c .refuse .ensures)
+returns c = λ out. call-refused _ _ (free _ _) out _ (c .before .before .is-ready .ensures .0) refl (c .before .if1 .taken) _ (c .refuse .ensures)
 
 free-good-requires : tie.Need-free-good-requires
-free-good-requires c κs = accepted-good _ _ (c .before .accepts .ensures .1) (c .if1 .left)
+free-good-requires c κs = ready-good _ _ (c .before .is-ready .ensures .1) (c .if1 .left)
 
 returns-2 : tie.Need-returns-2
 unfolding heard
-returns-2 c = λ out. call-quiet _ _ (free _ _) out _ (c .before .before .accepts .ensures .0) (c .before .if1 .left) _ (c .free-good .ensures)
+returns-2 c = λ out. call-quiet _ _ (free _ _) out _ (c .before .before .is-ready .ensures .0) (c .before .if1 .left) _ (c .free-good .ensures)
 
 pub free-spec : {M : Type 1} → statement M
 free-spec =
-    tie.close (tie.spec accepts-requires refuse-requires returns free-good-requires returns-2)
+    tie.close (tie.spec is-ready-requires refuse-requires returns free-good-requires returns-2)

@@ -2,31 +2,31 @@
 use mathlib.Core.Path.{refl}
 use Rattle.kernel.specs.Definition.Calls.{«open»}
 use Rattle.kernel.specs.Definition.Step.{heard}
-use Rattle.kernel.proofs.Calls.{accepted-good, accepted-size, call-refused, call-done}
+use Rattle.kernel.proofs.Calls.{ready-good, ready-size, call-refused, call-done}
 use borrow.Author.Needs.{needs}
 use Rattle.kernel.proofs.Tables.open.Statement.{statement}
 use Rattle.kernel.proofs.Tables.open.Tie as tie
 
-accepts-requires : tie.Need-accepts-requires
-accepts-requires c κs = search needs
+is-ready-requires : tie.Need-is-ready-requires
+is-ready-requires c κs = search needs
 
 refuse-requires : tie.Need-refuse-requires
 refuse-requires c κs = search needs
 
 returns : tie.Need-returns
-returns c = λ out. call-refused _ _ («open» _ _ _ _) out _ (c .before .before .accepts .ensures .0) refl (c .before .if1 .taken) _ (c .refuse .ensures)
+returns c = λ out. call-refused _ _ («open» _ _ _ _) out _ (c .before .before .is-ready .ensures .0) refl (c .before .if1 .taken) _ (c .refuse .ensures)
 
 open-good-requires : tie.Need-open-good-requires
-open-good-requires c κs = (accepted-good _ _ (c .before .before .accepts .ensures .1) (c .before .if1 .left), accepted-size _ _ _ (c .before .before .accepts .ensures .0) (c .before .if1 .left))
+open-good-requires c κs = (ready-good _ _ (c .before .before .is-ready .ensures .1) (c .before .if1 .left), ready-size _ _ _ (c .before .before .is-ready .ensures .0) (c .before .if1 .left))
 
 same-length : tie.Need-same-length
 same-length c = search needs
 
 returns-2 : tie.Need-returns-2
 unfolding heard
-returns-2 c = λ out. call-done _ _ («open» _ _ _ _) out _ (c .before .before .before .before .before .accepts .ensures .0) (c .before .before .before .before .if1 .left) _ _ _ (c .before .before .open-good .ensures out)
+returns-2 c = λ out. call-done _ _ («open» _ _ _ _) out _ (c .before .before .before .before .before .is-ready .ensures .0) (c .before .before .before .before .if1 .left) _ _ _ (c .before .before .open-good .ensures out)
 
 pub open-spec : {M : Type 1} → statement M
 open-spec =
     tie.close
-    (tie.spec accepts-requires refuse-requires returns open-good-requires same-length returns-2)
+    (tie.spec is-ready-requires refuse-requires returns open-good-requires same-length returns-2)

@@ -2,28 +2,28 @@
 use mathlib.Core.Path.{refl}
 use Rattle.kernel.specs.Definition.Calls.{set-user-boundary}
 use Rattle.kernel.specs.Definition.Step.{heard}
-use Rattle.kernel.proofs.Calls.{accepted-good, call-refused, call-quiet}
+use Rattle.kernel.proofs.Calls.{ready-good, call-refused, call-quiet}
 use borrow.Author.Needs.{needs}
 use Rattle.kernel.proofs.Tables.set_user_boundary.Statement.{statement}
 use Rattle.kernel.proofs.Tables.set_user_boundary.Tie as tie
 
-accepts-requires : tie.Need-accepts-requires
-accepts-requires c κs = search needs
+is-ready-requires : tie.Need-is-ready-requires
+is-ready-requires c κs = search needs
 
 refuse-requires : tie.Need-refuse-requires
 refuse-requires c κs = search needs
 
 returns : tie.Need-returns
-returns c = λ out. call-refused _ _ (set-user-boundary _) out _ (c .before .before .accepts .ensures .0) refl (c .before .if1 .taken) _ (c .refuse .ensures)
+returns c = λ out. call-refused _ _ (set-user-boundary _) out _ (c .before .before .is-ready .ensures .0) refl (c .before .if1 .taken) _ (c .refuse .ensures)
 
 set-user-boundary-good-requires : tie.Need-set-user-boundary-good-requires
-set-user-boundary-good-requires c κs = accepted-good _ _ (c .before .accepts .ensures .1) (c .if1 .left)
+set-user-boundary-good-requires c κs = ready-good _ _ (c .before .is-ready .ensures .1) (c .if1 .left)
 
 returns-2 : tie.Need-returns-2
 unfolding heard
-returns-2 c = λ out. call-quiet _ _ (set-user-boundary _) out _ (c .before .before .accepts .ensures .0) (c .before .if1 .left) _ (c .set-user-boundary-good .ensures)
+returns-2 c = λ out. call-quiet _ _ (set-user-boundary _) out _ (c .before .before .is-ready .ensures .0) (c .before .if1 .left) _ (c .set-user-boundary-good .ensures)
 
 pub set-user-boundary-spec : {M : Type 1} → statement M
 set-user-boundary-spec =
     tie.close
-    (tie.spec accepts-requires refuse-requires returns set-user-boundary-good-requires returns-2)
+    (tie.spec is-ready-requires refuse-requires returns set-user-boundary-good-requires returns-2)

@@ -1,4 +1,4 @@
--- `Tables::accepts` meets its contract.
+-- `Tables::is_ready` meets its contract.
 use mathlib.Core.Path.{_≡_, sym, _∙_}
 use mathlib.Core.Bool.{true, false, false≢true}
 use borrow.Author.Tests.{not-true, not-false}
@@ -6,8 +6,8 @@ use Rattle.kernel.specs.Definition.Good.{goodTest}
 use Rattle.kernel.specs.Laws.Good.{good-says}
 use Rattle.kernel.proofs.Known.{sized}
 use borrow.Author.Needs.{needs}
-use Rattle.kernel.proofs.Tables.accepts.Statement.{statement}
-use Rattle.kernel.proofs.Tables.accepts.Tie as tie
+use Rattle.kernel.proofs.Tables.is_ready.Statement.{statement}
+use Rattle.kernel.proofs.Tables.is_ready.Tie as tie
 
 is-good-requires : tie.Need-is-good-requires
 is-good-requires c κs = search needs
@@ -28,5 +28,5 @@ returns-2 c =
     let z = sized (s .args .self) _ (s .good .0) in
     (rw (e, c .wide .ensures .0), λ q. good-says (s .args .self) z .yes e, z)
 
-pub accepts-spec : {M : Type 1} → statement M
-accepts-spec = tie.close (tie.spec is-good-requires returns wide-requires mul-result returns-2)
+pub is-ready-spec : {M : Type 1} → statement M
+is-ready-spec = tie.close (tie.spec is-good-requires returns wide-requires mul-result returns-2)
