@@ -1,5 +1,5 @@
 -- How the chain grows, the EXOS boundary, and the room rule, as the code takes them.
-use mathlib.Core.Path.{_≡_, refl}
+use mathlib.Core.Path.{_≡_, refl, sym, _∙_}
 use mathlib.Core.List.{List}
 use Prim.Native.Nat.{ℕ, suc, _+_, _-_, _*_, _%_, _≤_, _<_}
 use native.Mathlib.Omega.{arith}
@@ -11,21 +11,37 @@ use Rattle.rows.specs.Definition.Classes.{FREE, SYSTEM, SHARED}
 use Rattle.rows.specs.Definition.Channels.{sumOf}
 use Rattle.rows.specs.Definition.Sizes.{boundaryAt}
 use Rattle.kernel.specs.Definition.Tables.{SEGMENT, withSegments}
-use Rattle.kernel.specs.Definition.Good.{Good}
-use Rattle.kernel.specs.Definition.Line.{totalOf, boundaryOf, oneMore, grown, roomFor}
+use Rattle.kernel.specs.Definition.Good.{Sized, Good}
+use Rattle.kernel.specs.Definition.Line.{totalOf, boundaryOf, taking, oneMore, grown, roomFor}
 use Rattle.kernel.specs.Within.{spareOf}
 use Rattle.kernel.specs.Laws.Chains.{line-fits}
 use Rattle.kernel.specs.Laws.Room.{room-asked}
+use Rattle.rows.specs.Laws.Lists.{last-within}
+use Rattle.rows.specs.declared.Lookup.{Lookup}
+use Rattle.rows.specs.declared.Lookup.the-variants.{At, Nowhere}
 use Rattle.kernel.specs.declared.Tables.{Tables}
 
-pub more-made : (t : Tables) (found row held : ℕ) → found ≡ lastOf FREE (t .classes) → found ≤ 32 → row ≡ found - 1 → held ≡ t .held
-    → withSegments t (set (t .classes) row SYSTEM) (t .held + 1) (set (t .chain) held (row % 256)) (t .user) ≡ oneMore t
-unfolding oneMore
-more-made t found row held f m r h = let z : row % 256 ≡ row = omega arith in rw (z, h, r, f)
+-- one further segment, where one is free and where none is
+module _ (t : Tables) (found : Lookup) (f : found ≡ lastOf FREE (t .classes)) where
+  pub more-row : Sized t → (row : ℕ) → found ≡ At row → row < 32
+  more-row s row e = omega (arith, last-within FREE (t .classes) row (sym f ∙ e), s .classes)
 
-pub more-held : (t : Tables) → oneMore t .held ≡ t .held + 1
+  pub more-made : (row held : ℕ) → found ≡ At row → row < 32 → held ≡ t .held
+      → withSegments t (set (t .classes) row SYSTEM) (t .held + 1) (set (t .chain) held (row % 256)) (t .user) ≡ oneMore t
+  unfolding oneMore
+  more-made row held e m h = let z : row % 256 ≡ row = omega arith in rw (z, h, sym f ∙ e)
+
+  pub more-none : found ≡ Nowhere → t ≡ oneMore t
+  unfolding oneMore
+  more-none e = rw (sym f ∙ e)
+
+taking-held : (t : Tables) (found : Lookup) → taking t found .held ≤ t .held + 1
+taking-held t (At row) = omega arith
+taking-held t Nowhere = omega arith
+
+pub more-held : (t : Tables) → oneMore t .held ≤ t .held + 1
 unfolding oneMore
-more-held t = refl
+more-held t = taking-held t (lastOf FREE (t .classes))
 
 pub grown-step : (k i : ℕ) (t : Tables) → i < k → grown (k - i) t ≡ grown (k - (i + 1)) (oneMore t)
 unfolding grown

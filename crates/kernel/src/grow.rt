@@ -5,8 +5,8 @@ ghost use Rattle.kernel.specs.Definition.Good.{Good};
 ghost use Rattle.kernel.specs.Definition.Line.{totalOf, oneMore, grown, boundaryOf, roomFor};
 ghost use Rattle.kernel.specs.Within.{spareOf};
 use super::Tables;
+use rows::Lookup;
 use rows::channels::total;
-use rows::numbers::less;
 use rows::numbers::wide;
 use rows::numbers::wide16;
 use rows::segments::FREE;
@@ -35,7 +35,9 @@ impl Tables {
         ensures { λ r. ⌜ r ≡ oneMore self ⌝ }
     {
         let classes = self.classes;
-        let row = less(last_of(classes, FREE), 1);
+        let Lookup::At(row) = last_of(classes, FREE) else {
+            return self;
+        };
         let held = wide(self.held);
         let mut next = self;
         next.classes[row] = SYSTEM;

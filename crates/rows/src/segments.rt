@@ -6,6 +6,7 @@ ghost use lib.ListN.{getD, take};
 ghost use Rattle.rows.specs.Definition.Lists.{firstOf, lastOf, tally, padded, upTo};
 ghost use Rattle.rows.specs.Definition.Classes.{released, startClasses};
 ghost use Rattle.rows.specs.Definition.Tests.{restRow, riseRow, classRow, chainRow, exactRow, listTest, classTest, chainTest, roomTest, userTest};
+use super::Lookup;
 use super::numbers::wide;
 
 // The classes. The page zero segment and unused rows have 0.
@@ -34,18 +35,18 @@ pub fn first_of(xs: [u8; 32], n: usize, k: u8) -> usize
     i
 }
 
-// One more than the place of the last `k`, or 0.
-pub fn last_of(xs: [u8; 32], k: u8) -> usize
-    ensures { λ r. ⌜ (r ≡ lastOf k xs) × (r ≤ 32) ⌝ }
+// The place of the last `k`, if there is one.
+pub fn last_of(xs: [u8; 32], k: u8) -> Lookup
+    ensures { λ r. ⌜ r ≡ lastOf k xs ⌝ }
 {
     let mut i: usize = 32;
     while 0 < i {
         if xs[i - 1] == k {
-            return i;
+            return Lookup::At(i - 1);
         }
         i = i - 1;
     }
-    0
+    Lookup::Nowhere
 }
 
 // How many of the first `n` are `k`.

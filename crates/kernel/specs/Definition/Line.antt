@@ -8,6 +8,8 @@ use Rattle.rows.specs.Definition.Classes.{FREE, USER, SYSTEM, SHARED}
 use Rattle.rows.specs.Definition.Channels.{zeroChannel, sumOf}
 use Rattle.rows.specs.Definition.Sizes.{chainLength, boundaryAt}
 use Rattle.rows.specs.declared.Channel.{Channel}
+use Rattle.rows.specs.declared.Lookup.{Lookup}
+use Rattle.rows.specs.declared.Lookup.the-variants.{At, Nowhere}
 use Rattle.kernel.specs.Definition.Tables.{SEGMENT, classAt, countOf, sharing, lastRow, withSegments, withChannels}
 use Rattle.kernel.specs.declared.Tables.{Tables}
 
@@ -30,12 +32,15 @@ bufferAt t i = recordAt t i + 16
 abbrev pub boundaryOf : Tables → ℕ
 boundaryOf t = boundaryAt (t .room) (totalOf t)
 
+-- the chain with one further segment, where there is one to take
+abbrev pub taking : Tables → Lookup → Tables
+taking t (At row) = withSegments t (set (t .classes) row SYSTEM) (t .held + 1) (set (t .chain) (t .held) row) (t .user)
+taking t Nowhere = t
+
 -- "A new system segment is the highest numbered free one". By the room rule it is asked only where a segment is free; unused rows have class 0, so that
 -- the whole array may be searched.
 unfoldable pub oneMore : Tables → Tables
-oneMore t =
-    let row = lastOf FREE (t .classes) - 1 in
-    withSegments t (set (t .classes) row SYSTEM) (t .held + 1) (set (t .chain) (t .held) row) (t .user)
+oneMore t = taking t (lastOf FREE (t .classes))
 
 unfoldable pub grown : ℕ → Tables → Tables
 unfolding oneMore

@@ -11,8 +11,10 @@ use Rattle.rows.specs.Definition.Good.{ClassesGood, ChainGood}
 use Rattle.rows.specs.Laws.Counts.{one-yes, tally-part, tally-set, Found, last-found}
 use Rattle.rows.specs.Laws.ChainRows.{more-classes, more-chain}
 use Rattle.kernel.specs.Definition.Tables.{countOf}
-use Rattle.kernel.specs.Definition.Line.{oneMore, grown}
+use Rattle.kernel.specs.Definition.Line.{taking, oneMore, grown}
 use Rattle.kernel.specs.Laws.Body.{Shares, Body, body-counted, body-segments, Keeps, keeps-all, keeps-on}
+use Rattle.rows.specs.declared.Lookup.{Lookup}
+use Rattle.rows.specs.declared.Lookup.the-variants.{At, Nowhere}
 use Rattle.kernel.specs.declared.Tables.{Tables}
 
 -- the tables u have one further segment in the chain than t
@@ -20,6 +22,7 @@ pub record More (t u : Tables) : Type 0 where
   pub body : Body u
   pub apart : Shares u → ⊥
   pub free : countOf FREE t ≡ countOf FREE u + 1
+  pub held : u .held ≡ t .held + 1
 
 -- where one is free and nothing is shared
 pub more : (t : Tables) → Body t → (Shares t → ⊥) → 1 ≤ countOf FREE t → More t (oneMore t)
@@ -29,7 +32,6 @@ more t b a h =
     let cs = t .classes in
     let f : Found FREE cs = last-found FREE cs (omega (arith, tally-part FREE n cs)) in
     let row = f .place in
-    let e : lastOf FREE cs - 1 ≡ row = omega (arith, f .is) in
     let within : row < 32 = omega (arith, f .within, b .sized .classes) in
     let hb : t .held < 32 = omega (arith, body-counted t b, b .list .most) in
     let k : ClassesGood n (set cs row SYSTEM) =
@@ -47,11 +49,12 @@ more t b a h =
       tally-set FREE (take n cs) row SYSTEM (omega (arith, length-take n cs, b .sized .classes, b .list .most)),
       one-yes FREE (getD (take n cs) row 0) (getD-take n cs row 0 known ∙ f .here),
     )) in
-    rw e (record {
+    rw (f .is) (record {
       body = body-segments t (set cs row SYSTEM) (t .held + 1) (set (t .chain) (t .held) row) (t .user) (length-set cs row SYSTEM ∙ b .sized .classes)
           (length-set (t .chain) (t .held) row ∙ b .sized .chain) k c (λ _. b .none a) b;
       apart = λ q. omega (arith, last);
       free = count;
+      held = refl;
     })
 
 pub grown-body : (k : ℕ) (t : Tables) → Body t → (Shares t → ⊥) → k ≤ countOf FREE t → Body (grown k t)
@@ -59,21 +62,28 @@ unfolding grown
 grown-body zero t b a h = b
 grown-body (suc k) t b a h = let m = more t b a (omega arith) in grown-body k (oneMore t) (m .body) (m .apart) (omega (arith, m .free))
 
--- what else the tables have when the chain has grown by k
-pub record Grown (k : ℕ) (t u : Tables) : Type 0 where
+-- by as many segments as there are
+pub grown-held : (k : ℕ) (t : Tables) → Body t → (Shares t → ⊥) → k ≤ countOf FREE t → grown k t .held ≡ t .held + k
+unfolding grown
+grown-held zero t b a h = omega arith
+grown-held (suc k) t b a h = let m = more t b a (omega arith) in omega (arith, m .held, grown-held k (oneMore t) (m .body) (m .apart) (omega (arith, m .free)))
+
+-- what else the tables have when the chain has grown
+pub record Grown (t u : Tables) : Type 0 where
   pub keeps : Keeps t u
-  pub held : u .held ≡ t .held + k
   pub user : u .user ≡ t .user
   pub chain : (i : ℕ) → i < t .held → at (u .chain) i ≡ at (t .chain) i
 
-pub grown-rest : (k : ℕ) (t : Tables) → Grown k t (grown k t)
-unfolding grown oneMore
-grown-rest zero t = record { keeps = keeps-all t; held = omega arith; user = refl; chain = λ i h. refl }
-grown-rest (suc k) t =
-    let r = grown-rest k (oneMore t) in
+taking-rest : (t u : Tables) (found : Lookup) → Grown (taking t found) u → Grown t u
+taking-rest t u (At row) r =
     record {
       keeps = keeps-on _ _ _ _ (r .keeps);
-      held = omega (arith, r .held);
       user = r .user;
       chain = λ i h. r .chain i (omega arith) ∙ getD-set-other (t .chain) (t .held) i _ 0 (λ e. omega arith);
     }
+taking-rest t u Nowhere r = r
+
+pub grown-rest : (k : ℕ) (t : Tables) → Grown t (grown k t)
+unfolding grown oneMore
+grown-rest zero t = record { keeps = keeps-all t; user = refl; chain = λ i h. refl }
+grown-rest (suc k) t = taking-rest t (grown k (oneMore t)) (lastOf FREE (t .classes)) (grown-rest k (oneMore t))

@@ -22,7 +22,7 @@ use Rattle.kernel.specs.Definition.Good.{Good}
 use Rattle.kernel.specs.Within.{spare}
 use Rattle.kernel.specs.Laws.Body.{Body, body, whole, last-known, first-class, body-channels, keeps-total}
 use Rattle.kernel.specs.Laws.Facts.{no-shorter}
-use Rattle.kernel.specs.Laws.Grow.{grown-body, grown-rest}
+use Rattle.kernel.specs.Laws.Grow.{grown-body, grown-held, grown-rest}
 use Rattle.kernel.specs.Laws.Room.{shares-no, line-sum, room-in-bytes}
 use Rattle.kernel.specs.Laws.Shrink.{cut}
 use Rattle.kernel.specs.declared.Tables.{Tables}
@@ -44,7 +44,8 @@ fill-by t k b l e false s =
     let a = shares-no t b s in
     let m = chain-most (t .room) (totalOf t) (t .held - 1 + countOf FREE t) (omega arith) in
     let r = grown-rest k t in
-    whole (grown k t) (grown-body k t b a (omega (arith, b .chain .holds))) (rw (r .keeps .room, keeps-total (r .keeps), r .held) l) (omega (arith, r .user, b .none a))
+    let few : k ≤ countOf FREE t = omega (arith, b .chain .holds) in
+    whole (grown k t) (grown-body k t b a few) (rw (r .keeps .room, keeps-total (r .keeps), grown-held k t b a few) l) (omega (arith, r .user, b .none a))
 
 -- the chain grown to what the line takes, where the room rule lets it
 pub fill : (t : Tables) → Body t → t .held ≤ chainLength (t .room) (totalOf t) → roomFor t (t .room) (totalOf t) ≡ true

@@ -27,7 +27,7 @@ module _ (t : Tables) (m : ℕ) (name : List ℕ) (g : Good t) (l : Links t m na
       linking-keeps t m (wordOf name) (length name) g (l .few) (word-good name (link-default name (l .named))) (l .named .0) (l .least) (l .room)
 
   -- what the next tables have besides, as the chain grew
-  linking-rest : Grown (chainLength (t .room - m) (totalOf t) - t .held)
+  linking-rest : Grown
       (withDevices t (t .room - m) (t .known + 1) (added (t .devices) (t .known) (wordOf name) (length name))) (linking t m (wordOf name) (length name))
   unfolding linking
   linking-rest =
@@ -39,7 +39,10 @@ module _ (t : Tables) (m : ℕ) (name : List ℕ) (g : Good t) (l : Links t m na
 
   -- there are as many segments as the chain grows by
   pub linking-held : t .held + (chainLength (t .room - m) (totalOf t) - t .held) ≤ 32
-  linking-held = omega (arith, linking-good .chain .most, linking-rest .held)
+  linking-held =
+      let r = linking-rest .keeps in
+      let line : linking t m (wordOf name) (length name) .held ≡ chainLength (t .room - m) (totalOf t) = rw (r .room, keeps-total r) at (linking-good .line) in
+      omega (arith, linking-good .chain .most, g .chain .most)
 
   pub linking-chain : (size : ℕ) → size ≡ ramSize t → Chain (linking t m (wordOf name) (length name) .chain) (t .room) (totalOf t + m) size
   linking-chain size e =

@@ -24,17 +24,21 @@ module _ (t : Tables) (c : Channel) (g : Good t) (new : New t c) (fits : Fits t 
       (place-none (t .channels) (c .number) (t .opened) (omega (arith, g .sized .channels, g .channels .most)) (new .absent)) (fits .room)
 
   -- what the next tables have besides, as the chain grew
-  opening-rest : Grown (chainLength (t .room) (totalOf t + (16 + c .n)) - t .held) (withChannels t (t .opened + 1) (set (t .channels) (t .opened) c)) (opening t c)
+  opening-rest : Grown (withChannels t (t .opened + 1) (set (t .channels) (t .opened) c)) (opening t c)
   unfolding opening
   opening-rest = grown-rest (chainLength (t .room) (totalOf t + (16 + c .n)) - t .held) (withChannels t (t .opened + 1) (set (t .channels) (t .opened) c))
 
+  opening-total : totalOf (opening t c) ≡ totalOf t + (16 + c .n)
+  opening-total = keeps-total (opening-rest .keeps) ∙ sum-set (t .channels) (t .opened) c (omega (arith, g .sized .channels, fits .few))
+
   -- there are as many segments as the chain grows by
   pub opening-held : t .held + (chainLength (t .room) (totalOf t + (16 + c .n)) - t .held) ≤ 32
-  opening-held = omega (arith, opening-good .chain .most, opening-rest .held)
+  opening-held =
+      let line : opening t c .held ≡ chainLength (t .room) (totalOf t + (16 + c .n)) = rw (opening-rest .keeps .room, opening-total) at (opening-good .line) in
+      omega (arith, opening-good .chain .most, g .chain .most)
 
   pub opening-chain : (size : ℕ) → size ≡ ramSize t → Chain (opening t c .chain) (t .room) (totalOf t + (16 + c .n)) size
   opening-chain size e =
       let r = opening-rest in
-      let s : totalOf (opening t c) ≡ totalOf t + (16 + c .n) = keeps-total (r .keeps) ∙ sum-set (t .channels) (t .opened) c (omega (arith, g .sized .channels, fits .few)) in
       let k : Chain (opening t c .chain) (opening t c .room) (totalOf (opening t c)) size = good-chain (opening t c) size opening-good (rw (r .keeps .segments) e) in
-      rw (s, r .keeps .room) at k
+      rw (opening-total, r .keeps .room) at k

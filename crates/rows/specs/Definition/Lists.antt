@@ -3,7 +3,9 @@ use mathlib.Core.Bool.{Bool, true, cond, _&&_}
 use mathlib.Core.List.{List, [], _∷_, _++_}
 use Prim.Native.Nat.{ℕ, zero, suc, _+_, _-_}
 use lib.ListN.{length, getD, take, drop, replicate}
-use lib.Dec.{ltb, eqb}
+use lib.Dec.{eqb}
+use Rattle.rows.specs.declared.Lookup.{Lookup}
+use Rattle.rows.specs.declared.Lookup.the-variants.{At, Nowhere}
 
 -- what stands at a place of a list of numbers, 0 beyond its end
 abbrev pub at : List ℕ → ℕ → ℕ
@@ -31,10 +33,14 @@ firstWhere p (x ∷ xs) = cond (p x) 0 (suc (firstWhere p xs))
 abbrev pub firstOf : ℕ → List ℕ → ℕ
 firstOf k xs = firstWhere (λ (x : ℕ). eqb x k) xs
 
--- one more than the place of the last k, or 0 where there is none
-abbrev pub lastOf : ℕ → List ℕ → ℕ
-lastOf k [] = 0
-lastOf k (x ∷ xs) = let r = lastOf k xs in cond (ltb 0 r) (suc r) (cond (eqb x k) 1 0)
+-- the place of the last k, if there is one: where it was found behind the first element, or the first element itself
+abbrev pub lastFrom : Lookup → (first : Bool) → Lookup
+lastFrom (At i) first = At (suc i)
+lastFrom Nowhere first = cond first (At 0) Nowhere
+
+abbrev pub lastOf : ℕ → List ℕ → Lookup
+lastOf k [] = Nowhere
+lastOf k (x ∷ xs) = lastFrom (lastOf k xs) (eqb x k)
 
 -- how many elements are k
 abbrev pub tally : ℕ → List ℕ → ℕ

@@ -7,12 +7,13 @@ use native.Mathlib.Nat.{le-of-suc-le-suc, not-suc-le-zero}
 use native.Mathlib.Decide.{decLe, ℕ-discrete}
 use native.Mathlib.Omega.{arith}
 use native.Mathlib.Numerals.{add-one}
-use borrow.Author.Tests.{eq-eqb, ne-eqb, eqb-true, lt-ltb}
+use borrow.Author.Tests.{eq-eqb, ne-eqb, eqb-true}
 use lib.Dec.{eqb}
 use lib.ListN.{length, getD, take, drop, set, take-append-drop}
 use lib.Seq.{take-suc}
 use Rattle.rows.specs.Definition.Lists.{tally, lastOf, firstOf, sumTo}
 use Rattle.rows.specs.Laws.Lists.{where-found, where-absent}
+use Rattle.rows.specs.declared.Lookup.the-variants.{At, Nowhere}
 
 -- 1 if x is k
 abbrev pub one : ℕ → ℕ → ℕ
@@ -45,11 +46,11 @@ tally-some k (x ∷ xs) (suc i) h e = omega (arith, tally-some k xs i (le-of-suc
 -- where some k is, lastOf says where
 pub record Found (k : ℕ) (xs : List ℕ) : Type 0 where
   pub place : ℕ
-  pub is : lastOf k xs ≡ suc place
+  pub is : lastOf k xs ≡ At place
   pub within : place < length xs
   pub here : getD xs place 0 ≡ k
 
-pub last-zero : (k : ℕ) (xs : List ℕ) → tally k xs ≡ 0 → lastOf k xs ≡ 0
+pub last-zero : (k : ℕ) (xs : List ℕ) → tally k xs ≡ 0 → lastOf k xs ≡ Nowhere
 last-zero k [] e = refl
 last-zero k (x ∷ xs) e =
     let z : tally k xs ≡ 0 = omega arith in
@@ -64,7 +65,7 @@ last-found k (x ∷ xs) h =
     elim (decLe 1 (tally k xs)) [
       | yes g ↦
           let f = last-found k xs g in
-          record { place = suc (f .place); is = rw (lastOf, f .is, lt-ltb 0 (suc (f .place)) (omega arith)); within = suc-le-suc (f .within); here = f .here }
+          record { place = suc (f .place); is = rw (lastOf, f .is); within = suc-le-suc (f .within); here = f .here }
       | no g ↦
           elim (ℕ-discrete x k) [
             | yes q ↦ record { place = 0; is = rw (lastOf, last-zero k xs (omega arith), eq-eqb x k q); within = omega arith; here = q }

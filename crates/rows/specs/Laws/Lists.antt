@@ -7,9 +7,12 @@ use native.Mathlib.Nat.{not-suc-le-zero, le-of-suc-le-suc}
 use native.Mathlib.Numerals.{add-one}
 use native.Mathlib.Omega.{arith}
 use native.Mathlib.Decide.{decLt}
-use borrow.Author.Tests.{eq-eqb, ne-eqb, lt-ltb}
+use borrow.Author.Tests.{eq-eqb, ne-eqb}
 use lib.ListN.{length, getD, take}
-use Rattle.rows.specs.Definition.Lists.{every, firstWhere, lastOf, upTo}
+use lib.Dec.{eqb}
+use Rattle.rows.specs.Definition.Lists.{every, firstWhere, lastFrom, lastOf, upTo}
+use Rattle.rows.specs.declared.Lookup.{Lookup}
+use Rattle.rows.specs.declared.Lookup.the-variants.{At, Nowhere}
 
 -- a test that passed, as what it tested
 pub and-left : (a b : Bool) → a && b ≡ true → a ≡ true
@@ -139,14 +142,24 @@ pub where-absent : {A : Type 0} (p : A → Bool) (xs : List A) (d : A) → lengt
 where-absent p [] d h i l = absurd (not-suc-le-zero l)
 where-absent p (x ∷ xs) d h i l = absent-by p x xs d (p x) refl (where-absent p xs d) h i l
 
+last-from : (l : Lookup) (first : Bool) (n i : ℕ) → ((j : ℕ) → l ≡ At j → j < n) → lastFrom l first ≡ At i → i < suc n
+last-from (At j) first n i h e = let q : suc j ≡ i = cc in omega (arith, h j refl)
+last-from Nowhere true n i h e = let q : 0 ≡ i = cc in omega arith
+last-from Nowhere false n i h e = absurd (let z : _≡_ {A = ℕ} 0 1 = cc in omega arith)
+
+-- the last k stands within the list
+pub last-within : (k : ℕ) (xs : List ℕ) (i : ℕ) → lastOf k xs ≡ At i → i < length xs
+last-within k [] i e = absurd (let z : _≡_ {A = ℕ} 0 1 = cc in omega arith)
+last-within k (x ∷ xs) i e = last-from (lastOf k xs) (eqb x k) (length xs) i (last-within k xs) e
+
 -- lastOf: where there is none, and where the last k stands
-pub last-none : (k : ℕ) (xs : List ℕ) → ((j : ℕ) → j < length xs → getD xs j 0 ≡ k → ⊥) → lastOf k xs ≡ 0
+pub last-none : (k : ℕ) (xs : List ℕ) → ((j : ℕ) → j < length xs → getD xs j 0 ≡ k → ⊥) → lastOf k xs ≡ Nowhere
 last-none k [] not = refl
 last-none k (x ∷ xs) not = rw (lastOf, last-none k xs (λ j g. not (suc j) (suc-le-suc g)), ne-eqb x k (not 0 (omega arith)))
 
 pub last-here : (k : ℕ) (xs : List ℕ) (i : ℕ) → i < length xs → ((j : ℕ) → i < j → j < length xs → getD xs j 0 ≡ k → ⊥)
-    → getD xs i 0 ≡ k → lastOf k xs ≡ suc i
+    → getD xs i 0 ≡ k → lastOf k xs ≡ At i
 last-here k [] i h not e = absurd (omega arith)
 last-here k (x ∷ xs) zero h not e = rw (lastOf, last-none k xs (λ j g. not (suc j) (omega arith) (suc-le-suc g)), eq-eqb x k e)
 last-here k (x ∷ xs) (suc i) h not e =
-    rw (lastOf, last-here k xs i (le-of-suc-le-suc h) (λ j g l. not (suc j) (suc-le-suc g) (suc-le-suc l)) e, lt-ltb 0 (suc i) (omega arith))
+    rw (lastOf, last-here k xs i (le-of-suc-le-suc h) (λ j g l. not (suc j) (suc-le-suc g) (suc-le-suc l)) e)

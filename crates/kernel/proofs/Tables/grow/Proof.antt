@@ -29,7 +29,7 @@ loop-less c = search needs
 loop-again : tie.Need-loop-again Inv-loop μ-loop
 loop-again c = (
   search needs,
-  rw (c .one-more .ensures, more-held) (omega arith),
+  rw (c .one-more .ensures) (omega (arith, more-held (c .before .before .loop .t))),
   rw (
     c .one-more .ensures,
     ← grown-step (c .before .before .before .args .k) (c .before .before .loop .i) (c .before .before .loop .t) (c .before .loop-test .taken),

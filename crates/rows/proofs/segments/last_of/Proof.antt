@@ -1,7 +1,7 @@
 -- `segments::last_of` meets its contract. The loop's invariant: no row from `i` on is `k`.
 use borrow.Author.Needs.{needs}
-use mathlib.Core.Path.{_∙_, _≡_, subst, sym}
-use Prim.Native.Nat.{_-_, _<_, _≤_, suc, ℕ}
+use mathlib.Core.Path.{_≡_, subst, sym}
+use Prim.Native.Nat.{_-_, _<_, _≤_, ℕ}
 use native.Mathlib.Decide.{decLe}
 use native.Mathlib.Omega.{arith}
 use lib.ListN.{getD, length}
@@ -29,13 +29,15 @@ sub-if1 c = search needs
 array-read-if1 : tie.Need-array-read-if1 Inv-loop μ-loop
 array-read-if1 c = search needs
 
+sub-t10 : tie.Need-sub-t10 Inv-loop μ-loop
+sub-t10 c = search needs
+
 returns : tie.Need-returns Inv-loop μ-loop
 returns c =
     let s = c .before .before .before in
     let at = c .before .before .loop in
     let l : length (s .args .t1) ≡ 32 = s .good .0 .1 .0 .1 in
-    let e : at .i ≡ suc (at .i - 1) = omega arith in
-    (e ∙ sym (last-here (s .args .k) (s .args .t1) (at .i - 1) (omega arith) (λ j g h. at .inv .1 j (omega arith) (omega arith)) (c .if1 .taken)), search needs)
+    sym (last-here (s .args .k) (s .args .t1) (at .i - 1) (omega arith) (λ j g h. at .inv .1 j (omega arith) (omega arith)) (c .if1 .taken))
 
 sub-i : tie.Need-sub-i Inv-loop μ-loop
 sub-i c = search needs
@@ -53,7 +55,7 @@ returns-2 : tie.Need-returns-2 Inv-loop μ-loop
 returns-2 c =
     let s = c .before .before in
     let l : length (s .args .t1) ≡ 32 = s .good .0 .1 .0 .1 in
-    (sym (last-none (s .args .k) (s .args .t1) (λ j g. c .before .loop .inv .1 j (omega arith) (omega arith))), search needs)
+    sym (last-none (s .args .k) (s .args .t1) (λ j g. c .before .loop .inv .1 j (omega arith) (omega arith)))
 
 pub last-of-spec : {M : Type 1} → statement M
 last-of-spec =
@@ -64,6 +66,7 @@ last-of-spec =
     loop-holds
     sub-if1
     array-read-if1
+    sub-t10
     returns
     sub-i
     loop-less
