@@ -1,5 +1,5 @@
 -- The branches of link, as the code takes them.
-use mathlib.Core.Path.{_≡_, sym, _∙_}
+use mathlib.Core.Path.{_≡_, refl, sym, ap, _∙_}
 use mathlib.Core.Bool.{Bool, true, false, not, _||_}
 use mathlib.Core.List.{List, map}
 use Prim.Native.Nat.{ℕ, _+_, _-_, _≤_, _<_}
@@ -14,39 +14,40 @@ use Rattle.rows.specs.Laws.Lists.{or-left, or-right, not-not}
 use Rattle.rows.specs.declared.Device.{Device}
 use Rattle.names.specs.Laws.Runs.{link-right}
 use Rattle.names.specs.Definition.Tests.{linkNameTest}
-use Rattle.names.specs.Definition.Words.{wordOf}
+use Rattle.names.specs.Definition.Words.{wordOf, LinkName}
 use Rattle.line.specs.Within.Chains.{Chain}
 use Rattle.line.specs.Definition.Line.{afterLink}
 use Rattle.kernel.specs.Definition.Tables.{ramSize, withDevices}
 use Rattle.kernel.specs.Definition.Good.{Good}
 use Rattle.kernel.specs.Definition.Line.{totalOf, grown, roomFor}
-use Rattle.kernel.specs.Definition.Devices.{linking}
+use Rattle.kernel.specs.Definition.Devices.{linking, deviceNamed}
 use Rattle.kernel.specs.Definition.Bytes.{nothing, moved}
 use Rattle.kernel.specs.Definition.Answers.{gives, _changing_}
 use Rattle.kernel.specs.Definition.Calls.{onLink}
 use Rattle.kernel.specs.Definition.Step.{completed, result}
 use Rattle.kernel.specs.Within.{Links, roomToLink}
+use Rattle.kernel.specs.Laws.Arrays.{link-default, word-good}
 use Rattle.kernel.specs.Laws.Links.{linking-room, linking-held, linking-chain}
 use Rattle.kernel.specs.declared.Tables.{Tables}
 use Rattle.kernel.specs.declared.Answer.the-variants.{Done, BadName, Full, NoRoom}
 
+-- the device's row, its name kept in 28 bytes
+pub device-row : (name word : List ℕ) (d : Device) → word ≡ wordOf (take (length name) name) → d ≡ newDevice word (length name) → d ≡ deviceNamed name
+device-row name word d w e = e ∙ ap (λ (x : List ℕ). newDevice x (length name)) (w ∙ ap wordOf (take-all (length name) name (omega arith)))
+
 -- the device added
-module _ (t : Tables) (m : ℕ) (name : List ℕ) (total long held more : ℕ) (b : total ≡ totalOf t)
-    (e : long ≡ chainLength (t .room - m) total) (f : held ≡ t .held) (d : more ≡ long - held) where
+module _ (t : Tables) (m : ℕ) (d : Device) (total long held more : ℕ) (b : total ≡ totalOf t)
+    (e : long ≡ chainLength (t .room - m) total) (f : held ≡ t .held) (o : more ≡ long - held) where
   growth : more ≡ chainLength (t .room - m) (totalOf t) - t .held
-  growth = rw (d, f, e, b)
+  growth = rw (o, f, e, b)
 
-  pub device-held : Good t → Links t m name → t .held + more ≤ 32
-  device-held g l = rw growth (linking-held t m name g l)
+  pub device-held : Good t → Links t m d → t .held + more ≤ 32
+  device-held g l = rw growth (linking-held t m d g l)
 
-  pub device-made : (bytes : List ℕ) (rows : List Device) (known : ℕ) (after : Tables) → bytes ≡ wordOf (take (length name) name)
-      → rows ≡ map (disabledBy bytes (length name)) (t .devices) → known ≡ t .known
-      → after ≡ grown more (withDevices t (t .room - m) (t .known + 1) (set rows known (newDevice bytes (length name))))
-      → after ≡ linking t m (wordOf name) (length name)
+  pub device-made : (rows : List Device) (known : ℕ) (after : Tables) → rows ≡ map (disabledBy (d .name) (d .length)) (t .devices) → known ≡ t .known
+      → after ≡ grown more (withDevices t (t .room - m) (t .known + 1) (set rows known d)) → after ≡ linking t m d
   unfolding linking
-  device-made bytes rows known after p q k h =
-      let w : bytes ≡ wordOf name = p ∙ rw (take-all (length name) name (omega arith)) in
-      rw (h, growth, k, q, w)
+  device-made rows known after q k h = rw (h, growth, k, q)
 
 -- the room rule
 module _ (t : Tables) (m room size : ℕ) (a : room ≡ t .room) (b : size ≡ m) where
@@ -57,6 +58,9 @@ module _ (t : Tables) (m room size : ℕ) (a : room ≡ t .room) (b : size ≡ m
   room-left total ok h e r =
       let g : 256 + m ≤ t .room = rw (a, b) at h in
       rw (le-ltb _ _ g, not-not) (rw (r, e))
+
+pub is-name : (name : List ℕ) (ok : Bool) → ok ≡ linkNameTest name → not ok ≡ false → LinkName name
+is-name name ok n h = link-right name (sym n ∙ not-false _ h)
 
 -- the name, the number of devices, and the room
 module _ (t : Tables) (m : ℕ) (name : List ℕ) (ok : Bool) (n : ok ≡ linkNameTest name) where
@@ -79,27 +83,29 @@ module _ (t : Tables) (m : ℕ) (name : List ℕ) (ok : Bool) (n : ok ≡ linkNa
       room-rule : not fits ≡ false → (ltb (t .room) (256 + m) || not (roomFor t (t .room - m) (totalOf t))) ≡ false
       room-rule h = not-true _ (sym r ∙ not-false _ h)
 
-      pub link-answer : not fits ≡ false → onLink t m name ≡ gives (Done (t .known) (t .room - m)) (linking t m (wordOf name) (length name)) changing moved m
+      pub link-answer : not fits ≡ false → onLink t m name ≡ gives (Done (t .known) (t .room - m)) (linking t m (deviceNamed name)) changing moved m
       unfolding onLink
       link-answer h = rw (← n, named, lt-leb _ _ few, room-rule h)
 
-      pub links-of : not fits ≡ false → Links t m name
+      pub links-of : not fits ≡ false → Links t m (deviceNamed name)
       links-of h =
           record {
-            named = link-right name (sym n ∙ not-false _ named);
+            named = word-good name (link-default name (is-name name ok n named));
+            some = is-name name ok n named .0;
+            on = refl;
             few = few;
             least = ltb-false _ _ (or-left (ltb (t .room) (256 + m)) _ (room-rule h));
             room = not-false _ (or-right (ltb (t .room) (256 + m)) _ (room-rule h));
           }
 
 -- the line moved
-module _ (t : Tables) (m : ℕ) (name : List ℕ) (g : Good t) (l : Links t m name) (next : Tables) (e : next ≡ linking t m (wordOf name) (length name))
-    (room size total : ℕ) (a : room ≡ t .room) (b : size ≡ m) (d : total ≡ totalOf t) where
+module _ (t : Tables) (m : ℕ) (d : Device) (g : Good t) (l : Links t m d) (next : Tables) (e : next ≡ linking t m d)
+    (room size total : ℕ) (a : room ≡ t .room) (b : size ≡ m) (s : total ≡ totalOf t) where
   pub link-chain : (bytes : ℕ) → bytes ≡ ramSize t → (size ≤ room) × Chain (next .chain) room (total + size) bytes
-  link-chain bytes h = (omega (arith, l .least), rw (a, b, d, e) (linking-chain t m name g l bytes h))
+  link-chain bytes h = (omega (arith, l .least), rw (a, b, s, e) (linking-chain t m d g l bytes h))
 
-  pub link-done : (ram after out : List ℕ) → after ≡ afterLink (next .chain) room size ram total
-      → onLink t m name ≡ gives (Done (t .known) (t .room - m)) (linking t m (wordOf name) (length name)) changing moved m
+  pub link-done : (name ram after out : List ℕ) → after ≡ afterLink (next .chain) room size ram total
+      → onLink t m name ≡ gives (Done (t .known) (t .room - m)) (linking t m d) changing moved m
       → result (gives (Done (t .known) (next .room)) next) after out ≡ completed t (onLink t m name) ram out
   unfolding completed
-  link-done ram after out h o = rw (h, a, b, d, o, e, linking-room t m name g l)
+  link-done name ram after out h o = rw (h, a, b, s, o, e, linking-room t m d g l)

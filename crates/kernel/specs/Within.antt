@@ -5,10 +5,11 @@ use mathlib.Core.List.{List, [], _∷_}
 use Prim.Native.Nat.{ℕ, _+_, _-_, _≤_, _<_}
 use lib.Dec.{leb, ltb}
 use lib.ListN.{take}
-use Rattle.names.specs.Definition.Words.{LinkName}
 use Rattle.rows.specs.Definition.Lists.{at, firstOf, tally}
 use Rattle.rows.specs.Definition.Classes.{FREE, SHARED}
+use Rattle.rows.specs.Definition.Good.{NameGood}
 use Rattle.rows.specs.declared.Channel.{Channel}
+use Rattle.rows.specs.declared.Device.{Device}
 use Rattle.kernel.specs.Definition.Tables.{channelAt}
 use Rattle.kernel.specs.Definition.Line.{totalOf, roomFor, opening}
 use Rattle.kernel.specs.Definition.Bytes.{appended}
@@ -55,9 +56,11 @@ onOpenRow t c =
 abbrev pub roomToLink : Tables → (m : ℕ) → Bool
 roomToLink t m = not (ltb (t .room) (256 + m) || not (roomFor t (t .room - m) (totalOf t)))
 
--- the name is one, a row is left, and there is room for m bytes
-pub record Links (t : Tables) (m : ℕ) (name : List ℕ) : Type 0 where
-  pub named : LinkName name
+-- the device is an enabled one with a name, a row is left, and there is room for m bytes
+pub record Links (t : Tables) (m : ℕ) (d : Device) : Type 0 where
+  pub named : NameGood (d .name) (d .length)
+  pub some : 1 ≤ d .length
+  pub on : d .enabled ≡ true
   pub few : t .known < 16
   pub least : 256 + m ≤ t .room
   pub room : roomFor t (t .room - m) (totalOf t) ≡ true

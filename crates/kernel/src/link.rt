@@ -1,13 +1,12 @@
 // Link: a further device, with RAM of its own.
 ghost use mathlib.Core.Path.{_≡_};
 ghost use mathlib.Core.List.{List};
-ghost use Prim.Native.Nat.{ℕ};
+ghost use Prim.Native.Nat.{ℕ, _≤_};
 ghost use lib.ListN.{length};
-ghost use Rattle.names.specs.Definition.Words.{wordOf};
 ghost use Rattle.kernel.specs.Definition.Tables.{ramSize};
 ghost use Rattle.kernel.specs.Definition.Good.{Good};
 ghost use Rattle.kernel.specs.Definition.Line.{totalOf};
-ghost use Rattle.kernel.specs.Definition.Devices.{linking};
+ghost use Rattle.kernel.specs.Definition.Devices.{linking, deviceNamed};
 ghost use Rattle.kernel.specs.Definition.Calls.{onLink};
 ghost use Rattle.kernel.specs.Definition.Calls as calls;
 ghost use Rattle.kernel.specs.Definition.Step.{step, completed, result};
@@ -21,29 +20,33 @@ use names::word;
 use rows::Device;
 use rows::channels::total;
 use rows::devices::disable;
+use rows::devices::new_device;
 use rows::numbers::less;
 use rows::numbers::wide;
 use rows::numbers::wide16;
 use rows::sizes::chain_length;
 
+// The device that a link of this name adds.
+fn device_named(name: &[u8]) -> Device
+    requires { ⌜ length (now name) ≤ 28 ⌝ }
+    ensures { λ r. ⌜ r ≡ deviceNamed (now (name .entry)) ⌝ }
+{
+    new_device(word(name, name.len()), name.len() as u8)
+}
+
 impl Tables {
     // The tables with one device more, an older one of its name disabled, and the chain as long as the line takes; `total` is T.
-    fn add_device(self, m: u16, name: &[u8], total: usize) -> Tables
-        requires { ⌜ Good self × Links self m (now name) × (total ≡ totalOf self) ⌝ }
-        ensures { λ r. ⌜ r ≡ linking self m (wordOf (now (name .entry))) (length (now (name .entry))) ⌝ }
+    fn add_device(self, m: u16, d: Device, total: usize) -> Tables
+        requires { ⌜ Good self × Links self m d × (total ≡ totalOf self) ⌝ }
+        ensures { λ r. ⌜ r ≡ linking self m d ⌝ }
     {
         let room = self.room - m;
         let more = less(chain_length(room, total), wide(self.held));
-        let bytes = word(name, name.len());
-        let length = name.len() as u8;
         let devices = self.devices;
-        let mut rows = disable(devices, bytes, length);
+        let name = d.name;
+        let mut rows = disable(devices, name, d.length);
         let known = wide(self.known);
-        rows[known] = Device {
-            name: bytes,
-            length,
-            enabled: true,
-        };
+        rows[known] = d;
         let mut next = self;
         next.room = room;
         next.known = self.known + 1;
@@ -90,7 +93,7 @@ impl Tables {
         if !self.room_to_link(m, total) {
             return self.refuse(Answer::NoRoom);
         }
-        let next = self.add_device(m, name, total);
+        let next = self.add_device(m, device_named(name), total);
         let chain = next.chain;
         link_line(ram, &chain, wide16(self.room), wide16(m), total);
         Outcome {

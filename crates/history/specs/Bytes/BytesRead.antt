@@ -9,7 +9,6 @@ use native.Mathlib.Omega.{arith}
 use borrow.Author.Tests.{eq-eqb, ne-eqb}
 use lib.Dec.{eqb}
 use lib.ListN.{length, getD, drop, List·getD-append}
-use Rattle.names.specs.Definition.Words.{wordOf}
 use Rattle.rows.specs.Definition.Classes.{SHARED}
 use Rattle.line.specs.Definition.Line.{placeOf, lineFrom}
 use Rattle.line.specs.Definition.Ram.{filled}
@@ -17,7 +16,7 @@ use Rattle.line.specs.Laws.Walks.{length-bytes, bytes-at}
 use Rattle.kernel.specs.Definition.Tables.{classAt, rowOf, channelAt}
 use Rattle.kernel.specs.Definition.Line.{sizeAt, bufferAt, opening, closing}
 use Rattle.kernel.specs.Definition.Segments.{granting, sharingLast, freeing, bounding}
-use Rattle.kernel.specs.Definition.Devices.{linking}
+use Rattle.kernel.specs.Definition.Devices.{linking, deviceNamed}
 use Rattle.kernel.specs.Definition.Start.{started}
 use Rattle.kernel.specs.Definition.Answers.{granted, Decision}
 use Rattle.kernel.specs.Definition.Calls.{Call, read}
@@ -53,7 +52,7 @@ done-holds {t} ram f r s holds (writes {channel} {offset} {bytes} h l) = write-l
 done-holds {t} ram f r s holds (names h) = holds
 done-holds {t} ram f r s holds counts = holds
 done-holds {t} ram f r s holds (links {m} {name} w few h fits) =
-    link-law t ram r f holds (linking t m (wordOf name) (length name)) m (linking-links t m (wordOf name) (length name)) (omega arith) s
+    link-law t ram r f holds (linking t m (deviceNamed name)) m (linking-links t m (deviceNamed name)) (omega arith) s
 done-holds {t} ram f r s holds tells = holds
 done-holds {t} ram f r s holds (bounds a h) = holds
 done-holds {t} ram f r s holds (grants h) = holds

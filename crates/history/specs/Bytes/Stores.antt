@@ -8,7 +8,6 @@ use native.Mathlib.Omega.{arith}
 use borrow.Author.Tests.{eq-eqb, ne-eqb, ltb-true}
 use lib.Dec.{eqb, ltb}
 use lib.ListN.{length, getD, replicate, length-append, length-replicate}
-use Rattle.names.specs.Definition.Words.{wordOf}
 use Rattle.rows.specs.Definition.Lists.{at}
 use Rattle.rows.specs.Laws.Lists.{and-left}
 use Rattle.rows.specs.declared.Channel.{Channel}
@@ -23,6 +22,7 @@ use Rattle.line.specs.Laws.PointsLinked.{linked-points}
 use Rattle.kernel.specs.Definition.Tables.{rowOf, channelAt}
 use Rattle.kernel.specs.Definition.Line.{totalOf, recordAt, sizeAt, bufferAt, opening}
 use Rattle.kernel.specs.Definition.Segments.{mayReach, reachOf}
+use Rattle.kernel.specs.Definition.Devices.{deviceNamed}
 use Rattle.kernel.specs.Definition.Reset.{bit4, bit5}
 use Rattle.kernel.specs.Definition.Good.{Good}
 use Rattle.kernel.specs.Definition.Answers.{Decision}
@@ -145,7 +145,7 @@ done-user {t} ram r s segment offset b l (writes {channel} {offset = o} {bytes} 
 done-user ram r s segment offset b l (names h) = refl
 done-user ram r s segment offset b l counts = refl
 done-user {t} ram r s segment offset b l (links {m} {name} w few h fits) =
-    link-user t _ ram r s (rowOf t segment) offset b l m (linking-links t m (wordOf name) (length name)) (omega arith)
+    link-user t _ ram r s (rowOf t segment) offset b l m (linking-links t m (deviceNamed name)) (omega arith)
 done-user ram r s segment offset b l tells = refl
 done-user ram r s segment offset b l (bounds a h) = refl
 done-user ram r s segment offset b l (grants h) = refl

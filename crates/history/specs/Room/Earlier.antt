@@ -8,18 +8,16 @@ use native.Mathlib.Decide.{ℕ-discrete}
 use native.Mathlib.Omega.{arith}
 use borrow.Author.Tests.{ltb-true, ltb-false, leb-true, eq-eqb}
 use lib.Dec.{eqb, ltb, leb}
-use lib.ListN.{length}
 use Rattle.names.specs.Definition.Grammar.{Reading}
 use Rattle.names.specs.Definition.Read.{reading}
 use Rattle.names.specs.Definition.Tests.{linkNameTest}
 use Rattle.names.specs.Laws.Right.{reading-right, unread-right}
 use Rattle.names.specs.Laws.Runs.{link-finds}
-use Rattle.names.specs.Definition.Words.{wordOf}
 use Rattle.rows.specs.Laws.Lists.{is-false}
 use Rattle.rows.specs.Laws.Says.{says-no}
 use Rattle.kernel.specs.Definition.Tables.{ramSize, channelAt}
 use Rattle.kernel.specs.Definition.Line.{totalOf, roomFor}
-use Rattle.kernel.specs.Definition.Devices.{linking}
+use Rattle.kernel.specs.Definition.Devices.{linking, deviceNamed}
 use Rattle.kernel.specs.Definition.Names.{wanted, deviceFor}
 use Rattle.kernel.specs.declared.Wanted.{Wanted}
 use Rattle.kernel.specs.Definition.Bytes.{Change, nothing, moved}
@@ -105,12 +103,12 @@ module _ (t : Tables) (ram output m : ℕ) (name : List ℕ) (s : Sized t) (p : 
       (both-by (ltb (t .room) (256 + m)) (roomFor t (t .room - m) (totalOf t)) refl)
     where
       both-by : (low fits : Bool) → ltb (t .room) (256 + m) ≡ low
-          → OnlyRoom (cond (low || not fits) (gives NoRoom t changing nothing) (gives (Done (t .known) (t .room - m)) (linking t m (wordOf name) (length name)) changing moved m) .answer)
+          → OnlyRoom (cond (low || not fits) (gives NoRoom t changing nothing) (gives (Done (t .known) (t .room - m)) (linking t m (deviceNamed name)) changing moved m) .answer)
           ((256 + m ≤ t .room) × (fits ≡ true))
       both-by true fits e =
           let h : t .room < 256 + m = ltb-true _ _ e in
           record { refused = (λ _ b. omega (arith, b .0), λ _. refl); done = λ b. absurd (omega (arith, b .0)) }
       both-by false fits e =
-          let x = left-by fits (t .known) (t .room - m) t (linking t m (wordOf name) (length name)) (moved m) in
+          let x = left-by fits (t .known) (t .room - m) t (linking t m (deviceNamed name)) (moved m) in
           let h : 256 + m ≤ t .room = ltb-false _ _ e in
           record { refused = (λ a b. x .refused .0 a (b .1), λ a. x .refused .1 (λ b. a (h, b))); done = λ b. x .done (b .1) }

@@ -14,7 +14,7 @@ use Rattle.rows.specs.Definition.Channels.{newChannel}
 use Rattle.kernel.specs.Definition.Tables.{SEGMENT, numberAt, rowOf, lowestFree, sharing, lastRow, channelAt, withDefault}
 use Rattle.kernel.specs.Definition.Line.{totalOf, sizeAt, boundaryOf, roomFor, opening, closing}
 use Rattle.kernel.specs.Definition.Segments.{someFree, mayShare, granting, sharingLast, mayFree, freeing, bounding, mayReach, reachOf, guarded}
-use Rattle.kernel.specs.Definition.Devices.{linking}
+use Rattle.kernel.specs.Definition.Devices.{linking, deviceNamed}
 use Rattle.kernel.specs.Definition.Reset.{otherBits, resetting}
 use Rattle.kernel.specs.Definition.Start.{startTest, started}
 use Rattle.kernel.specs.Definition.Names.{wanted, deviceFor}
@@ -153,7 +153,7 @@ onLink t m name =
     ∷ Full when leb 16 (t .known)
     ∷ NoRoom when (ltb (t .room) (256 + m) || not (roomFor t (t .room - m) (totalOf t)))
     ∷ []) t
-    (gives (Done (t .known) (t .room - m)) (linking t m (wordOf name) (length name)) changing moved m)
+    (gives (Done (t .known) (t .room - m)) (linking t m (deviceNamed name)) changing moved m)
 
 -- "last chain segment, EXOS boundary"
 unfoldable pub onBoundary : Tables → Decision

@@ -1,14 +1,12 @@
 -- What an open, a close and a link make of the channels, the room and the chain, and that no call but a start changes the list of segments.
 use mathlib.Core.Path.{_≡_, refl}
 use mathlib.Core.Bool.{Bool, true, false, cond, _||_}
-use mathlib.Core.List.{List}
 use Prim.Native.Nat.{ℕ, _+_, _-_, _<_}
 use native.Mathlib.Decide.{ℕ-discrete}
 use native.Mathlib.Omega.{arith}
 use borrow.Author.Tests.{eq-eqb, ne-eqb}
-use lib.ListN.{length, getD, set, replicate}
+use lib.ListN.{getD, set, replicate}
 use lib.Seq.{getD-set-same}
-use Rattle.names.specs.Definition.Words.{wordOf}
 use Rattle.rows.specs.Definition.Lists.{at, without}
 use Rattle.rows.specs.Definition.Classes.{SHARED}
 use Rattle.rows.specs.Definition.Channels.{zeroChannel}
@@ -16,10 +14,11 @@ use Rattle.rows.specs.Definition.Devices.{added}
 use Rattle.rows.specs.Laws.ChannelRows.{sum-set}
 use Rattle.rows.specs.Definition.Sizes.{chainLength}
 use Rattle.rows.specs.declared.Channel.{Channel}
+use Rattle.rows.specs.declared.Device.{Device}
 use Rattle.kernel.specs.Definition.Tables.{classAt, rowOf, withChannels, withDevices}
 use Rattle.kernel.specs.Definition.Line.{totalOf, opening, closing}
 use Rattle.kernel.specs.Definition.Segments.{granting, sharingLast, freeing, bounding}
-use Rattle.kernel.specs.Definition.Devices.{linking}
+use Rattle.kernel.specs.Definition.Devices.{linking, deviceNamed}
 use Rattle.kernel.specs.Definition.Reset.{bit4, bit5, bit6, emptying, restoring, releasing, resetting}
 use Rattle.kernel.specs.Definition.Answers.{Decision}
 use Rattle.kernel.specs.Definition.Calls.{Call}
@@ -84,10 +83,10 @@ pub record Linked (t u : Tables) (m : ℕ) : Type 0 where
   pub channels : u .channels ≡ t .channels
   pub chain : (i : ℕ) → i < t .held → at (u .chain) i ≡ at (t .chain) i
 
-pub linking-links : (t : Tables) (m : ℕ) (name : List ℕ) (size : ℕ) → Linked t (linking t m name size) m
+pub linking-links : (t : Tables) (m : ℕ) (d : Device) → Linked t (linking t m d) m
 unfolding linking
-linking-links t m name size =
-    let v = withDevices t (t .room - m) (t .known + 1) (added (t .devices) (t .known) name size) in
+linking-links t m d =
+    let v = withDevices t (t .room - m) (t .known + 1) (added (t .devices) (t .known) d) in
     let n = chainLength (t .room - m) (totalOf t) - t .held in
     let r = grown-rest n v in
     let k = r .keeps in
@@ -128,7 +127,7 @@ effect-listed (reads h l) = record { segments = refl; list = refl }
 effect-listed (writes h l) = record { segments = refl; list = refl }
 effect-listed (names h) = record { segments = refl; list = refl }
 effect-listed counts = record { segments = refl; list = refl }
-effect-listed {t} (links {m} {name} h few r fits) = linking-links t m (wordOf name) (length name) .listed
+effect-listed {t} (links {m} {name} h few r fits) = linking-links t m (deviceNamed name) .listed
 effect-listed tells = record { segments = refl; list = refl }
 effect-listed (bounds s h) = record { segments = refl; list = refl }
 effect-listed (grants h) = record { segments = refl; list = refl }

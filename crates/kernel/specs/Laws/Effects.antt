@@ -21,7 +21,7 @@ use Rattle.rows.specs.declared.Channel.{Channel}
 use Rattle.kernel.specs.Definition.Tables.{SEGMENT, numberAt, classAt, rowOf, lowestFree, sharing, lastRow, channelAt, withDefault}
 use Rattle.kernel.specs.Definition.Line.{totalOf, sizeAt, boundaryOf, roomFor, opening, closing}
 use Rattle.kernel.specs.Definition.Segments.{classFor, someFree, mayShare, mayFree, granting, sharingLast, freeing, bounding, mayReach, reachOf, guarded}
-use Rattle.kernel.specs.Definition.Devices.{linking}
+use Rattle.kernel.specs.Definition.Devices.{linking, deviceNamed}
 use Rattle.kernel.specs.Definition.Reset.{otherBits, resetting}
 use Rattle.kernel.specs.Definition.Start.{startTest, started}
 use Rattle.kernel.specs.Definition.Names.{wanted, deviceFor}
@@ -66,7 +66,7 @@ pub data Effect (t : Tables) : Call → Decision → Type 0 where
       → Effect t (default unit name) (gives (Done 0 0) (withDefault t (wordOf name) (length name) unit) changing nothing)
   counts : Effect t status (gives (Done 0 5) t filling these (countsOf t))
   links : {m : ℕ} {name : List ℕ} → LinkName name → t .known < 16 → 256 + m ≤ t .room → roomFor t (t .room - m) (totalOf t) ≡ true
-      → Effect t (link m name) (gives (Done (t .known) (t .room - m)) (linking t m (wordOf name) (length name)) changing moved m)
+      → Effect t (link m name) (gives (Done (t .known) (t .room - m)) (linking t m (deviceNamed name)) changing moved m)
   tells : Effect t boundary (gives (Done (numberAt t (lastRow t)) (boundaryOf t)) t changing nothing)
   bounds : {value : ℕ} → sharing t ≡ true → value ≤ boundaryOf t
       → Effect t (set-user-boundary value) (gives (Done 0 0) (bounding t value) changing nothing)

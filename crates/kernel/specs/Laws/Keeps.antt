@@ -9,6 +9,7 @@ use lib.ListN.{length}
 use Rattle.names.specs.Definition.Words.{wordOf}
 use Rattle.rows.specs.Definition.Lists.{upTo}
 use Rattle.kernel.specs.Definition.Tables.{rowOf, channelAt}
+use Rattle.kernel.specs.Definition.Devices.{deviceNamed}
 use Rattle.kernel.specs.Definition.Start.{startTest, started}
 use Rattle.kernel.specs.Definition.Bytes.{nothing, zeroed}
 use Rattle.kernel.specs.Definition.Answers.{granted, gives, Decision, _changing_}
@@ -38,7 +39,7 @@ effect-keeps g (writes h l) = g
 effect-keeps {t} g (names {unit} {name} h) = naming-keeps t (wordOf name) (length name) unit g (word-good name h) (h .0)
 effect-keeps g counts = g
 effect-keeps {t} g (links {m} {name} h few r fits) =
-    linking-keeps t m (wordOf name) (length name) g few (word-good name (link-default name h)) (h .0) r fits
+    linking-keeps t m (deviceNamed name) g few (word-good name (link-default name h)) (h .0) refl r fits
 effect-keeps g tells = g
 effect-keeps {t} g (bounds {value} s h) = bounding-keeps t value g (shares-yes t (body t g) s) h
 effect-keeps {t} g (grants {caller} h) = granting-keeps t caller g h

@@ -5,10 +5,11 @@ use mathlib.Core.List.{List, map}
 use Prim.Native.Nat.{ℕ, _+_, _-_, _≤_, _<_}
 use native.Mathlib.Omega.{arith}
 use lib.ListN.{length, length-set, length-map}
-use Rattle.rows.specs.Definition.Devices.{newDevice, disabledBy, added}
+use Rattle.rows.specs.Definition.Devices.{disabledBy, added}
 use Rattle.rows.specs.Definition.Good.{NameGood}
 use Rattle.rows.specs.Laws.ChannelRows.{channels-known}
 use Rattle.rows.specs.Laws.DeviceRows.{devices-more}
+use Rattle.rows.specs.declared.Device.{Device}
 use Rattle.kernel.specs.Definition.Tables.{withDevices, withDefault}
 use Rattle.kernel.specs.Definition.Line.{totalOf, roomFor}
 use Rattle.kernel.specs.Definition.Devices.{linking}
@@ -18,15 +19,15 @@ use Rattle.kernel.specs.Laws.Facts.{no-shorter}
 use Rattle.kernel.specs.Laws.KeptLine.{fill}
 use Rattle.kernel.specs.declared.Tables.{Tables}
 
-pub linking-keeps : (t : Tables) (m : ℕ) (name : List ℕ) (n : ℕ) → Good t → t .known < 16 → NameGood name n → 1 ≤ n → 256 + m ≤ t .room
-    → roomFor t (t .room - m) (totalOf t) ≡ true → Good (linking t m name n)
+pub linking-keeps : (t : Tables) (m : ℕ) (d : Device) → Good t → t .known < 16 → NameGood (d .name) (d .length) → 1 ≤ d .length → d .enabled ≡ true → 256 + m ≤ t .room
+    → roomFor t (t .room - m) (totalOf t) ≡ true → Good (linking t m d)
 unfolding linking roomFor
-linking-keeps t m name n g k w p h e =
-    let ds = added (t .devices) (t .known) name n in
-    let l : length ds ≡ 16 = length-set (map (disabledBy name n) (t .devices)) (t .known) (newDevice name n) ∙ length-map (t .devices) (disabledBy name n) ∙ g .sized .devices in
+linking-keeps t m d g k w p on h e =
+    let ds = added (t .devices) (t .known) d in
+    let l : length ds ≡ 16 = length-set (map (disabledBy (d .name) (d .length)) (t .devices)) (t .known) d ∙ length-map (t .devices) (disabledBy (d .name) (d .length)) ∙ g .sized .devices in
     fill (withDevices t (t .room - m) (t .known + 1) ds)
     (body-devices t (t .room - m) (t .known + 1) ds l (record { least = omega arith; most = omega (arith, g .room .most); top = g .room .top })
-    (devices-more (t .devices) (t .known) name n (g .sized .devices) k w p (g .devices))
+    (devices-more (t .devices) (t .known) d (g .sized .devices) k w p on (g .devices))
     (channels-known (t .channels) (t .opened) (t .known) (t .known + 1) (omega arith) (g .channels)) (body t g))
     (no-shorter t g (t .room - m) (totalOf t) (omega arith) (omega arith))
     e

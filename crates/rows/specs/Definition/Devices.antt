@@ -56,8 +56,8 @@ abbrev pub disabledBy : List ℕ → ℕ → Device → Device
 disabledBy s n d = enabling d (d .enabled && not (sameName (d .name) (d .length) s n))
 
 -- "Link adds a device"
-abbrev pub added : List Device → ℕ → List ℕ → ℕ → List Device
-added ds known s n = set (map (disabledBy s n) ds) known (newDevice s n)
+abbrev pub added : List Device → (known : ℕ) → Device → List Device
+added ds known d = set (map (disabledBy (d .name) (d .length)) ds) known d
 
 -- enabled and so named. "The empty default matches no device"
 abbrev pub hasName : List ℕ → ℕ → Device → Bool

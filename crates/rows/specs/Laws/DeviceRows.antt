@@ -8,7 +8,7 @@ use native.Mathlib.Omega.{arith}
 use lib.ListN.{length, getD, set, length-map, List·getD-map}
 use lib.Seq.{getD-set-same, getD-set-other}
 use Rattle.rows.specs.Definition.Lists.{upTo}
-use Rattle.rows.specs.Definition.Devices.{beyondDevices, newDevice, builtIn, disabledBy, added}
+use Rattle.rows.specs.Definition.Devices.{beyondDevices, builtIn, disabledBy, added}
 use Rattle.rows.specs.Definition.Good.{NameGood, Same, DevicesGood}
 use Rattle.rows.specs.Laws.Good.{same-yes, same-no, device-says}
 use Rattle.rows.specs.declared.Device.{Device}
@@ -17,10 +17,11 @@ turned : {a b : List ℕ} {length-a length-b : ℕ} → Same a length-a b length
 turned e = record { long = sym (e .long); bytes = λ k l. sym (e .bytes k l) }
 
 -- a device more, the older of its name disabled
-pub devices-more : (ds : List Device) (known : ℕ) (s : List ℕ) (n : ℕ) → length ds ≡ 16 → known < 16 → NameGood s n → 1 ≤ n → DevicesGood ds known
-    → DevicesGood (added ds known s n) (known + 1)
-devices-more ds known s n l h w p g =
-    let new = newDevice s n in
+pub devices-more : (ds : List Device) (known : ℕ) (new : Device) → length ds ≡ 16 → known < 16 → NameGood (new .name) (new .length) → 1 ≤ new .length → new .enabled ≡ true
+    → DevicesGood ds known → DevicesGood (added ds known new) (known + 1)
+devices-more ds known new l h w p on g =
+    let s = new .name in
+    let n = new .length in
     let ms = map (disabledBy s n) ds in
     let here : getD (set ms known new) known beyondDevices ≡ new = getD-set-same ms known new beyondDevices (omega (arith, length-map ds (disabledBy s n))) in
     let old : (i : ℕ) → (i ≡ known → ⊥) → getD (set ms known new) i beyondDevices ≡ disabledBy s n (getD ds i beyondDevices) =
@@ -41,7 +42,7 @@ devices-more ds known s n l h w p g =
             | no q ↦ rw (o, g .off i j a (omega arith) (rw (old j q, o) at e))
           ];
       on = λ i a f. elim (ℕ-discrete i known) [
-        | yes q ↦ rw (q, here)
+        | yes q ↦ rw (q, here) on
         | no q ↦
             let d = getD ds i beyondDevices in
             let apart : Same (d .name) (d .length) s n → ⊥ = λ e. f known (omega arith) (omega arith) (rw (here, old i q) (turned e)) in

@@ -10,19 +10,13 @@ sub-room : tie.Need-sub-room
 sub-room c = search needs
 
 chain-length-requires : tie.Need-chain-length-requires
-chain-length-requires c κs = let s = c .before .before in let h = total-most _ (s .pre .0) _ (s .pre .2) in search needs
+chain-length-requires c κs = let s = c .before in let h = total-most _ (s .pre .0) _ (s .pre .2) in search needs
 
 wide-requires : tie.Need-wide-requires
 wide-requires c κs = search needs
 
 less-requires : tie.Need-less-requires
 less-requires c κs = search needs
-
-word-requires : tie.Need-word-requires
-word-requires c κs = search needs
-
-cast-length : tie.Need-cast-length
-cast-length c = search needs
 
 disable-requires : tie.Need-disable-requires
 disable-requires c κs = search needs
@@ -43,23 +37,23 @@ returns : tie.Need-returns
 returns c =
     let d = c .before .before .before in
     let l = d .before .before .before in
-    let s = l .before .before .before .before .before in
-    device-made (s .args .self) (s .args .m) _ _ _ _ _ (s .pre .2) (l .before .before .chain-length .ensures) (l .before .wide .ensures .0) (l .less .ensures) _ _ _ _
-    (d .before .before .word .ensures) (d .disable .ensures) (c .before .before .wide2 .ensures .0) (grown-none _ _ (c .if1 .taken))
+    let s = l .before .before .before .before in
+    device-made (s .args .self) (s .args .m) _ _ _ _ _ (s .pre .2) (l .before .before .chain-length .ensures) (l .before .wide .ensures .0) (l .less .ensures) _ _ _
+    (d .disable .ensures) (c .before .before .wide2 .ensures .0) (grown-none _ _ (c .if1 .taken))
 
 grow-requires : tie.Need-grow-requires
 grow-requires c κs =
     let l = c .before .before .before .before .before .before in
-    let s = l .before .before .before .before .before in
+    let s = l .before .before .before .before in
     device-held (s .args .self) (s .args .m) _ _ _ _ _ (s .pre .2) (l .before .before .chain-length .ensures) (l .before .wide .ensures .0) (l .less .ensures) (s .pre .0) (s .pre .1)
 
 returns-2 : tie.Need-returns-2
 returns-2 c =
     let d = c .before .before .before .before in
     let l = d .before .before .before in
-    let s = l .before .before .before .before .before in
-    device-made (s .args .self) (s .args .m) _ _ _ _ _ (s .pre .2) (l .before .before .chain-length .ensures) (l .before .wide .ensures .0) (l .less .ensures) _ _ _ _
-    (d .before .before .word .ensures) (d .disable .ensures) (c .before .before .before .wide2 .ensures .0) (c .grow .ensures)
+    let s = l .before .before .before .before in
+    device-made (s .args .self) (s .args .m) _ _ _ _ _ (s .pre .2) (l .before .before .chain-length .ensures) (l .before .wide .ensures .0) (l .less .ensures) _ _ _
+    (d .disable .ensures) (c .before .before .before .wide2 .ensures .0) (c .grow .ensures)
 
 pub add-device-spec : {M : Type 1} → statement M
 add-device-spec =
@@ -69,8 +63,6 @@ add-device-spec =
     chain-length-requires
     wide-requires
     less-requires
-    word-requires
-    cast-length
     disable-requires
     wide-requires-2
     mul-rows

@@ -1,11 +1,12 @@
 -- `Tables::link_good` meets its contract.
-use mathlib.Core.Path.{_≡_, refl}
+use mathlib.Core.Path.{_≡_, refl, ap, _∙_}
 use borrow.Author.Needs.{needs}
 use Rattle.kernel.specs.Definition.Line.{totalOf}
+use Rattle.kernel.specs.Definition.Devices.{linking, deviceNamed}
 use Rattle.kernel.specs.Within.{Links}
 use Rattle.kernel.proofs.Refusing.{refused}
 use Rattle.kernel.proofs.Growing.{total-of}
-use Rattle.kernel.proofs.Linking.{link-unnamed, link-full, link-none, link-answer, links-of, link-chain, link-done}
+use Rattle.kernel.proofs.Linking.{link-unnamed, is-name, link-full, link-none, link-answer, links-of, link-chain, link-done}
 use Rattle.kernel.proofs.Tables.link_good.Statement.{statement}
 use Rattle.kernel.proofs.Tables.link_good.Tie as tie
 
@@ -16,7 +17,7 @@ total c = total-of (c .before .before .before .before .before .before .before .b
 -- once the room is known: the device may be linked
 links : (c : tie.Else3) →
     let s = c .before .before .before .before .before .before .before .before .before .before .before .args in
-    Links (s .self) (s .m) (s .name .now)
+    Links (s .self) (s .m) (deviceNamed (s .name .now))
 links c =
     links-of _ _ _ _ (c .before .before .before .before .before .before .before .before .link-name .ensures) (c .before .before .before .before .before .before .before .if1 .left) (c .before .before .before .before .before .if2 .left) _
     (c .before .room-to-link .ensures) (c .if3 .left)
@@ -55,8 +56,19 @@ returns-3 c =
     (link-none _ _ _ _ (c .before .before .before .before .before .before .before .before .before .link-name .ensures) (c .before .before .before .before .before .before .before .before .if1 .left)
     (c .before .before .before .before .before .before .if2 .left) _ (c .before .before .room-to-link .ensures) (c .before .if3 .taken))
 
+device-named-requires : tie.Need-device-named-requires
+device-named-requires c κs = is-name _ _ (c .before .before .before .before .before .before .before .before .link-name .ensures) (c .before .before .before .before .before .before .before .if1 .left) .1
+
 add-device-requires : tie.Need-add-device-requires
-add-device-requires c κs = (c .before .before .before .before .before .before .before .before .before .before .before .pre .0, links c, total (c .before .before))
+add-device-requires c κs =
+    let d = c .before in
+    (d .before .before .before .before .before .before .before .before .before .before .before .pre .0, rw (c .device-named .ensures) (links d), total (d .before .before))
+
+-- the next tables
+next : (c : tie.After-add-device) →
+    let s = c .before .before .before .before .before .before .before .before .before .before .before .before .before .args in
+    c .add-device .result ≡ linking (s .self) (s .m) (deviceNamed (s .name .now))
+next c = c .add-device .ensures ∙ ap (linking _ _) (c .before .device-named .ensures)
 
 wide16-requires : tie.Need-wide16-requires
 wide16-requires c κs = search needs
@@ -67,9 +79,9 @@ wide16-requires-2 c κs = search needs
 link-line-requires : tie.Need-link-line-requires
 link-line-requires c κs =
     let a = c .before .before .before .before .before in
-    let d = a .before in
+    let d = a .before .before in
     let s = d .before .before .before .before .before .before .before .before .before .before .before in
-    link-chain (s .args .self) _ _ (s .pre .0) (links d) _ (a .add-device .ensures) _ _ _ (c .before .wide16 .ensures .0) (c .wide162 .ensures .0)
+    link-chain (s .args .self) _ _ (s .pre .0) (links d) _ (next a) _ _ _ (c .before .wide16 .ensures .0) (c .wide162 .ensures .0)
     (total (d .before .before)) _ (s .pre .1)
 
 same-length : tie.Need-same-length
@@ -79,10 +91,10 @@ returns-4 : tie.Need-returns-4
 returns-4 c =
     let w = c .before .before .before in
     let a = w .before .before .before .before .before in
-    let d = a .before in
+    let d = a .before .before in
     let s = d .before .before .before .before .before .before .before .before .before .before .before in
-    λ out. link-done (s .args .self) _ _ (s .pre .0) (links d) _ (a .add-device .ensures) _ _ _ (w .before .wide16 .ensures .0) (w .wide162 .ensures .0)
-    (total (d .before .before)) _ _ out (c .before .before .link-line .ensures)
+    λ out. link-done (s .args .self) _ _ (s .pre .0) (links d) _ (next a) _ _ _ (w .before .wide16 .ensures .0) (w .wide162 .ensures .0)
+    (total (d .before .before)) _ _ _ out (c .before .before .link-line .ensures)
     (link-answer _ _ _ _ (d .before .before .before .before .before .before .before .before .link-name .ensures) (d .before .before .before .before .before .before .before .if1 .left)
     (d .before .before .before .before .before .if2 .left) _ (d .before .room-to-link .ensures) (d .if3 .left))
 
@@ -100,6 +112,7 @@ link-good-spec =
     room-to-link-requires
     refuse-requires-3
     returns-3
+    device-named-requires
     add-device-requires
     wide16-requires
     wide16-requires-2
