@@ -1,5 +1,6 @@
-//! The calls, their answers, and the one door to them.
+//! The calls, and the one door to them.
 
+use crate::answers::{Refusal, Reply};
 use crate::good::is_usable;
 use crate::tables::Tables;
 use crate::{channels, devices, reset, segments, user};
@@ -121,105 +122,6 @@ impl Call<'_> {
     /// Whether the kind is start, with whatever body: "TABLES: not for start".
     fn is_start(&self) -> bool {
         matches!(self, Call::Start { .. } | Call::Unknown { kind: START })
-    }
-}
-
-/// The answer to a call.
-#[derive(Clone, Copy, Debug, PartialEq, Eq)]
-pub struct Reply {
-    /// 0 done, 1 to 16 refused, 17 a grant.
-    pub number: u8,
-    /// The first value.
-    pub a: u8,
-    /// The second value.
-    pub b: u16,
-}
-
-/// "17 SHARED is a grant: allocate gave a shared segment, b the user
-/// boundary."
-pub const SHARED_GRANT: u8 = 17;
-
-impl Reply {
-    /// "0 is done."
-    pub(crate) fn done(a: u8, b: u16) -> Reply {
-        Reply { number: 0, a, b }
-    }
-}
-
-/// Why a call was refused.
-#[derive(Clone, Copy, Debug, PartialEq, Eq)]
-pub enum Refusal {
-    /// "Not for start: tables not good, or RAM length wrong."
-    Tables,
-    /// "Kind unknown; body short of its fixed fields, or longer without name,
-    /// data or list; caller not 0 or 1."
-    Call,
-    /// "255, or not open (open: 255 only)."
-    Channel,
-    /// "Open: already open."
-    Exists,
-    /// "Against the rules above."
-    Name,
-    /// "Open: no enabled device so named."
-    Device,
-    /// "Driver status not 0; a is that status."
-    Driver(u8),
-    /// "32 channels or 16 devices already."
-    Full,
-    /// "Room rule broken; link: also R-m < 256."
-    Room,
-    /// "Nothing to allocate."
-    Segment,
-    /// "Segment not the caller's to free, store or load."
-    Owner,
-    /// "Nothing shared, or value above the EXOS boundary."
-    Boundary,
-    /// "Offset + length past the end, or lent output too short."
-    Range,
-    /// "Store touches page zero 30h to 5Bh, save 3Dh and 3Eh."
-    Guard,
-    /// "A bit other than 4, 5, 6."
-    Flags,
-    /// "List, R or RAM length wrong."
-    Start,
-}
-
-impl Refusal {
-    /// The number in the table of refusals.
-    pub fn number(self) -> u8 {
-        match self {
-            Refusal::Tables => 1,
-            Refusal::Call => 2,
-            Refusal::Channel => 3,
-            Refusal::Exists => 4,
-            Refusal::Name => 5,
-            Refusal::Device => 6,
-            Refusal::Driver(_) => 7,
-            Refusal::Full => 8,
-            Refusal::Room => 9,
-            Refusal::Segment => 10,
-            Refusal::Owner => 11,
-            Refusal::Boundary => 12,
-            Refusal::Range => 13,
-            Refusal::Guard => 14,
-            Refusal::Flags => 15,
-            Refusal::Start => 16,
-        }
-    }
-}
-
-impl From<Refusal> for Reply {
-    /// "A refusal gives a = b = 0 but for DRIVER."
-    fn from(refusal: Refusal) -> Reply {
-        let a = match refusal {
-            Refusal::Driver(status) => status,
-            _ => 0,
-        };
-        Reply {
-            number: refusal.number(),
-            a,
-            b: 0,
-        }
     }
 }
 

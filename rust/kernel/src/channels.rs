@@ -1,6 +1,6 @@
 //! Channels and their records on the line.
 
-use crate::calls::{Refusal, Reply};
+use crate::answers::{Refusal, Reply};
 use crate::devices;
 use crate::good::is_usable;
 use crate::line::Line;

@@ -1,6 +1,6 @@
 //! The device table: finding, linking, and the default name.
 
-use crate::calls::{Refusal, Reply};
+use crate::answers::{Refusal, Reply};
 use crate::line::Line;
 use crate::names::{Name, Parts};
 use crate::segments;

@@ -5,6 +5,7 @@
 //! that the code beside them follows. [`call`] makes one call on [`Tables`]
 //! and the lent RAM; a refused call changes nothing.
 
+mod answers;
 mod calls;
 mod channels;
 mod devices;
@@ -19,7 +20,8 @@ mod segments;
 mod tables;
 mod user;
 
-pub use calls::{call, Call, Refusal, Reply, SHARED_GRANT};
+pub use answers::{Refusal, Reply, SHARED_GRANT};
+pub use calls::{call, Call};
 pub use channels::{lend, Lent};
 pub use events::decode;
 pub use good::good;

@@ -1,6 +1,7 @@
 //! The listing program.
 
-use crate::calls::{Call, Reply};
+use crate::answers::Reply;
+use crate::calls::Call;
 use crate::events::{decode, Record, Records};
 use crate::machine::Machine;
 use std::io::{self, Read, Write};

@@ -1,6 +1,7 @@
 //! What the listing program lends, and the rules by which it does.
 
-use crate::calls::{call, Call, Refusal, Reply};
+use crate::answers::{Refusal, Reply};
+use crate::calls::{call, Call};
 use crate::tables::{Tables, SEGMENT};
 
 /// "It lends at most four segments."

@@ -1,6 +1,6 @@
 //! Start and the reset flags.
 
-use crate::calls::{Refusal, Reply};
+use crate::answers::{Refusal, Reply};
 use crate::channels;
 use crate::devices::BUILT_IN;
 use crate::good::{is_room, is_segment_list};

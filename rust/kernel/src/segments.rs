@@ -1,6 +1,6 @@
 //! Who may have a segment, and how the chain grows and shrinks.
 
-use crate::calls::{Refusal, Reply, SHARED_GRANT};
+use crate::answers::{Refusal, Reply, SHARED_GRANT};
 use crate::tables::{class, Tables, SEGMENT};
 
 /// The classes in the order in which status counts them.

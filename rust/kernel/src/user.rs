@@ -1,6 +1,6 @@
 //! The user's own bytes: store and load.
 
-use crate::calls::{Refusal, Reply};
+use crate::answers::{Refusal, Reply};
 use crate::segments;
 use crate::tables::{class, Tables, SEGMENT};
 use std::ops::Range;
