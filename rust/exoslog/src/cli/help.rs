@@ -12,7 +12,8 @@ commands:
   diff     two listings: the first record that differs
 
 exoslog COMMAND --help tells more of a command; exoslog --version tells the
-version. No FILE, or -, is standard input.
+version. No FILE, or -, is standard input. In this repository a log in words is
+NAME.words, and one of event records NAME.log.
 
 exit status: 0 done (diff: the same), 1 the input is not right (diff: they
 differ), 2 a wrong use, or a file that cannot be read or written.
@@ -25,6 +26,7 @@ usage: exoslog encode [FILE] [-o OUT]
 
   -o, --output OUT   write to OUT (- is standard output, a terminal too)
 
+exoslog encode audit.words -o audit.log makes what exos-list audit.log lists.
 One record a line; # begins a comment; blank lines are skipped. Numbers are
 decimal, or hex with 0x.
 

@@ -2,13 +2,13 @@
 
 use crate::runs::{run, run_unread, File};
 
-const EXAMPLE: &str = include_str!("../data/example.log");
+const EXAMPLE: &str = include_str!("../data/example.words");
 
 #[test]
 fn listings_that_differ_and_do_not() {
     let one = File::new("one.list", b"256 0 4 11074\n1 0 0 0\n22 0 255 10958\n");
     let two = File::new("two.list", b"256 0 4 11074\n1 0 0 0\n22 0 255 10752\n");
-    let log = File::new("diff.log", EXAMPLE.as_bytes());
+    let log = File::new("diff.words", EXAMPLE.as_bytes());
     let same = run(&["diff", one.name(), one.name(), log.name()], b"");
     assert_eq!((same.status, same.out.len(), same.err.as_str()), (0, 0, ""));
     let ran = run(&["diff", one.name(), two.name(), log.name()], b"");
@@ -25,7 +25,7 @@ fn listings_that_differ_and_do_not() {
     assert!(piped
         .text()
         .starts_with("record 2 differs\n  <stdin>: ends before"));
-    let bad_log = File::new("bad.log", b"close x\n");
+    let bad_log = File::new("bad.words", b"close x\n");
     let ran = run(&["diff", one.name(), two.name(), bad_log.name()], b"");
     assert_eq!((ran.status, ran.out.len()), (2, 0));
     assert!(ran.err.contains(":1:7: expected a channel number"));
@@ -34,13 +34,13 @@ fn listings_that_differ_and_do_not() {
 /// A maker's kernel that compares pages grants a buffer four bytes too long.
 #[test]
 fn a_worked_audit() {
-    let log = include_bytes!("../data/audit.log");
+    let log = include_bytes!("../data/audit.words");
     let maker = include_bytes!("../data/maker.list");
     let mut ours = Vec::new();
     exos_kernel::listing(&run(&["encode"], log).out[..], &mut ours).unwrap();
     let ours = File::new("ours.list", &ours);
     let maker = File::new("maker.list", maker);
-    let log = File::new("audit.log", log);
+    let log = File::new("audit.words", log);
     let ran = run(&["diff", ours.name(), maker.name(), log.name()], b"");
     let expected = format!(
         "record 6 differs\n  record: open 5 0 1062 \"VIDEO:\"\n  {}: 1 9 0 0\n  \

@@ -3,7 +3,7 @@
 use crate::runs::{run, run_unread, File};
 use std::fs;
 
-const EXAMPLE: &str = include_str!("../data/example.log");
+const EXAMPLE: &str = include_str!("../data/example.words");
 
 #[test]
 fn encode_and_decode_over_streams_and_files() {
@@ -19,7 +19,7 @@ fn encode_and_decode_over_streams_and_files() {
                     write 5 98 aa55\nread 5 98 2\nread 5 99 2\nclose 5\nboundary\n";
     assert_eq!(words.text(), expected);
 
-    let input = File::new("encode.log", EXAMPLE.as_bytes());
+    let input = File::new("encode.words", EXAMPLE.as_bytes());
     let output = File::new("encode.out", b"");
     let ran = run(&["encode", "-o", output.name(), input.name()], b"");
     assert_eq!((ran.status, ran.out.len()), (0, 0));
@@ -54,7 +54,7 @@ fn mistakes_to_the_letter() {
 
 #[test]
 fn mistakes_name_the_file_and_end_somewhere() {
-    let input = File::new("mistakes.log", "close x\n".repeat(25).as_bytes());
+    let input = File::new("mistakes.words", "close x\n".repeat(25).as_bytes());
     let ran = run(&["encode", input.name()], b"");
     assert_eq!(ran.status, 1);
     assert_eq!(ran.err.matches("expected a channel number").count(), 20);

@@ -119,15 +119,15 @@ fn pictures_of_random_logs_have_80_columns_and_whole_elements() {
 fn pictures_to_the_letter() {
     let pictures = [
         (
-            include_bytes!("../data/example.log").as_slice(),
+            include_bytes!("../data/example.words").as_slice(),
             include_str!("../data/example.map"),
         ),
         (
-            include_bytes!("../data/shared.log"),
+            include_bytes!("../data/shared.words"),
             include_str!("../data/shared.map"),
         ),
         (
-            include_bytes!("../data/crowded.log"),
+            include_bytes!("../data/crowded.words"),
             include_str!("../data/crowded.map"),
         ),
     ];

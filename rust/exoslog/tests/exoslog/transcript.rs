@@ -17,9 +17,10 @@ fn transcript(readme: &str) -> Vec<&str> {
     lines.collect()
 }
 
-/// A script that prints each command and runs it.
+/// A script that prints each command and runs it. The first listing, which
+/// may have something to say on how the program was built, comes before.
 fn script(transcript: &[&str]) -> String {
-    let mut script = "exec 2>&1\n".to_string();
+    let mut script = "exos-list - </dev/null >&2\nexec 2>&1\n".to_string();
     for command in transcript.iter().filter_map(|line| line.strip_prefix("$ ")) {
         let quoted = command.replace('\'', r"'\''");
         script.push_str(&format!("printf '$ %s\\n' '{quoted}'\n{command}\n"));
