@@ -19,8 +19,10 @@ fn main() -> ExitCode {
             println!("{USAGE}");
             ExitCode::SUCCESS
         }
-        Ok(Asked::Run(run)) => compare(&run).unwrap_or_else(|error| failed(&error.to_string())),
-        Err(wrong) => failed(&format!("{wrong}\n{USAGE}")),
+        Ok(Asked::Run(run, table)) => {
+            compare(&run, table).unwrap_or_else(|error| failed(&error.to_string()))
+        }
+        Err(wrong) => failed(&format!("{wrong} (--help says how it is called)")),
     }
 }
 
@@ -29,15 +31,19 @@ fn failed(why: &str) -> ExitCode {
     ExitCode::from(2)
 }
 
-fn compare(run: &Run) -> io::Result<ExitCode> {
+fn compare(run: &Run, table: bool) -> io::Result<ExitCode> {
     let path = find_program()?;
     let progress = Progress::new(run.until);
     let outcome = run.compare(|| Program::at(&path), |done| progress.told(done))?;
     Ok(match outcome {
         Outcome::Same(counts) => {
-            print_met(&counts);
-            let seconds = progress.began.elapsed().as_secs_f64();
-            println!("{} calls, no difference, {seconds:.0} s", counts.calls());
+            if table {
+                print_table(&counts);
+            }
+            print_each("NOT ALLOWED by 01", &counts.forbidden());
+            let (calls, seconds) = (counts.calls(), progress.began.elapsed().as_secs_f64());
+            let rate = calls as f64 / seconds;
+            println!("{calls} calls, no difference, {seconds:.0} s, {rate:.0} a second");
             ExitCode::from(u8::from(!counts.forbidden().is_empty()))
         }
         Outcome::Differs(text) => {
@@ -47,14 +53,13 @@ fn compare(run: &Run) -> io::Result<ExitCode> {
     })
 }
 
-fn print_met(counts: &Counts) {
+fn print_table(counts: &Counts) {
     print!("{counts}");
     println!("edges met");
     counts
         .edges()
         .for_each(|(edge, count)| println!("  {count:>10}  {edge}"));
     print_each("not met", &counts.missing());
-    print_each("NOT ALLOWED by 01", &counts.forbidden());
 }
 
 fn print_each(what: &str, pairs: &[String]) {
