@@ -12,7 +12,7 @@ impl<Met: FnMut(Edge)> Meeting<'_, Met> {
             return;
         }
         let n = View(after).channel(channel).map(|open| open.n);
-        let is_lowest = part > 0 && part.is_multiple_of(SEGMENT as u64);
+        let is_lowest = part > 0 && part % SEGMENT as u64 == 0;
         self.at(n.is_none() && part == 0, Edge::LentNotOpen);
         self.at(n == Some(0) && part == 0, Edge::LentEmpty);
         self.at(n > Some(0) && part == 0, Edge::LentSplit);
