@@ -1,10 +1,14 @@
 /* The proved kernel over bytes, for C and C++: the library of crates/exos, x86-64. `rt staticlib exos` builds it as
  * target/staticlib/libexos.a, which is linked like any object: cc -o program program.c libexos.a
  *
+ * The library is written in Rattle, a systems language in which every function is proved to meet its contract. The
+ * contracts, the definition that they cite and the proofs are in antt, the language of Rattle's proof checker (.antt files).
+ *
  * Every buffer belongs to the caller, before, in and after a call. The library keeps no pointer and no state of its own,
- * and takes no memory but stack (docs/BENCHMARK.md says how much). A pointer is never null, even where its length is 0, and
- * no two buffers of a call overlap. Nothing is asked of the bytes in them: any image, any RAM, any record.
- * Numbers of two bytes are little-endian.
+ * and takes no memory but stack: of this a call took at most 12,055 bytes and a replay 11,811, found by paint below the
+ * caller's frame over the logs of logs/ and 18,000 records drawn at random. No theorem bounds it: leave it 16 KB.
+ * A pointer is never null, even where its length is 0, and no two buffers of a call overlap. Nothing is asked of the bytes
+ * in them: any image, any RAM, any record. Numbers of two bytes are little-endian.
  */
 #ifndef EXOS_H
 #define EXOS_H

@@ -1,25 +1,29 @@
-//! The README's audit: each of its commands prints what stands below it.
+//! The README's audit, and what docs/LOGS.md shows: each command prints what
+//! stands below it.
 
 use std::env;
 use std::fs;
-use std::path::Path;
+use std::path::{Path, PathBuf};
 use std::process::Command;
 
-/// The lines of the audit, without the command that builds and sets the path.
-fn transcript(readme: &str) -> Vec<&str> {
-    let (_, audit) = readme.split_once("\n## An audit\n").unwrap();
-    let (audit, _) = audit.split_once("\n## ").unwrap();
-    let mut lines = audit.lines().filter_map(|line| line.strip_prefix("    "));
-    assert!(lines
-        .next()
-        .unwrap()
-        .starts_with("$ (cd rust && cargo build"));
-    lines.collect()
+/// The repository.
+fn root() -> PathBuf {
+    let root = Path::new(env!("CARGO_MANIFEST_DIR")).join("../..");
+    root.canonicalize().unwrap()
+}
+
+/// The lines of a document's section that are set in.
+fn transcript(document: &str, section: &str) -> Vec<String> {
+    let text = fs::read_to_string(root().join(document)).unwrap();
+    let (_, text) = text.split_once(&format!("\n## {section}\n")).unwrap();
+    let (text, _) = text.split_once("\n## ").unwrap();
+    let lines = text.lines().filter_map(|line| line.strip_prefix("    "));
+    lines.map(str::to_string).collect()
 }
 
 /// A script that prints each command and runs it. The first listing, which
 /// may have something to say on how the program was built, comes before.
-fn script(transcript: &[&str]) -> String {
+fn script(transcript: &[String]) -> String {
     let mut script = "exos-list - </dev/null >&2\nexec 2>&1\n".to_string();
     for command in transcript.iter().filter_map(|line| line.strip_prefix("$ ")) {
         let quoted = command.replace('\'', r"'\''");
@@ -28,25 +32,23 @@ fn script(transcript: &[&str]) -> String {
     script
 }
 
-#[test]
-fn the_audit_of_the_readme() {
-    let root = Path::new(env!("CARGO_MANIFEST_DIR")).join("../..");
-    let root = root.canonicalize().unwrap();
+/// Runs the commands in a room of that name, and holds what they print to what
+/// stands below them.
+fn holds(transcript: &[String], room: &str) {
+    let root = root();
     if !root.join("target/bin/exos_list").exists() {
-        eprintln!("left out: the audit needs target/bin/exos_list, which ./exos-list builds");
+        eprintln!("left out: this needs target/bin/exos_list, which ./exos-list builds");
         return;
     }
-    let room = Path::new(env!("CARGO_TARGET_TMPDIR")).join("readme");
+    let room = Path::new(env!("CARGO_TARGET_TMPDIR")).join(room);
     fs::create_dir_all(&room).unwrap();
     let tools = Path::new(env!("CARGO_BIN_EXE_exoslog")).parent().unwrap();
     let others = env::var_os("PATH").unwrap_or_default();
     let mut path = vec![tools.to_path_buf(), root.clone()];
     path.extend(env::split_paths(&others));
 
-    let readme = fs::read_to_string(root.join("README.md")).unwrap();
-    let transcript = transcript(&readme);
     let ran = Command::new("bash")
-        .args(["-c", &script(&transcript)])
+        .args(["-c", &script(transcript)])
         .current_dir(root)
         .env("PATH", env::join_paths(path).unwrap())
         .env("TMPDIR", &room)
@@ -55,4 +57,17 @@ fn the_audit_of_the_readme() {
     fs::remove_dir_all(room).unwrap();
     let printed = String::from_utf8(ran.stdout).unwrap();
     assert_eq!(printed.lines().collect::<Vec<_>>(), transcript);
+}
+
+#[test]
+fn the_audit_of_the_readme() {
+    let audit = transcript("README.md", "An audit");
+    // the first command builds the tools and sets the path
+    assert!(audit[0].starts_with("$ (cd rust && cargo build"));
+    holds(&audit[1..], "readme");
+}
+
+#[test]
+fn the_example_of_a_listing() {
+    holds(&transcript("docs/LOGS.md", "A listing"), "logs");
 }
