@@ -68,16 +68,16 @@ abbrev tells : History → State → List Call → History
 tells h s [] = h
 tells h s (c ∷ cs) = tells (event s c lent ∷ h) (after s c lent) cs
 
-abbrev Fit : List Call → Type 0
-Fit [] = Unit {0}
-Fit (c ∷ cs) = (isStart c ≡ false) × Fit cs
+abbrev NoStarts : List Call → Type 0
+NoStarts [] = Unit {0}
+NoStarts (c ∷ cs) = (isStart c ≡ false) × NoStarts cs
 
 -- the states on the way have P
 abbrev Along : (State → Type 0) → State → List Call → Type 0
 Along P s [] = Unit {0}
 Along P s (c ∷ cs) = P (after s c lent) × Along P (after s c lent) cs
 
-runs : {P : State → Type 0} {first : State} (h : History) (s : State) (cs : List Call) → Fit cs → Along P s cs → Runs P first h s
+runs : {P : State → Type 0} {first : State} (h : History) (s : State) (cs : List Call) → NoStarts cs → Along P s cs → Runs P first h s
     → Runs P first (tells h s cs) (leads s cs)
 runs h s [] f p r = r
 runs h s (c ∷ cs) (n, fs) (p, ps) r = runs _ _ cs fs ps (then r c lent (rw n) p)
@@ -108,7 +108,7 @@ known-next {s} {t} k c n =
     let same : after s c lent .tables ≡ answered t c .tables = rw (k .tables, k .size) in
     record { ready = next; tables = same; size = step-sound s c lent here (rw n) .size ∙ ap ramSize same ∙ sym (next .size) }
 
-known-all : {s : State} {t : Tables} → Known s t → (cs : List Call) → Fit cs → Known (leads s cs) (leaves t cs)
+known-all : {s : State} {t : Tables} → Known s t → (cs : List Call) → NoStarts cs → Known (leads s cs) (leaves t cs)
 known-all k [] f = k
 known-all k (c ∷ cs) (n, fs) = known-all (known-next k c n) cs fs
 
@@ -121,7 +121,7 @@ data Alike : History → History → Type 0 where
   none : Alike [] []
   both : {g h : History} {d e : Event} → d .call ≡ e .call → d .answer ≡ e .answer → Alike g h → Alike (d ∷ g) (e ∷ h)
 
-alike : {g h : History} {s : State} {t : Tables} → Alike g h → Known s t → (cs : List Call) → Fit cs → Alike (tells g s cs) (plain h t cs)
+alike : {g h : History} {s : State} {t : Tables} → Alike g h → Known s t → (cs : List Call) → NoStarts cs → Alike (tells g s cs) (plain h t cs)
 alike a k [] f = a
 alike a k (c ∷ cs) (n, fs) = alike (both refl (known-answer k c) a) (known-next k c n) cs fs
 
@@ -151,7 +151,7 @@ module _ (segment offset : ℕ) where
       rw (k .tables)
       (shared (ltb-true _ _ (and-left (ltb row (t .segments)) _ e)) (eqb-true _ _ (and-left _ _ q)) (ltb-true _ _ (and-right (eqb (classAt t row) SHARED) _ q)))
 
-  users-all : {s : State} {t : Tables} → Known s t → (cs : List Call) → Fit cs → sharedAll segment offset t cs ≡ true → Along (UsersIn segment offset) s cs
+  users-all : {s : State} {t : Tables} → Known s t → (cs : List Call) → NoStarts cs → sharedAll segment offset t cs ≡ true → Along (UsersIn segment offset) s cs
   users-all k [] f e = tt
   users-all {t = t} k (c ∷ cs) (n, fs) e =
       let next = known-next k c n in
@@ -178,10 +178,10 @@ t₀ = answered noTables begin .tables
 abbrev t₁ : Tables
 t₁ = leaves t₀ calls
 
-fit : Fit calls
+fit : NoStarts calls
 fit = search needs
 
-fit-more : Fit more
+fit-more : NoStarts more
 fit-more = search needs
 
 -- 17 is SHARED

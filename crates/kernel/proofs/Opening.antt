@@ -32,7 +32,7 @@ use Rattle.kernel.specs.Definition.Bytes.{nothing, appended}
 use Rattle.kernel.specs.Definition.Answers.{gives, Decision, _changing_}
 use Rattle.kernel.specs.Definition.Calls.{onOpen, onOpenNamed, onOpenTo}
 use Rattle.kernel.specs.Definition.Step.{Result, completed, result}
-use Rattle.kernel.specs.Within.{New, Fits, onOpenRow}
+use Rattle.kernel.specs.Within.{New, HasRoom, onOpenRow}
 use Rattle.kernel.specs.Laws.Opens.{opening-held, opening-chain}
 use Rattle.kernel.specs.Laws.Wants.{parts-few, meant}
 use Rattle.kernel.specs.declared.Tables.{Tables}
@@ -88,7 +88,7 @@ module _ (t : Tables) (c : Channel) (total size long held more : ℕ) (b : total
   growth : more ≡ chainLength (t .room) (totalOf t + (16 + c .n)) - t .held
   growth = rw (m, f, e, d, b)
 
-  pub append-held : Good t → New t c → Fits t c → t .held + more ≤ 32
+  pub append-held : Good t → New t c → HasRoom t c → t .held + more ≤ 32
   append-held g new fits = rw growth (opening-held t c g new fits)
 
   pub append-made : (count : ℕ) (after : Tables) → count ≡ t .opened → after ≡ grown more (withChannels t (t .opened + 1) (set (t .channels) count c)) → after ≡ opening t c
@@ -110,10 +110,10 @@ module _ (t : Tables) (c : Channel) where
     unfolding onOpenRow
     row-none n = rw (lt-leb _ _ few, ← room-is, n)
 
-    pub row-fits : not ok ≡ false → Fits t c
+    pub row-fits : not ok ≡ false → HasRoom t c
     row-fits n = record { few = few; room = sym room-is ∙ not-false _ n }
 
-  module _ (g : Good t) (new : New t c) (fits : Fits t c) (next : Tables) (e : next ≡ opening t c) where
+  module _ (g : Good t) (new : New t c) (fits : HasRoom t c) (next : Tables) (e : next ≡ opening t c) where
     pub row-chain : (room total size : ℕ) → room ≡ t .room → total ≡ totalOf t → size ≡ ramSize t → Chain (next .chain) room (total + 16 + c .n) size
     row-chain room total size a b d =
         let z : total + 16 + c .n ≡ totalOf t + (16 + c .n) = omega arith in

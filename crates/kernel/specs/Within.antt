@@ -34,7 +34,7 @@ pub record New (t : Tables) (c : Channel) : Type 0 where
   pub absent : t .opened ≤ channelAt t (c .number)
 
 -- and there is room for its record
-pub record Fits (t : Tables) (c : Channel) : Type 0 where
+pub record HasRoom (t : Tables) (c : Channel) : Type 0 where
   pub few : t .opened < 32
   pub room : roomFor t (t .room) (totalOf t + (16 + c .n)) ≡ true
 

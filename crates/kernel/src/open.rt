@@ -12,7 +12,7 @@ ghost use Rattle.kernel.specs.Definition.Names.{unitOr, wantedBy};
 ghost use Rattle.kernel.specs.Definition.Calls.{onOpen, onOpenNamed, onOpenTo};
 ghost use Rattle.kernel.specs.Definition.Calls as calls;
 ghost use Rattle.kernel.specs.Definition.Step.{step, completed, result};
-ghost use Rattle.kernel.specs.Within.{New, Fits, onOpenRow};
+ghost use Rattle.kernel.specs.Within.{New, HasRoom, onOpenRow};
 use super::Answer;
 use super::Outcome;
 use super::Tables;
@@ -78,7 +78,7 @@ impl Tables {
 
     // The tables with one row more, and the chain as long as the line takes; `total` is T, where the record starts.
     fn append(self, c: Channel, total: usize) -> Tables
-        requires { ⌜ Good self × New self c × Fits self c × (total ≡ totalOf self) ⌝ }
+        requires { ⌜ Good self × New self c × HasRoom self c × (total ≡ totalOf self) ⌝ }
         ensures { λ r. ⌜ r ≡ opening self c ⌝ }
     {
         let opened = wide(self.opened);

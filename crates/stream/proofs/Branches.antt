@@ -6,7 +6,7 @@ use borrow.Author.Tests.{eq-eqb, ne-eqb, lt-ltb, le-ltb}
 use lib.ListN.{length}
 use Rattle.events.specs.Definition.Records.{u8At, u16At}
 use Rattle.stream.specs.Definition.Numbers.{u32At}
-use Rattle.stream.specs.Definition.Requests.{RAM, CALL, callAt, requestIn, Brings, CallFits, Fits}
+use Rattle.stream.specs.Definition.Requests.{RAM, CALL, callAt, requestIn, Brings, CallLiesIn, LiesIn}
 use Rattle.stream.specs.declared.Found.{Found}
 use Rattle.stream.specs.declared.Found.the-variants.{Whole, Part, Bad}
 
@@ -58,7 +58,7 @@ module _ (bytes : List ℕ) where
           brings k = rw (← e, le-ltb (length bytes) 1 h, ne-eqb (u8At bytes 0) 0 a, eq-eqb (u8At bytes 0) 1 b, le-ltb (length bytes) CALL l, le-ltb 524288 n k)
 
 -- a call that lies in the bytes is a request's
-pub call-fits : (bytes : List ℕ) (r : Found) → CallFits bytes r → 1 ≤ length bytes → Brings bytes → Fits bytes r
-call-fits bytes (Whole q) s h b = (s, h, b)
-call-fits bytes Part s h b = tt
-call-fits bytes Bad s h b = tt
+pub call-lies-in : (bytes : List ℕ) (r : Found) → CallLiesIn bytes r → 1 ≤ length bytes → Brings bytes → LiesIn bytes r
+call-lies-in bytes (Whole q) s h b = (s, h, b)
+call-lies-in bytes Part s h b = tt
+call-lies-in bytes Bad s h b = tt

@@ -1,7 +1,7 @@
 // Where a request ends.
 ghost use mathlib.Core.Path.{_≡_};
 ghost use Prim.Native.Nat.{_≤_};
-ghost use Rattle.stream.specs.Definition.Requests.{CALL, callAt, requestIn, CallFits, Fits};
+ghost use Rattle.stream.specs.Definition.Requests.{CALL, callAt, requestIn, CallLiesIn, LiesIn};
 use super::Found;
 use super::Request;
 use super::bytes::u32_at;
@@ -21,7 +21,7 @@ pub const CALL: usize = SEED + 4;
 // The output's length, the event record's length and the event record.
 fn call_at(bytes: &[u8], at: usize) -> Found
     requires { ⌜ at ≤ CALL ⌝ }
-    ensures { λ r. ⌜ (r ≡ callAt (now (bytes .entry)) at) × CallFits (now (bytes .entry)) r ⌝ }
+    ensures { λ r. ⌜ (r ≡ callAt (now (bytes .entry)) at) × CallLiesIn (now (bytes .entry)) r ⌝ }
 {
     let start = at + 4;
     if bytes.len() < start {
@@ -39,7 +39,7 @@ fn call_at(bytes: &[u8], at: usize) -> Found
 }
 
 pub fn request(bytes: &[u8]) -> Found
-    ensures { λ r. ⌜ (r ≡ requestIn (now (bytes .entry))) × Fits (now (bytes .entry)) r ⌝ }
+    ensures { λ r. ⌜ (r ≡ requestIn (now (bytes .entry))) × LiesIn (now (bytes .entry)) r ⌝ }
 {
     if bytes.len() < 1 {
         return Found::Part;

@@ -3,7 +3,7 @@ use denote.Ref.{now}
 use Prim.Native.Nat.{_-_}
 use native.Mathlib.Omega.{arith}
 use lib.ListN.{take, drop}
-use Rattle.stream.specs.Definition.Requests.{Fits}
+use Rattle.stream.specs.Definition.Requests.{LiesIn}
 use Rattle.stream.specs.declared.Found.the-variants.{Whole}
 use Rattle.exos_answer.proofs.Laws.{ends}
 use borrow.Author.Needs.{needs}
@@ -50,7 +50,7 @@ answer-requires : tie.Need-answer-requires
 answer-requires c κs =
     let s = c .before .before .before .before .before .before .before .before .before .before .before .before .before .before .before .before .before .args .s in
     let bytes = take (s .filled - s .from) (drop (s .from) (now (c .before .before .before .before .before .before .before .before .before .before .before .before .before .before .before .before .before .args .buf))) in
-    let f : Fits bytes (Whole (c .before .before .before .before .before .before .q .given .0 .0)) = rw (c .before .before .before .before .before .before .q .given .1) at (c .before .before .before .before .before .before .before .before .request .ensures .1) in
+    let f : LiesIn bytes (Whole (c .before .before .before .before .before .before .q .given .0 .0)) = rw (c .before .before .before .before .before .before .q .given .1) at (c .before .before .before .before .before .before .before .before .request .ensures .1) in
     let pre = c .before .before .before .before .before .before .before .before .before .before .before .before .before .before .before .before .before .pre in
     (pre .0 .size, pre .1, f .1, f .2, f .0, pre .2, omega (arith, c .before .before .before .before .before .before .before .before .before .before .before .if1 .left, pre .4))
 
@@ -58,7 +58,7 @@ add-t28 : tie.Need-add-t28
 add-t28 c =
     let s = c .before .before .before .before .before .before .before .before .before .before .before .before .before .before .before .before .before .before .before .before .before .before .before .before .before .before .args .s in
     let bytes = take (s .filled - s .from) (drop (s .from) (now (c .before .before .before .before .before .before .before .before .before .before .before .before .before .before .before .before .before .before .before .before .before .before .before .before .before .before .args .buf))) in
-    let f : Fits bytes (Whole (c .before .before .before .before .before .before .before .before .before .before .before .before .before .before .before .q .given .0 .0)) = rw (c .before .before .before .before .before .before .before .before .before .before .before .before .before .before .before .q .given .1) at (c .before .before .before .before .before .before .before .before .before .before .before .before .before .before .before .before .before .request .ensures .1) in
+    let f : LiesIn bytes (Whole (c .before .before .before .before .before .before .before .before .before .before .before .before .before .before .before .q .given .0 .0)) = rw (c .before .before .before .before .before .before .before .before .before .before .before .before .before .before .before .q .given .1) at (c .before .before .before .before .before .before .before .before .before .before .before .before .before .before .before .before .before .request .ensures .1) in
     let pre = c .before .before .before .before .before .before .before .before .before .before .before .before .before .before .before .before .before .before .before .before .before .before .before .before .before .before .pre in
     let e = ends (now (c .before .before .before .before .before .before .before .before .before .before .before .before .before .before .before .before .before .before .before .before .before .before .before .before .before .before .args .buf)) (s .from) (s .filled) (c .before .before .before .before .before .before .before .before .before .before .before .before .before .before .before .q .given .0 .0 .end) (pre .0 .order) (omega (arith, pre .0 .filled, pre .3)) (f .0 .within) in
     omega (arith, e, pre .0 .filled)
@@ -97,7 +97,7 @@ returns-2 : tie.Need-returns-2
 returns-2 c =
     let s = c .before .before .before .before .before .before .before .before .before .before .before .before .before .before .before .before .before .before .before .before .before .before .before .before .before .before .args .s in
     let bytes = take (s .filled - s .from) (drop (s .from) (now (c .before .before .before .before .before .before .before .before .before .before .before .before .before .before .before .before .before .before .before .before .before .before .before .before .before .before .args .buf))) in
-    let f : Fits bytes (Whole (c .before .before .before .before .before .before .before .before .before .before .before .before .before .before .before .q .given .0 .0)) = rw (c .before .before .before .before .before .before .before .before .before .before .before .before .before .before .before .q .given .1) at (c .before .before .before .before .before .before .before .before .before .before .before .before .before .before .before .before .before .request .ensures .1) in
+    let f : LiesIn bytes (Whole (c .before .before .before .before .before .before .before .before .before .before .before .before .before .before .before .q .given .0 .0)) = rw (c .before .before .before .before .before .before .before .before .before .before .before .before .before .before .before .q .given .1) at (c .before .before .before .before .before .before .before .before .before .before .before .before .before .before .before .before .before .request .ensures .1) in
     let pre = c .before .before .before .before .before .before .before .before .before .before .before .before .before .before .before .before .before .before .before .before .before .before .before .before .before .before .pre in
     record {
       size = c .before .before .before .before .before .before .before .before .answer .ensures;

@@ -9,7 +9,7 @@ use Rattle.rows.specs.declared.Channel.{Channel}
 use Rattle.line.specs.Within.Chains.{Chain}
 use Rattle.kernel.specs.Definition.Tables.{ramSize, withChannels}
 use Rattle.kernel.specs.Definition.Good.{Good}
-use Rattle.kernel.specs.Within.{New, Fits}
+use Rattle.kernel.specs.Within.{New, HasRoom}
 use Rattle.kernel.specs.Definition.Line.{totalOf, opening}
 use Rattle.kernel.specs.Laws.Body.{keeps-total}
 use Rattle.kernel.specs.Laws.Grow.{Grown, grown-rest}
@@ -17,7 +17,7 @@ use Rattle.kernel.specs.Laws.KeptLine.{opening-keeps}
 use Rattle.kernel.specs.Laws.Chains.{good-chain}
 use Rattle.kernel.specs.declared.Tables.{Tables}
 
-module _ (t : Tables) (c : Channel) (g : Good t) (new : New t c) (fits : Fits t c) where
+module _ (t : Tables) (c : Channel) (g : Good t) (new : New t c) (fits : HasRoom t c) where
   pub opening-good : Good (opening t c)
   opening-good =
       opening-keeps t c g (fits .few) (new .number) (new .device)

@@ -98,8 +98,8 @@ reads-one s r q a b =
 -- ---- what is found reads
 
 -- what a reading has to be of a string, its length aside
-abbrev Fits : List ℕ → Reading → Type 0
-Fits s r = Rule r × (spell r ≡ s)
+abbrev Spelled : List ℕ → Reading → Type 0
+Spelled s r = Rule r × (spell r ≡ s)
 
 cond-some : (t : Bool) (x : Option Reading) (r : Reading) → cond t x none ≡ some r → (t ≡ true) × (x ≡ some r)
 cond-some true x r e = (refl, e)
@@ -116,23 +116,23 @@ digits-right d u ds f r e =
     (digits-hold ds passed, cc)
 
 module _ (d f : List ℕ) (device : DeviceRule d) (file : FileRule f) where
-  unit-right : (rest : List ℕ) (r : Reading) → withUnit d rest f ≡ some r → Fits (d ++ (rest ++ (58 ∷ f))) r
+  unit-right : (rest : List ℕ) (r : Reading) → withUnit d rest f ≡ some r → Spelled (d ++ (rest ++ (58 ∷ f))) r
   unfolding withUnit
   unit-right [] r e =
       let same : full d no-unit f ≡ r = cc in
-      subst (Fits (d ++ (58 ∷ f))) same ((device, tt, file), refl)
+      subst (Spelled (d ++ (58 ∷ f))) same ((device, tt, file), refl)
   unit-right (x ∷ rest) r e =
       let by-dash = rw (ne-eqb (suc (length rest)) 0 (λ z. omega arith)) at e in
       elim (cond-either (eqb x 45) (withDigits d (dashed rest) rest f) (withDigits d (plain (x ∷ rest)) (x ∷ rest) f) (some r) by-dash) [
         | inl (t, g) ↦
             let (rule, same) = digits-right d (dashed rest) rest f r g in
-            subst (Fits (d ++ (x ∷ rest ++ (58 ∷ f)))) same ((device, rule, file), rw (eqb-true x 45 t))
+            subst (Spelled (d ++ (x ∷ rest ++ (58 ∷ f)))) same ((device, rule, file), rw (eqb-true x 45 t))
         | inr (t, g) ↦
             let (rule, same) = digits-right d (plain (x ∷ rest)) (x ∷ rest) f r g in
-            subst (Fits (d ++ (x ∷ rest ++ (58 ∷ f)))) same ((device, rule, file), refl)
+            subst (Spelled (d ++ (x ∷ rest ++ (58 ∷ f)))) same ((device, rule, file), refl)
       ]
 
-head-right : (head f : List ℕ) (r : Reading) → FileRule f → withHead head f ≡ some r → Fits (head ++ (58 ∷ f)) r
+head-right : (head f : List ℕ) (r : Reading) → FileRule f → withHead head f ≡ some r → Spelled (head ++ (58 ∷ f)) r
 unfolding withHead
 head-right head f r file e =
     let n = runOf Letter head in
@@ -153,12 +153,12 @@ unfolding reading withColon withoutColon
 reading-right s r e =
     let n = runOf BeforeColon s in
     let (low, found) = cond-some (leb (length s) 255) (cond (eqb n (length s)) (withoutColon s) (withColon (take n s) (drop (n + 1) s))) r e in
-    let fits : Fits s r =
+    let fits : Spelled s r =
     elim (cond-either (eqb n (length s)) (withoutColon s) (withColon (take n s) (drop (n + 1) s)) (some r) found) [
       | inl (t, g) ↦
           let (file, x) = cond-some (fileTest s) (some (file-only s)) r g in
           let same : file-only s ≡ r = cc in
-          subst (Fits s) same (file-right s file, refl)
+          subst (Spelled s) same (file-right s file, refl)
       | inr (t, g) ↦
           let (file, x) = cond-some (fileTest (drop (n + 1) s)) (withHead (take n s) (drop (n + 1) s)) r g in
           let inside : n < length s = omega (arith, run-le BeforeColon s, eqb-false n (length s) t) in

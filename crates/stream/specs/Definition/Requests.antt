@@ -56,12 +56,12 @@ pub record Spans (bytes : List ℕ) (q : Request) : Type 0 where
 abbrev pub Brings : List ℕ → Type 0
 Brings bytes = (u8At bytes 0 ≡ 0 → ⊥) → (CALL ≤ length bytes) × (u32At bytes RAM ≤ 524288)
 
-abbrev pub CallFits : List ℕ → Found → Type 0
-CallFits bytes (Whole q) = Spans bytes q
-CallFits bytes Part = Unit {0}
-CallFits bytes Bad = Unit {0}
+abbrev pub CallLiesIn : List ℕ → Found → Type 0
+CallLiesIn bytes (Whole q) = Spans bytes q
+CallLiesIn bytes Part = Unit {0}
+CallLiesIn bytes Bad = Unit {0}
 
-abbrev pub Fits : List ℕ → Found → Type 0
-Fits bytes (Whole q) = Spans bytes q × (1 ≤ length bytes) × Brings bytes
-Fits bytes Part = Unit {0}
-Fits bytes Bad = Unit {0}
+abbrev pub LiesIn : List ℕ → Found → Type 0
+LiesIn bytes (Whole q) = Spans bytes q × (1 ≤ length bytes) × Brings bytes
+LiesIn bytes Part = Unit {0}
+LiesIn bytes Bad = Unit {0}

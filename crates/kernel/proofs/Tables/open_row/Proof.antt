@@ -3,7 +3,7 @@ use mathlib.Core.Path.{_≡_, refl}
 use native.Mathlib.Omega.{arith}
 use borrow.Author.Needs.{needs}
 use Rattle.kernel.specs.Definition.Line.{totalOf}
-use Rattle.kernel.specs.Within.{Fits}
+use Rattle.kernel.specs.Within.{HasRoom}
 use Rattle.kernel.proofs.Refusing.{refused}
 use Rattle.kernel.proofs.Growing.{total-of, total-most}
 use Rattle.kernel.proofs.Opening.{row-full, row-none, row-fits, row-chain, row-done}
@@ -15,7 +15,7 @@ total : (c : tie.After-total) → c .total .result ≡ totalOf (c .before .befor
 total c = total-of (c .before .before .before .before .before .before .args .self) _ _ (c .before .wide .ensures .0) (c .total .ensures .0)
 
 -- once the room is known: the record fits
-fits : (c : tie.Else2) → Fits (c .before .before .before .before .before .before .before .before .before .args .self) (c .before .before .before .before .before .before .before .before .before .args .c)
+fits : (c : tie.Else2) → HasRoom (c .before .before .before .before .before .before .before .before .before .args .self) (c .before .before .before .before .before .before .before .before .before .args .c)
 fits c =
     row-fits _ _ _ _ _ (c .before .before .before .before .before .before .if1 .left) (total (c .before .before .before)) (c .before .before .wide16 .ensures .0) (c .before .room-for .ensures) (c .if2 .left)
 

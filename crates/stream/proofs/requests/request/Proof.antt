@@ -2,7 +2,7 @@
 use denote.Ref.{now}
 use mathlib.Core.Path.{_∙_}
 use native.Mathlib.Omega.{arith}
-use Rattle.stream.proofs.Branches.{none, goes-on, unknown, image-cut, too-large, brings, call-fits}
+use Rattle.stream.proofs.Branches.{none, goes-on, unknown, image-cut, too-large, brings, call-lies-in}
 use borrow.Author.Needs.{needs}
 use Rattle.stream.proofs.requests.request.Statement.{statement}
 use Rattle.stream.proofs.requests.request.Tie as tie
@@ -19,7 +19,7 @@ call-at-requires c κs = search needs
 returns-2 : tie.Need-returns-2
 returns-2 c =
     let xs = now (c .before .before .before .before .before .args .bytes) in
-    (c .call-at .ensures .0 ∙ goes-on xs (c .before .before .before .if1 .left) (c .before .if2 .taken), call-fits xs (c .call-at .result) (c .call-at .ensures .1) (c .before .before .before .if1 .left) (λ n. absurd (n (c .before .if2 .taken))))
+    (c .call-at .ensures .0 ∙ goes-on xs (c .before .before .before .if1 .left) (c .before .if2 .taken), call-lies-in xs (c .call-at .result) (c .call-at .ensures .1) (c .before .before .before .if1 .left) (λ n. absurd (n (c .before .if2 .taken))))
 
 returns-3 : tie.Need-returns-3
 returns-3 c = (unknown (now (c .before .before .before .before .before .args .bytes)) (c .before .before .before .if1 .left) (c .before .if2 .left) (c .if3 .taken), tt)
@@ -41,7 +41,7 @@ returns-6 c =
     let xs = now (c .before .before .before .before .before .before .before .before .before .args .bytes) in
     let n = c .before .before .u32-at in (
       c .call-at2 .ensures .0 ∙ brings xs (c .before .before .before .before .before .before .before .if1 .left) (c .before .before .before .before .before .if2 .left) (c .before .before .before .before .if3 .left) (c .before .before .before .if4 .left) (n .result) (n .ensures .0) (c .before .if5 .left),
-      call-fits xs (c .call-at2 .result) (c .call-at2 .ensures .1) (c .before .before .before .before .before .before .before .if1 .left) (λ z. (c .before .before .before .if4 .left, omega (arith, n .ensures .0, c .before .if5 .left))),
+      call-lies-in xs (c .call-at2 .result) (c .call-at2 .ensures .1) (c .before .before .before .before .before .before .before .if1 .left) (λ z. (c .before .before .before .if4 .left, omega (arith, n .ensures .0, c .before .if5 .left))),
     )
 
 pub request-spec : {M : Type 1} → statement M
