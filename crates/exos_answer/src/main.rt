@@ -1,10 +1,15 @@
-// Answers a stream of calls: requests on standard input, replies on standard output.
+// Answers a stream of calls: requests on standard input, replies on standard output. What fails it says on standard error.
 ghost use mathlib.Core.Path.{_≡_};
 ghost use Prim.Native.Nat.{_+_, _≤_};
 ghost use lib.ListN.{length};
 ghost use Rattle.stream.specs.Definition.Requests.{Spans, Brings};
 ghost use Rattle.exos_answer.specs.Within.{Ready};
+use files::Got;
+use files::Wrote;
+use files::read_from;
+use files::write_to;
 use kernel::Tables;
+use libc::STDERR_FILENO;
 use libc::STDIN_FILENO;
 use libc::STDOUT_FILENO;
 use listing::pieces::keep;
@@ -65,14 +70,46 @@ fn answer(
     Machine { tables, size }
 }
 
-// Reads once, after the first bytes of the buffer.
+// Reads once, after the first bytes of the buffer: how many bytes came, none where the input is over or the read failed.
 fn read_after(buf: &mut [u8], left: usize) -> usize
     requires { ⌜ left ≤ length (now buf) ⌝ }
     ensures { λ r. ⌜ left + r ≤ length (now (buf .exit)) ⌝ }
 {
     let part = &mut buf[left..];
-    let got = libc::read(STDIN_FILENO, part);
-    io::count(got, part)
+    let got = read_from(STDIN_FILENO, part);
+    match got {
+        Got::Bytes(n) => n,
+        Got::Over => 0,
+        Got::Failed => {
+            write_to(
+                STDERR_FILENO,
+                b"exos_answer: standard input could not be read\n",
+            );
+            0
+        }
+    }
+}
+
+// Writes, and whether all was written.
+fn write_all(bytes: &[u8]) -> bool {
+    let wrote = write_to(STDOUT_FILENO, bytes);
+    match wrote {
+        Wrote::All => true,
+        Wrote::Failed(_) => {
+            write_to(
+                STDERR_FILENO,
+                b"exos_answer: standard output could not be written\n",
+            );
+            false
+        }
+        Wrote::Closed(_) => {
+            write_to(
+                STDERR_FILENO,
+                b"exos_answer: the reader of standard output has ended\n",
+            );
+            false
+        }
+    }
 }
 
 // Writes the replies that wait.
@@ -82,7 +119,7 @@ fn flush(s: State, text: &[u8]) -> State
 {
     let used = s.used;
     let tables = s.tables;
-    let going = io::write_all(STDOUT_FILENO, &text[..used]);
+    let going = write_all(&text[..used]);
     State {
         tables,
         size: s.size,
@@ -93,11 +130,14 @@ fn flush(s: State, text: &[u8]) -> State
     }
 }
 
-// Reads on, with the bytes that are left moved to the start.
+// Reads on, with the bytes that are left moved to the start; not where the replies could not be written.
 fn refill(s: State, buf: &mut [u8]) -> State
     requires { ⌜ Ready s × (length (now buf) ≡ 131072) ⌝ }
     ensures { λ r. ⌜ Ready r ⌝ }
 {
+    if !s.going {
+        return s;
+    }
     let from = s.from;
     let left = s.filled - from;
     let tables = s.tables;
@@ -109,7 +149,7 @@ fn refill(s: State, buf: &mut [u8]) -> State
         from: 0,
         filled: left + n,
         used: s.used,
-        going: s.going & (0 < n),
+        going: 0 < n,
     }
 }
 

@@ -34,12 +34,12 @@ unfolding number
 more-first e f = omega (arith, ap number (sym e ∙ f))
 
 -- where the lines stop
-abbrev Stopped : ℕ → Mark → Stop → Type 0
+abbrev pub Stopped : ℕ → Mark → Stop → Type 0
 Stopped size to More = (frontOf (to .left) ≡ Cut) × (length (to .text) + longest ≤ size)
 Stopped size to Full = size < length (to .text) + longest
 Stopped size to Bad = Unit {0}
 
-stopped : {size : ℕ} {m to : Mark} {stop : Stop} → Drains size m to stop → Stopped size to stop
+pub stopped : {size : ℕ} {m to : Mark} {stop : Stop} → Drains size m to stop → Stopped size to stop
 stopped (full h) = h
 stopped (more h e) = (e, h)
 stopped (ends h e) = tt

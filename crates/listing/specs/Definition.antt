@@ -2,3 +2,4 @@
 pub mod Log
 pub mod NoneOrGood
 pub mod Pieces
+pub mod Ends

@@ -5,6 +5,7 @@ pub mod lines; // one record's line, and `bad`
 pub mod records; // one record: its call and its line
 pub mod buffers; // the lines of a buffer
 pub mod pieces; // a log read in pieces, and a whole log
+pub mod ends; // how a listing ends, and the byte that tells it
 
 // The most bytes of a line: four numbers of at most five digits, four spaces and a newline, and two digits for each of the 4,096 bytes of output.
 const LONGEST: usize = 25 + 2 * 4096;
@@ -34,4 +35,13 @@ pub struct Drained {
 pub enum Listed {
     Text(usize),
     Over,
+}
+
+// How a listing ends: every record is listed, the log is bad, a read failed, a write failed, or the reader of the text has ended.
+pub enum End {
+    Listed,
+    BadLog,
+    ReadFailed,
+    WriteFailed,
+    ReaderEnded,
 }

@@ -1,0 +1,2 @@
+-- What a read brings and a write takes.
+pub mod Outcomes

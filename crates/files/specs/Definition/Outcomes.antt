@@ -1,0 +1,18 @@
+-- What a read into a buffer, and a write of bytes, of `size` can tell. Which bytes came or went no contract can name.
+use Prim.Native.Nat.{ℕ, _≤_, _<_}
+use Rattle.files.specs.declared.Got.{Got}
+use Rattle.files.specs.declared.Got.the-variants.{Bytes, Over, Failed as Unread}
+use Rattle.files.specs.declared.Wrote.{Wrote}
+use Rattle.files.specs.declared.Wrote.the-variants.{All, Failed, Closed}
+
+-- a read brings at least a byte, and none that the buffer has no room for
+abbrev pub Brings : (size : ℕ) → Got → Type 0
+Brings size (Bytes n) = (0 < n) × (n ≤ size)
+Brings size Over = Unit {0}
+Brings size Unread = Unit {0}
+
+-- a write that is not done leaves at least a byte
+abbrev pub Takes : (size : ℕ) → Wrote → Type 0
+Takes size All = Unit {0}
+Takes size (Failed n) = n < size
+Takes size (Closed n) = n < size

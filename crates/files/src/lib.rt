@@ -1,0 +1,99 @@
+// Reads and writes on descriptors that tell an end from a failure; a call that a signal interrupts is made again.
+ghost use lib.ListN.{length};
+ghost use Rattle.files.specs.Definition.Outcomes.{Brings, Takes};
+use libc::EINTR;
+use libc::EPIPE;
+
+// What a read brought: so many bytes, the end of the input, or nothing, since it failed.
+pub enum Got {
+    Bytes(usize),
+    Over,
+    Failed,
+}
+
+// What a write took: all bytes; or so many, since it failed; or so many, since the reader has ended.
+pub enum Wrote {
+    All,
+    Failed(usize),
+    Closed(usize),
+}
+
+// Why a call moved nothing: a signal interrupted it, the reader has ended, or it failed.
+enum Why {
+    Interrupted,
+    Closed,
+    Failed,
+}
+
+fn reason(got: isize) -> Why {
+    if got == 0 {
+        return Why::Failed;
+    }
+    let error = os::errno();
+    if error == EINTR {
+        return Why::Interrupted;
+    }
+    if error == EPIPE {
+        return Why::Closed;
+    }
+    Why::Failed
+}
+
+// Reads once, to the front of the buffer.
+pub fn read_from(fd: i32, buf: &mut [u8]) -> Got
+    ensures { λ r. ⌜ Brings (length (now (buf .exit))) r ⌝ }
+{
+    let mut tries = u64::MAX;
+    while tries > 0 {
+        let got = libc::read(fd, buf);
+        let n = io::count(got, buf);
+        if n > 0 {
+            return Got::Bytes(n);
+        }
+        if got == 0 {
+            return Got::Over;
+        }
+        match reason(got) {
+            Why::Interrupted => {
+                tries -= 1;
+            }
+            Why::Closed => {
+                return Got::Failed;
+            }
+            Why::Failed => {
+                return Got::Failed;
+            }
+        }
+    }
+    Got::Failed
+}
+
+// Writes all bytes, as many at a time as a call takes.
+pub fn write_to(fd: i32, bytes: &[u8]) -> Wrote
+    ensures { λ r. ⌜ Takes (length (now (bytes .entry))) r ⌝ }
+{
+    let mut done: usize = 0;
+    let mut tries = u64::MAX;
+    while tries > 0 && done < bytes.len() {
+        let part = &bytes[done..];
+        let got = libc::write(fd, part);
+        let n = io::count(got, part);
+        if n == 0 {
+            match reason(got) {
+                Why::Interrupted => {}
+                Why::Closed => {
+                    return Wrote::Closed(done);
+                }
+                Why::Failed => {
+                    return Wrote::Failed(done);
+                }
+            }
+        }
+        done += n;
+        tries -= 1;
+    }
+    if done < bytes.len() {
+        return Wrote::Failed(done);
+    }
+    Wrote::All
+}
