@@ -1,2 +1,3 @@
 -- Laws that the proofs cite.
-pub mod Left
+pub mod Hands
+pub mod Branches

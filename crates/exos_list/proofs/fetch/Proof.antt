@@ -1,6 +1,9 @@
 -- `exos_list::fetch` meets its contract.
-use mathlib.Core.Path.{sym}
-use lib.Seq.{length-take-le}
+use mathlib.Core.Path.{refl, _∙_}
+use Prim.Native.Nat.{_+_, _-_, _≤_}
+use native.Mathlib.Omega.{arith}
+use lib.ListN.{length}
+use Rattle.exos_list.proofs.Hands.{counted, fetched}
 use borrow.Author.Needs.{needs}
 use Rattle.exos_list.proofs.fetch.Statement.{statement}
 use Rattle.exos_list.proofs.fetch.Tie as tie
@@ -14,35 +17,34 @@ keep-requires c κs = search needs
 read-after-requires : tie.Need-read-after-requires
 read-after-requires c κs = search needs
 
-finish-requires : tie.Need-finish-requires
-finish-requires c κs = search needs
+count-of-requires : tie.Need-count-of-requires
+count-of-requires c κs = search needs
 
-slice-reshare-prefix-write-all : tie.Need-slice-reshare-prefix-write-all
-slice-reshare-prefix-write-all c = search needs
+-- the bytes that came lie in the buffer
+fits : (c : tie.After-count-of) → c .before .before .before .before .before .before .before .before .before .before .args .filled - c .before .before .before .before .before .before .before .before .before .before .args .start + c .count-of .result ≤ length (c .before .before .before .read-after .last .0)
+fits c =
+    let r = c .before .before .before .read-after in
+    let k = counted (length (r .last .0) - (c .before .before .before .before .before .before .before .before .before .before .args .filled - c .before .before .before .before .before .before .before .before .before .before .args .start)) (r .result) (r .ensures .0) in
+    omega (arith, c .count-of .ensures, k)
 
-slice-aggregate-write-all : tie.Need-slice-aggregate-write-all
-slice-aggregate-write-all c = let f = c .before .before .before .finish in sym (length-take-le (f .result) _ (f .ensures .1))
+add-t13 : tie.Need-add-t13
+add-t13 c = omega (arith, fits c)
 
-write-all-requires : tie.Need-write-all-requires
-write-all-requires c κs = search needs
+course-of-requires : tie.Need-course-of-requires
+course-of-requires c κs = search needs
 
 same-length : tie.Need-same-length
 same-length c = search needs
 
-same-length-2 : tie.Need-same-length-2
-same-length-2 c = search needs
-
 returns : tie.Need-returns
-returns c = search needs
-
-add-t20 : tie.Need-add-t20
-add-t20 c = search needs
-
-same-length-3 : tie.Need-same-length-3
-same-length-3 c = search needs
-
-returns-2 : tie.Need-returns-2
-returns-2 c = search needs
+returns c =
+    let a = c .before .before .before .before .before .before .before .before .before .before .before .args in
+    let r = c .before .before .before .before .read-after in
+    let kept = r .ensures .1 ∙ c .before .before .before .before .before .before .before .before .keep .ensures .0 in (
+      (r .result, fetched (a .tables) (r .last .0) _ (a .filled - a .start) _ (r .result) _ kept (c .before .count-of .ensures) (fits (c .before)) (c .course-of .ensures)),
+      refl,
+      record { good = c .before .before .before .before .before .before .before .before .before .before .before .pre .0; order = omega arith; filled = fits (c .before) },
+    )
 
 pub fetch-spec : {M : Type 1} → statement M
 fetch-spec =
@@ -51,13 +53,8 @@ fetch-spec =
     sub-left
     keep-requires
     read-after-requires
-    finish-requires
-    slice-reshare-prefix-write-all
-    slice-aggregate-write-all
-    write-all-requires
+    count-of-requires
+    add-t13
+    course-of-requires
     same-length
-    same-length-2
-    returns
-    add-t20
-    same-length-3
-    returns-2)
+    returns)

@@ -1,0 +1,2 @@
+-- The turns are those of a session.
+pub mod Session
