@@ -44,15 +44,15 @@ opens channel n = «open» channel 0 n (86 ∷ 73 ∷ 68 ∷ 69 ∷ 79 ∷ 58 �
 abbrev pub three : List Expected
 three = asks (allocate 0) 0 253 16384 ∷ asks (allocate 0) 0 254 16384 ∷ asks (allocate 0) 17 255 11074 ∷ []
 
--- the class that a segment must have in the end
-pub record Class : Type 0 where
+-- a segment, and the class that it must have in the end
+pub record ClassLeft : Type 0 where
   pub segment : ℕ
   pub class : ℕ
 
--- a case: calls, each with its answer, and a class
+-- a case: calls, each with its answer, and the classes that some segments must have in the end
 pub record Case : Type 0 where
   pub calls : List Expected
-  pub classes : List Class
+  pub classes : List ClassLeft
 
 abbrev pub answering : List Expected → Case
 answering calls = record { calls = calls; classes = [] }
@@ -79,35 +79,35 @@ cases =
     ∷ []
 
 -- the segments have their classes
-abbrev pub Has : Tables → List Class → Type 0
+abbrev pub Has : Tables → List ClassLeft → Type 0
 Has t [] = Unit {0}
 Has t (c ∷ cs) = (classAt t (rowOf t (c .segment)) ≡ c .class) × Has t cs
 
 -- each call of a sequence, made on the tables that the last one left, answers what is expected of it, and the classes are those in the end
-abbrev pub Answers : Tables → List Expected → List Class → Type 0
+abbrev pub Answers : Tables → List Expected → List ClassLeft → Type 0
 Answers t [] cs = Has t cs
 Answers t (l ∷ ls) cs =
     (numberOf (answered t (l .call) .answer) ≡ l .number) × (aOf (answered t (l .call) .answer) ≡ l .a)
     × (bOf (answered t (l .call) .answer) ≡ l .b) × Answers (answered t (l .call) .tables) ls cs
 
 -- the same as tests
-abbrev hasTest : Tables → List Class → Bool
+abbrev hasTest : Tables → List ClassLeft → Bool
 hasTest t [] = true
 hasTest t (c ∷ cs) = eqb (classAt t (rowOf t (c .segment))) (c .class) && hasTest t cs
 
-abbrev answersTest : Tables → List Expected → List Class → Bool
+abbrev answersTest : Tables → List Expected → List ClassLeft → Bool
 answersTest t [] cs = hasTest t cs
 answersTest t (l ∷ ls) cs =
     let o = answered t (l .call) in
     eqb (numberOf (o .answer)) (l .number) && (eqb (aOf (o .answer)) (l .a) && (eqb (bOf (o .answer)) (l .b) && answersTest (o .tables) ls cs))
 
-has : (t : Tables) (cs : List Class) → hasTest t cs ≡ true → Has t cs
+has : (t : Tables) (cs : List ClassLeft) → hasTest t cs ≡ true → Has t cs
 has t [] e = tt
 has t (c ∷ cs) e =
     let p = eqb (classAt t (rowOf t (c .segment))) (c .class) in
     (eqb-true _ _ (and-left p (hasTest t cs) e), has t cs (and-right p (hasTest t cs) e))
 
-tested : (t : Tables) (ls : List Expected) (cs : List Class) → answersTest t ls cs ≡ true → Answers t ls cs
+tested : (t : Tables) (ls : List Expected) (cs : List ClassLeft) → answersTest t ls cs ≡ true → Answers t ls cs
 tested t [] cs e = has t cs e
 tested t (l ∷ ls) cs e =
     let o = answered t (l .call) in

@@ -24,7 +24,7 @@ use Rattle.kernel.specs.Definition.Tables.{rowOf, channelAt}
 use Rattle.kernel.specs.Definition.Good.{Good}
 use Rattle.kernel.specs.Definition.Names.{deviceFor}
 use Rattle.kernel.specs.declared.Wanted.{Wanted}
-use Rattle.kernel.specs.Definition.Refusals.{OpenAt, NotOpen, InList, Some, Enabled}
+use Rattle.kernel.specs.Definition.Refusals.{OpenAt, NotOpen, InList, HasClass, Enabled}
 use Rattle.kernel.specs.declared.Tables.{Tables}
 
 -- a search among the first n rows ends below n exactly if the test passes in one of them
@@ -104,7 +104,7 @@ module _ (t : Tables) (g : Good t) where
       (λ q. omega (arith, far (rowOf t segment) row q (o .within), p .number, o .number))
       (λ q. omega (arith, far row (rowOf t segment) q h, p .number, o .number))
 
-  pub some-says : (class : ℕ) → Says (ltb (firstWhere (λ (x : ℕ). eqb x class) (take (t .segments) (t .classes))) (t .segments)) (Some t class)
+  pub some-says : (class : ℕ) → Says (ltb (firstWhere (λ (x : ℕ). eqb x class) (take (t .segments) (t .classes))) (t .segments)) (HasClass t class)
   some-says class =
       says-as (search-says (λ (x : ℕ). eqb x class) (t .classes) 0 (t .segments) (omega (arith, g .sized .classes, g .list .most)))
       (λ (i, h, e). (i, h, eqb-true _ _ e))

@@ -33,15 +33,15 @@ module _ (t : Tables) (g : Good t) (r : ℕ) (small : r ≤ 16384) (lengths : Li
   rule : Says (roomFor t r (total lengths)) (total lengths + t .user ≤ r + 16384 * (t .held - 1 + spare t))
   rule = room-in-bytes t (body t g) r (total lengths) long
 
-  go : (s : Bool) → sharing t ≡ s → (roomFor t r (total lengths) ≡ true) ↔ (Layout lengths (Outside t r (offered t)) × Clear t r)
-  go true s =
+  room-by : (s : Bool) → sharing t ≡ s → (roomFor t r (total lengths) ≡ true) ↔ (Layout lengths (Outside t r (offered t)) × Clear t r)
+  room-by true s =
       let n = offered-shared t g s in
       let h = g .chain .holds in
       let none : spare t ≡ 0 = rw s in (
         λ e. let c : Clear t r = λ q. omega (arith, rule .yes e, top-alone t g q) in (fits c .1 (omega (arith, rule .yes e)), c),
         λ l. rule .make (omega (arith, fits (l .1) .0 (l .0))),
       )
-  go false s =
+  room-by false s =
       let n = offered-apart t g s in
       let z : t .user ≡ 0 = g .user .none (shares-no t (body t g) s) in
       let c : Clear t r = λ q. omega arith in
@@ -51,7 +51,7 @@ module _ (t : Tables) (g : Good t) (r : ℕ) (small : r ≤ 16384) (lengths : Li
 
   -- for a line no shorter than the present one
   pub room-layout : (roomFor t r (total lengths) ≡ true) ↔ (Layout lengths (Outside t r (offered t)) × Clear t r)
-  room-layout = go (sharing t) refl
+  room-layout = room-by (sharing t) refl
 
   -- a layout of any byte at all leaves it whole
   pub layout-clear : 1 ≤ length lengths → 1 ≤ at lengths 0 → Layout lengths (Outside t r (offered t)) → Clear t r

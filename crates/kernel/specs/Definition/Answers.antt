@@ -3,7 +3,7 @@ use mathlib.Core.Bool.{Bool, cond, _||_}
 use mathlib.Core.List.{List, [], _∷_}
 use Prim.Native.Nat.{ℕ}
 use lib.Dec.{eqb}
-use Rattle.kernel.specs.Definition.Bytes.{Change, nothing, Filling, none}
+use Rattle.kernel.specs.Definition.Bytes.{Change, nothing, Filling, unfilled}
 use Rattle.kernel.specs.declared.Tables.{Tables}
 use Rattle.kernel.specs.declared.Answer.{Answer}
 use Rattle.kernel.specs.declared.Answer.the-variants.{Done, BadTables, BadCall, NoChannel, Exists, BadName, NoDevice, Driver, Full, NoRoom, NoSegment, NotOwner, BadBoundary, BadRange, Guarded, BadFlags, BadStart, Shared}
@@ -86,7 +86,7 @@ pub record Decision : Type 0 where
 
 -- an answer and the next tables, with a change of the RAM and the output as it was, or with the output filled and the RAM as it was
 abbrev pub _changing_ : Outcome → Change → Decision
-o changing change = record { answer = o .answer; tables = o .tables; ram = change; output = none }
+o changing change = record { answer = o .answer; tables = o .tables; ram = change; output = unfilled }
 
 abbrev pub _filling_ : Outcome → Filling → Decision
 o filling bytes = record { answer = o .answer; tables = o .tables; ram = nothing; output = bytes }

@@ -32,7 +32,7 @@ pub data Change : Type 0 where
 
 -- what fills the first bytes of the lent output; "the rest stays"
 pub data Filling : Type 0 where
-  none : Filling
+  unfilled : Filling
   these : (bytes : List ℕ) → Filling
   from-buffer : (i offset size : ℕ) → Filling
   from-segment : (row offset size : ℕ) → Filling
@@ -55,7 +55,7 @@ ramReset t ram flags =
 abbrev pub segmentAt : ℕ → ℕ
 segmentAt row = SEGMENT * row
 
--- the RAM after a change by a call that was made on the tables t and gave the tables u
+-- the RAM after a change by a call that was made on the tables t and gave the tables u: an open and a link lie on the chain of u, which may have grown
 unfoldable pub ramAfter : (t u : Tables) → List ℕ → Change → List ℕ
 ramAfter t u ram nothing = ram
 ramAfter t u ram zeroed = replicate (length ram) 0
@@ -72,7 +72,7 @@ countsOf t = countOf FREE t ∷ countOf USER t ∷ countOf SYSTEM t ∷ countOf 
 
 -- "Read, load and status fill the first b bytes of the lent output; the rest stays."
 unfoldable pub outputAfter : Tables → List ℕ → Filling → List ℕ → List ℕ
-outputAfter t ram none output = output
+outputAfter t ram unfilled output = output
 outputAfter t ram (these bytes) output = filled (length bytes) bytes output
 outputAfter t ram (from-buffer i offset size) output = filled size (lineFrom (t .chain) (t .room) ram (bufferAt t i + offset) size) output
 outputAfter t ram (from-segment row offset size) output = filled size (take size (drop (segmentAt row + offset) ram)) output

@@ -60,11 +60,12 @@ shrunk zero t = t
 shrunk (suc k) t = shrunk k (oneLess t)
 
 -- "Room rule: with nothing shared, T may reach R + 16,384 x (chain length - 1 + free segments). With a segment shared, the line stays in the
--- present chain and the EXOS boundary may not fall below the user boundary, even if a free segment exists (build)." For a line of length n at the room r.
+-- present chain and the EXOS boundary may not fall below the user boundary, even if a free segment exists (build)." For a line of length n at the room r;
+-- the present chain has R + 16,384 x (chain length - 1) bytes.
 unfoldable pub roomFor : Tables → (r n : ℕ) → Bool
 roomFor t r n =
     cond (sharing t)
-    (eqb (chainLength r n) (t .held) && leb (t .user) (boundaryAt r n))
+    (leb n (r + SEGMENT * (t .held - 1)) && leb (t .user) (boundaryAt r n))
     (leb n (r + SEGMENT * (t .held - 1 + countOf FREE t)))
 
 -- "Open appends a record"

@@ -12,7 +12,7 @@ use Rattle.rows.specs.Definition.Lists.{padded}
 use Rattle.rows.specs.Definition.Classes.{FREE, USER, DEVICE, SHARED}
 use Rattle.rows.specs.Definition.Channels.{zeroChannel}
 use Rattle.rows.specs.Definition.Devices.{beyondDevices}
-use Rattle.rows.specs.Definition.Sizes.{chainLength, boundaryAt}
+use Rattle.rows.specs.Definition.Sizes.{boundaryAt}
 use Rattle.rows.specs.Definition.Good.{ListGood, Same}
 use Rattle.kernel.specs.Definition.Tables.{SEGMENT, ramSize, numberAt, classAt, countOf}
 use Rattle.kernel.specs.Definition.Good.{Good}
@@ -38,8 +38,8 @@ pub record InList (t : Tables) (segment row : ℕ) : Type 0 where
   pub number : numberAt t row ≡ segment
 
 -- some segment has the class
-abbrev pub Some : Tables → ℕ → Type 0
-Some t class = (row : ℕ) × (row < t .segments) × (classAt t row ≡ class)
+abbrev pub HasClass : Tables → ℕ → Type 0
+HasClass t class = (row : ℕ) × (row < t .segments) × (classAt t row ≡ class)
 
 -- row i is an enabled device of the wanted name, which is not empty
 pub record Enabled (t : Tables) (w : Wanted) (i : ℕ) : Type 0 where
@@ -50,9 +50,9 @@ pub record Enabled (t : Tables) (w : Wanted) (i : ℕ) : Type 0 where
 
 -- "Room rule", for a line of length n at the room r
 pub record Room (t : Tables) (r n : ℕ) : Type 0 where
-  pub apart : (Some t SHARED → ⊥) → n ≤ r + SEGMENT * (t .held - 1 + countOf FREE t)
-  pub stays : Some t SHARED → chainLength r n ≡ t .held
-  pub above : Some t SHARED → t .user ≤ boundaryAt r n
+  pub apart : (HasClass t SHARED → ⊥) → n ≤ r + SEGMENT * (t .held - 1 + countOf FREE t)
+  pub stays : HasClass t SHARED → n ≤ r + SEGMENT * (t .held - 1)
+  pub above : HasClass t SHARED → t .user ≤ boundaryAt r n
 
 -- "the user gives back user .. or shared ..; a device gives back device"
 pub data GivesBack : (caller class : ℕ) → Type 0 where
@@ -88,7 +88,7 @@ pub data Row (t : Tables) (ram output : ℕ) : (c : Call) (k : ℕ) → Type 0 w
   start-short : Row t ram output short-start 2
   allocate-caller : {caller : ℕ} → 1 < caller → Row t ram output (allocate caller) 2
   free-caller : {caller segment : ℕ} → 1 < caller → Row t ram output (free caller segment) 2
-  -- 3 CHANNEL: "255, or not open (open: 255 only)"
+  -- 3 CHANNEL: "255, or not open (open: 255 only)"; no u8 is beyond 255
   open-channel : {channel driver n : ℕ} {name : List ℕ} → 255 ≤ channel → Row t ram output («open» channel driver n name) 3
   close-channel : {channel : ℕ} → NotOpen t channel → Row t ram output (close channel) 3
   read-channel : {channel offset size : ℕ} → NotOpen t channel → Row t ram output (read channel offset size) 3
@@ -112,13 +112,13 @@ pub data Row (t : Tables) (ram output : ℕ) : (c : Call) (k : ℕ) → Type 0 w
   link-low : {m : ℕ} {name : List ℕ} → t .room < 256 + m → Row t ram output (link m name) 9
   link-room : {m : ℕ} {name : List ℕ} → ¬ Room t (t .room - m) (totalOf t) → Row t ram output (link m name) 9
   -- 10 SEGMENT: "nothing to allocate"
-  allocate-none : {caller : ℕ} → ¬ Some t FREE → (caller ≢ 0) ⊎ (Some t SHARED ⊎ (boundaryOf t ≡ 0)) → Row t ram output (allocate caller) 10
+  allocate-none : {caller : ℕ} → ¬ HasClass t FREE → (caller ≢ 0) ⊎ (HasClass t SHARED ⊎ (boundaryOf t ≡ 0)) → Row t ram output (allocate caller) 10
   -- 11 OWNER: "segment not the caller's to free, store or load"
   free-owner : {caller segment : ℕ} → ((row : ℕ) → InList t segment row → ¬ GivesBack caller (classAt t row)) → Row t ram output (free caller segment) 11
   store-owner : {segment offset : ℕ} {bytes : List ℕ} → ((row : ℕ) → InList t segment row → ¬ Reached t row) → Row t ram output (store segment offset bytes) 11
   load-owner : {segment offset size : ℕ} → ((row : ℕ) → InList t segment row → ¬ Reached t row) → Row t ram output (load segment offset size) 11
   -- 12 BOUNDARY: "nothing shared, or value above the EXOS boundary"
-  bound-none : {value : ℕ} → ¬ Some t SHARED → Row t ram output (set-user-boundary value) 12
+  bound-none : {value : ℕ} → ¬ HasClass t SHARED → Row t ram output (set-user-boundary value) 12
   bound-above : {value : ℕ} → boundaryOf t < value → Row t ram output (set-user-boundary value) 12
   -- 13 RANGE: "offset + length past the end, or lent output too short"
   read-end : {channel offset size i : ℕ} → OpenAt t channel i → sizeAt t i < offset + size → Row t ram output (read channel offset size) 13

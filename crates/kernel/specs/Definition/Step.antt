@@ -39,8 +39,8 @@ heard t ram output (load segment offset size) = onLoad t output segment offset s
 heard t ram output no-call = gives BadCall t changing nothing
 heard t ram output short-start = gives BadCall t changing nothing
 
--- 1 TABLES: "not for start: tables not good, or RAM length wrong". It depends on no byte of the RAM or the output: "The kernel
--- never reads it back."
+-- 1 TABLES: "not for start: tables not good, or RAM length wrong". What is decided depends on the lengths of RAM and output and on none of their bytes, so that
+-- no heading is read back.
 unfoldable pub decided : Tables → (ram output : ℕ) → Call → Decision
 unfolding goodTest heard
 decided t ram output c = unless (BadTables when not (isStart c || readyTest t ram) ∷ []) t (heard t ram output c)

@@ -1,5 +1,5 @@
--- The room rule in bytes alone: "compare first, round after". 01's sentence speaks of the chain's length, which is rounded, where a segment is shared;
--- the code compares bytes, and these laws join the two.
+-- The room rule as one sum of bytes: "compare first, round after". The definition has 01's sentence, with the EXOS boundary where a segment is shared;
+-- the code compares the sums, and these laws join the two.
 use mathlib.Core.Path.{_≡_, refl, sym, _∙_}
 use mathlib.Core.Bool.{Bool, true, false, false≢true}
 use Prim.Native.Nat.{ℕ, _+_, _-_, _*_, _≤_, _<_}
@@ -13,7 +13,7 @@ use Rattle.rows.specs.Definition.Lists.{firstOf}
 use Rattle.rows.specs.Definition.Classes.{FREE, SHARED}
 use Rattle.rows.specs.Definition.Sizes.{chainLength, boundaryAt}
 use Rattle.rows.specs.Laws.Lists.{is-false}
-use Rattle.rows.specs.Laws.Says.{Says, says-le, says-eq, says-and, says-as}
+use Rattle.rows.specs.Laws.Says.{Says, says-le, says-and, says-as}
 use Rattle.rows.specs.Laws.Sizes.{length-low, edge-low, ends, chain-most}
 use Rattle.rows.specs.Laws.Counts.{first-none}
 use Rattle.kernel.specs.Definition.Tables.{SEGMENT, classAt, countOf, sharing, lastRow}
@@ -54,9 +54,9 @@ module _ (t : Tables) (b : Body t) (r n : ℕ) (long : t .held ≤ chainLength r
   says-by true s =
       let l = line-sum r n in
       let some = b .chain .holds in
-      rw s (says-as (says-and (says-eq (chainLength r n) (t .held)) (says-le (t .user) (boundaryAt r n)))
-      (λ h. omega (arith, h .0, h .1))
-      (λ e. let q : chainLength r n ≡ t .held = omega (arith, chain-most r n (t .held - 1) (omega arith)) in (q, omega arith)))
+      rw s (says-as (says-and (says-le n (r + SEGMENT * (t .held - 1))) (says-le (t .user) (boundaryAt r n)))
+      (λ h. omega (arith, h .0, h .1, chain-most r n (t .held - 1) (h .0)))
+      (λ e. let stays : n ≤ r + SEGMENT * (t .held - 1) = omega arith in (stays, omega (arith, chain-most r n (t .held - 1) stays))))
   says-by false s =
       let z : t .user ≡ 0 = b .none (shares-no t b s) in
       rw s (says-as (says-le n (r + SEGMENT * (t .held - 1 + countOf FREE t))) (λ h. omega arith) (λ e. omega arith))

@@ -65,7 +65,7 @@ abbrev pub Fills : (log : List ℕ) (size : ℕ) → Mark → Type 0
 Fills log size to = Drains size (begin noTables (replicate 65536 0) (replicate 4096 0) log) to Full
 
 -- the text of the whole log stands at the front of `text`, and behind it what stood there; or there was no room, the lines up to there stand at the
--- front, and the text is shorter than the log's with a longest line more
+-- front, and `text` is shorter than the log's text and one longest line together
 abbrev pub Lists : (log text text′ : List ℕ) → Listed → Type 0
 Lists log text text′ (Text n) = Put text text′ 0 n (listing log) × ((to : Mark) → ¬ Fills log (length text′) to)
 Lists log text text′ Over =

@@ -33,11 +33,12 @@ firstWhere p (x ∷ xs) = cond (p x) 0 (suc (firstWhere p xs))
 abbrev pub firstOf : ℕ → List ℕ → ℕ
 firstOf k xs = firstWhere (λ (x : ℕ). eqb x k) xs
 
--- the place of the last k, if there is one: where it was found behind the first element, or the first element itself
+-- behind a first element: what was found there, one place further on, or the first element itself
 abbrev pub lastFrom : Lookup → (first : Bool) → Lookup
 lastFrom (At i) first = At (suc i)
 lastFrom Nowhere first = cond first (At 0) Nowhere
 
+-- the place of the last k, if there is one
 abbrev pub lastOf : ℕ → List ℕ → Lookup
 lastOf k [] = Nowhere
 lastOf k (x ∷ xs) = lastFrom (lastOf k xs) (eqb x k)

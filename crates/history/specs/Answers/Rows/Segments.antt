@@ -13,7 +13,7 @@ use Rattle.kernel.specs.Definition.Line.{boundaryOf}
 use Rattle.kernel.specs.Definition.Segments.{classFor, someFree, mayShare, mayFree}
 use Rattle.kernel.specs.Definition.Answers.{granted, Decision}
 use Rattle.kernel.specs.Definition.Calls.{set-user-boundary, allocate, free, onSetUserBoundary, onAllocate, onFree}
-use Rattle.kernel.specs.Definition.Refusals.{Row, Some, InList, GivesBack, user, shared, device, allocate-caller, free-caller, allocate-none, free-owner, bound-none, bound-above}
+use Rattle.kernel.specs.Definition.Refusals.{Row, HasClass, InList, GivesBack, user, shared, device, allocate-caller, free-caller, allocate-none, free-owner, bound-none, bound-above}
 use Rattle.kernel.specs.declared.Tables.{Tables}
 use Rattle.kernel.specs.declared.Answer.the-variants.{BadCall, NoSegment, NotOwner, BadBoundary}
 use Rattle.history.specs.Answers.Lowest.{Below, Lowest, end, rule}
@@ -23,7 +23,7 @@ use Rattle.history.specs.Answers.Found.{in-list, list-one, some-says}
 
 -- no segment is shared for the caller
 abbrev NoShare : Tables → (caller : ℕ) → Type 0
-NoShare t caller = (caller ≢ 0) ⊎ (Some t SHARED ⊎ (boundaryOf t ≡ 0))
+NoShare t caller = (caller ≢ 0) ⊎ (HasClass t SHARED ⊎ (boundaryOf t ≡ 0))
 
 -- the segment is in the list, and the caller gives it back
 abbrev Own : Tables → (caller segment : ℕ) → Type 0
@@ -44,14 +44,14 @@ granted-both true x y p q = p
 granted-both false x y p q = q
 
 module _ {t : Tables} {ram output : ℕ} where
-  bound-12 : {value : ℕ} → Row t ram output (set-user-boundary value) 12 → ¬ Some t SHARED ⊎ (boundaryOf t < value)
+  bound-12 : {value : ℕ} → Row t ram output (set-user-boundary value) 12 → ¬ HasClass t SHARED ⊎ (boundaryOf t < value)
   bound-12 (bound-none n) = inl n
   bound-12 (bound-above h) = inr h
 
   allocate-2 : {caller : ℕ} → Row t ram output (allocate caller) 2 → 1 < caller
   allocate-2 (allocate-caller h) = h
 
-  allocate-10 : {caller : ℕ} → Row t ram output (allocate caller) 10 → ¬ Some t FREE × NoShare t caller
+  allocate-10 : {caller : ℕ} → Row t ram output (allocate caller) 10 → ¬ HasClass t FREE × NoShare t caller
   allocate-10 (allocate-none n s) = (n, s)
 
   free-2 : {caller segment : ℕ} → Row t ram output (free caller segment) 2 → 1 < caller
