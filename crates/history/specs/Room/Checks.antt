@@ -1,5 +1,4 @@
 -- The earlier checks of an open, each by itself: whoever meets them passes.
-use mathlib.Core.Path.{refl}
 use mathlib.Core.List.{List}
 use Prim.Native.Nat.{ℕ}
 use native.Mathlib.Omega.{arith}

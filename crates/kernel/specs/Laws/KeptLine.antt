@@ -1,26 +1,21 @@
 -- Open and close keep good tables; the room rule lets the chain grow to what the line takes.
-use mathlib.Core.Path.{_≡_, refl, ap, sym, _∙_}
-use mathlib.Core.Bool.{Bool, true, false, _&&_}
-use Prim.Native.Nat.{ℕ, suc, _+_, _-_, _*_, _≤_, _<_}
+use mathlib.Core.Path.{_≡_, refl, ap, _∙_}
+use mathlib.Core.Bool.{Bool, true, false}
+use Prim.Native.Nat.{ℕ, suc, _+_, _-_, _≤_, _<_}
 use native.Mathlib.Omega.{arith}
-use borrow.Author.Tests.{ltb-true, ltb-false, leb-true, eqb-true}
-use lib.Dec.{eqb, leb}
-use lib.ListN.{length, getD, take, set, length-set, length-take}
-use lib.Seq.{getD-take}
-use Rattle.rows.specs.Definition.Lists.{firstOf, without}
-use Rattle.rows.specs.Laws.Lists.{and-left, and-right}
-use Rattle.rows.specs.Definition.Classes.{FREE, SHARED}
+use lib.ListN.{length, getD, take, set, length-set}
+use Rattle.rows.specs.Definition.Lists.{without}
+use Rattle.rows.specs.Definition.Classes.{FREE}
 use Rattle.rows.specs.Definition.Channels.{zeroChannel, sumOf}
-use Rattle.rows.specs.Definition.Sizes.{chainLength, boundaryAt}
+use Rattle.rows.specs.Definition.Sizes.{chainLength}
 use Rattle.rows.specs.Laws.Sizes.{length-mono, edge-falls, chain-most}
-use Rattle.rows.specs.Laws.Counts.{first-none}
 use Rattle.rows.specs.Laws.ChannelRows.{sum-without, sum-set, channels-less, channels-more, length-without}
 use Rattle.rows.specs.declared.Channel.{Channel}
-use Rattle.kernel.specs.Definition.Tables.{SEGMENT, classAt, countOf, sharing, lastRow, withChannels}
+use Rattle.kernel.specs.Definition.Tables.{countOf, sharing, withChannels}
 use Rattle.kernel.specs.Definition.Line.{totalOf, grown, roomFor, opening, closing}
 use Rattle.kernel.specs.Definition.Good.{Good}
 use Rattle.kernel.specs.Within.{spare}
-use Rattle.kernel.specs.Laws.Body.{Body, body, whole, last-known, first-class, body-channels, keeps-total}
+use Rattle.kernel.specs.Laws.Body.{Body, body, whole, body-channels, keeps-total}
 use Rattle.kernel.specs.Laws.Facts.{no-shorter}
 use Rattle.kernel.specs.Laws.Grow.{grown-body, grown-held, grown-rest}
 use Rattle.kernel.specs.Laws.Room.{shares-no, line-sum, room-in-bytes}

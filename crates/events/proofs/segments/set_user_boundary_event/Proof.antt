@@ -1,5 +1,4 @@
 -- `events::segments::set_user_boundary_event` meets its contract.
-use mathlib.Core.Path.{refl}
 use Rattle.kernel.specs.Definition.Calls.{set-user-boundary}
 use Rattle.kernel.specs.Definition.Step.{heard}
 use Rattle.events.proofs.Laws.{bad-call, quiet}

@@ -1,5 +1,4 @@
 -- `events::system::default_event` meets its contract.
-use mathlib.Core.Path.{refl}
 use Rattle.kernel.specs.Definition.Calls.{default}
 use Rattle.kernel.specs.Definition.Step.{heard}
 use Rattle.events.proofs.Laws.{bad-call, quiet}

@@ -1,5 +1,4 @@
 -- `Tables::allocate_good` meets its contract.
-use mathlib.Core.Path.{_∙_}
 use Rattle.kernel.proofs.Allocating.{allocate-caller, allocate-free, allocate-device, allocate-shared, allocate-edge, allocate-share, last-of, last-below}
 use borrow.Author.Needs.{needs}
 use Rattle.kernel.proofs.Tables.allocate_good.Statement.{statement}

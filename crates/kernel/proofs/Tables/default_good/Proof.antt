@@ -1,5 +1,4 @@
 -- `Tables::default_good` meets its contract.
-use mathlib.Core.Path.{_∙_}
 use Rattle.kernel.proofs.Defaulting.{default-refused, default-done}
 use borrow.Author.Needs.{needs}
 use Rattle.kernel.proofs.Tables.default_good.Statement.{statement}

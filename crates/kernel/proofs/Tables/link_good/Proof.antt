@@ -1,5 +1,5 @@
 -- `Tables::link_good` meets its contract.
-use mathlib.Core.Path.{_≡_, refl, ap, _∙_}
+use mathlib.Core.Path.{_≡_, ap, _∙_}
 use borrow.Author.Needs.{needs}
 use Rattle.kernel.specs.Definition.Line.{totalOf}
 use Rattle.kernel.specs.Definition.Devices.{linking, deviceNamed}

@@ -1,5 +1,4 @@
 -- `Tables::open_good` meets its contract.
-use mathlib.Core.Path.{refl}
 use native.Mathlib.Omega.{arith}
 use borrow.Author.Needs.{needs}
 use Rattle.kernel.proofs.Refusing.{refused}

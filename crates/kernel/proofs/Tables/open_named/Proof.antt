@@ -1,5 +1,4 @@
 -- `Tables::open_named` meets its contract.
-use mathlib.Core.Path.{refl}
 use borrow.Author.Needs.{needs}
 use Rattle.kernel.proofs.Refusing.{refused}
 use Rattle.kernel.proofs.Opening.{onward, named-none, letters-few, named-to}

@@ -1,5 +1,4 @@
 -- `Tables::set_user_boundary_good` meets its contract.
-use mathlib.Core.Path.{_∙_}
 use Rattle.kernel.proofs.Allocating.{bound-none, bound-above, bound-done}
 use borrow.Author.Needs.{needs}
 use Rattle.kernel.proofs.Tables.set_user_boundary_good.Statement.{statement}
