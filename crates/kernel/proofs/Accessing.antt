@@ -11,10 +11,11 @@ use Rattle.line.specs.Definition.Ram.{putAt, filled}
 use Rattle.line.specs.Definition.Lent.{lentAt, partOf}
 use Rattle.line.specs.declared.Lent.{Lent}
 use Rattle.line.specs.declared.Lent.the-variants.{Nothing}
+use Rattle.line.specs.Definition.Guard.{guarded}
 use Rattle.rows.specs.Definition.Lists.{firstOf}
 use Rattle.kernel.specs.Definition.Tables.{rowOf, channelAt}
 use Rattle.kernel.specs.Definition.Line.{sizeAt, bufferAt}
-use Rattle.kernel.specs.Definition.Segments.{mayReach, reachOf, guarded}
+use Rattle.kernel.specs.Definition.Segments.{mayReach, reachOf}
 use Rattle.kernel.specs.Definition.Answers.{gives}
 use Rattle.kernel.specs.Definition.Calls.{onRead, onWrite, onStore, onLoad}
 use Rattle.kernel.specs.Definition.Step.{completed, result, readyTest}

@@ -28,6 +28,8 @@ impl Answer {
             Answer::BadFlags => 15,
             Answer::BadStart => 16,
             Answer::Shared(_, _) => 17,
+            Answer::BadModule => 19,
+            Answer::BadPage => 20,
         }
     }
 

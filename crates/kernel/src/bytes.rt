@@ -7,7 +7,7 @@ ghost use lib.ListN.{length};
 ghost use Rattle.kernel.specs.Definition.Tables.{ramSize};
 ghost use Rattle.kernel.specs.Definition.Good.{Good};
 ghost use Rattle.kernel.specs.Definition.Line.{sizeAt, bufferAt};
-ghost use Rattle.kernel.specs.Definition.Segments.{mayReach, reachOf, guarded};
+ghost use Rattle.kernel.specs.Definition.Segments.{mayReach, reachOf};
 ghost use Rattle.kernel.specs.Definition.Calls.{onRead, onWrite, onStore, onLoad};
 ghost use Rattle.kernel.specs.Definition.Calls as calls;
 ghost use Rattle.kernel.specs.Definition.Step.{step, completed, result};
@@ -17,6 +17,7 @@ use super::Outcome;
 use super::Tables;
 use line::Lent;
 use line::get;
+use line::guard::guards;
 use line::lend;
 use line::lent_at;
 use line::put;
@@ -276,13 +277,4 @@ fn beyond(n: usize, from: usize, count: usize) -> bool
     ensures { λ r. ⌜ r ≡ ltb n (from + count) ⌝ }
 {
     (n < from) | (less(n, from) < count)
-}
-
-// A store of `count` bytes from offset `from` of this row on touches a guarded byte.
-fn guards(row: usize, from: usize, count: usize) -> bool
-    requires { ⌜ from + count ≤ 16384 ⌝ }
-    ensures { λ r. ⌜ r ≡ guarded row from count ⌝ }
-{
-    let end = from + count;
-    (row == 0) & (0 < count) & (((from < 61) & (48 < end)) | ((from < 92) & (63 < end)))
 }

@@ -1,4 +1,4 @@
-// The kernel of document 01: its tables, its answers and its calls.
+// The kernel of document 01, with order 3 of document 02: its tables, its answers and its calls.
 use rows::Channel;
 use rows::Device;
 
@@ -42,7 +42,7 @@ pub struct Tables {
     pub unit: u8,
 }
 
-// The answers of document 01, in the order of their numbers.
+// The answers of documents 01 and 02, in the order of their numbers.
 pub enum Answer {
     Done(u8, u16), // 0
     BadTables, // 1 TABLES
@@ -62,6 +62,8 @@ pub enum Answer {
     BadFlags, // 15 FLAGS
     BadStart, // 16 START
     Shared(u8, u16), // 17 SHARED
+    BadModule, // 19 MODULE
+    BadPage, // 20 PAGE
 }
 
 // The answer with the next tables.

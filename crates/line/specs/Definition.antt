@@ -2,3 +2,4 @@
 pub mod Ram
 pub mod Line
 pub mod Lent
+pub mod Guard

@@ -8,6 +8,7 @@ ghost use Rattle.line.specs.Definition.Line.{placeOf, lineFrom, putLine,
 ghost use Rattle.line.specs.Within.Runs.{runUpTo};
 ghost use Rattle.line.specs.Definition.Lent.{lentAt, partOf};
 
+pub mod guard;
 pub mod ram;
 mod runs;
 

@@ -1,4 +1,4 @@
--- The answers: 01's number and values for each; what a call decides; and the rule that the lowest number wins.
+-- The answers: 01's and 02's number and values for each; what a call decides; and the rule that the lowest number wins.
 use mathlib.Core.Bool.{Bool, cond, _||_}
 use mathlib.Core.List.{List, [], _∷_}
 use Prim.Native.Nat.{ℕ}
@@ -6,7 +6,7 @@ use lib.Dec.{eqb}
 use Rattle.kernel.specs.Definition.Bytes.{Change, nothing, Filling, unfilled}
 use Rattle.kernel.specs.declared.Tables.{Tables}
 use Rattle.kernel.specs.declared.Answer.{Answer}
-use Rattle.kernel.specs.declared.Answer.the-variants.{Done, BadTables, BadCall, NoChannel, Exists, BadName, NoDevice, Driver, Full, NoRoom, NoSegment, NotOwner, BadBoundary, BadRange, Guarded, BadFlags, BadStart, Shared}
+use Rattle.kernel.specs.declared.Answer.the-variants.{Done, BadTables, BadCall, NoChannel, Exists, BadName, NoDevice, Driver, Full, NoRoom, NoSegment, NotOwner, BadBoundary, BadRange, Guarded, BadFlags, BadStart, Shared, BadModule, BadPage}
 use Rattle.kernel.specs.declared.Outcome.{Outcome}
 
 abbrev pub numberOf : Answer → ℕ
@@ -28,6 +28,8 @@ numberOf Guarded = 14
 numberOf BadFlags = 15
 numberOf BadStart = 16
 numberOf (Shared a b) = 17
+numberOf BadModule = 19
+numberOf BadPage = 20
 
 -- "A refusal gives a = b = 0 but for DRIVER"; "a is that status"
 abbrev pub aOf : Answer → ℕ
@@ -49,6 +51,8 @@ aOf Guarded = 0
 aOf BadFlags = 0
 aOf BadStart = 0
 aOf (Shared a b) = a
+aOf BadModule = 0
+aOf BadPage = 0
 
 abbrev pub bOf : Answer → ℕ
 bOf (Done a b) = b
@@ -69,6 +73,8 @@ bOf Guarded = 0
 bOf BadFlags = 0
 bOf BadStart = 0
 bOf (Shared a b) = b
+bOf BadModule = 0
+bOf BadPage = 0
 
 -- "0 is done. 17 SHARED is a grant": the call was done, and not refused
 abbrev pub granted : Answer → Bool

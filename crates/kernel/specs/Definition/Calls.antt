@@ -6,6 +6,10 @@ use mathlib.Core.Option.{Option, none, some}
 use Prim.Native.Nat.{ℕ, _+_, _-_}
 use lib.Dec.{leb, ltb, eqb}
 use lib.ListN.{length}
+use Rattle.line.specs.Definition.Guard.{guarded}
+use Rattle.modules.specs.Definition.Counter.{counter}
+use Rattle.modules.specs.Definition.Judging.{judged, storedBy, refusalOf, usedOf}
+use Rattle.modules.specs.declared.Target.{Target}
 use Rattle.names.specs.Definition.Grammar.{Reading}
 use Rattle.names.specs.Definition.Read.{reading}
 use Rattle.names.specs.Definition.Tests.{linkNameTest, defaultNameTest}
@@ -13,16 +17,16 @@ use Rattle.names.specs.Definition.Words.{wordOf}
 use Rattle.rows.specs.Definition.Channels.{newChannel}
 use Rattle.kernel.specs.Definition.Tables.{SEGMENT, numberAt, rowOf, lowestFree, sharing, lastRow, channelAt, withDefault}
 use Rattle.kernel.specs.Definition.Line.{totalOf, sizeAt, boundaryOf, roomFor, opening, closing}
-use Rattle.kernel.specs.Definition.Segments.{someFree, mayShare, granting, sharingLast, mayFree, freeing, bounding, mayReach, reachOf, guarded}
+use Rattle.kernel.specs.Definition.Segments.{someFree, mayShare, granting, sharingLast, mayFree, freeing, bounding, mayReach, reachOf}
 use Rattle.kernel.specs.Definition.Devices.{linking, deviceNamed}
 use Rattle.kernel.specs.Definition.Reset.{otherBits, resetting}
 use Rattle.kernel.specs.Definition.Start.{startTest, started}
 use Rattle.kernel.specs.Definition.Names.{wanted, deviceFor}
 use Rattle.kernel.specs.declared.Wanted.{Wanted}
-use Rattle.kernel.specs.Definition.Bytes.{nothing, zeroed, cleared, appended, removed, moved, in-buffer, in-segment, these, from-buffer, from-segment, countsOf}
+use Rattle.kernel.specs.Definition.Bytes.{nothing, zeroed, cleared, appended, removed, moved, in-buffer, in-segment, one-by-one, these, from-buffer, from-segment, countsOf}
 use Rattle.kernel.specs.Definition.Answers.{gives, Decision, _changing_, _filling_, unless, _when_}
 use Rattle.kernel.specs.declared.Tables.{Tables}
-use Rattle.kernel.specs.declared.Answer.the-variants.{Done, BadCall, NoChannel, Exists, BadName, NoDevice, Driver, Full, NoRoom, NoSegment, NotOwner, BadBoundary, BadRange, Guarded, BadFlags, BadStart, Shared}
+use Rattle.kernel.specs.declared.Answer.the-variants.{Done, BadCall, NoChannel, Exists, BadName, NoDevice, Driver, Full, NoRoom, NoSegment, NotOwner, BadBoundary, BadRange, Guarded, BadFlags, BadStart, Shared, BadModule, BadPage}
 
 pub data Call : Type 0 where
   start : (room : ℕ) (list : List ℕ) → Call
@@ -41,6 +45,8 @@ pub data Call : Type 0 where
   free : (caller segment : ℕ) → Call
   store : (segment offset : ℕ) (bytes : List ℕ) → Call
   load : (segment offset size : ℕ) → Call
+  -- "segment u8, start page u8 (0 to 3), start offset u16 (0 to 16,384), then the stream" (order 3)
+  load-module : (segment page offset : ℕ) (stream : List ℕ) → Call
   -- no call: "kind unknown; body short of its fixed fields, or longer without name, data or list"
   no-call : Call
   -- a start whose body is short of its fixed field
@@ -62,6 +68,7 @@ isStart (allocate caller) = false
 isStart (free caller segment) = false
 isStart (store segment offset bytes) = false
 isStart (load segment offset size) = false
+isStart (load-module segment page offset stream) = false
 isStart no-call = false
 isStart short-start = true
 
@@ -209,3 +216,25 @@ onLoad t output segment offset size =
     ∷ BadRange when (ltb (reachOf t row) (offset + size) || ltb output size)
     ∷ []) t
     (gives (Done 0 size) t filling from-segment row offset size)
+
+-- where a module goes: "Stores go where the user may store."
+abbrev pub targetOf : Tables → (row page : ℕ) → Target
+targetOf t row page = record { row = row; reach = reachOf t row; page = page }
+
+-- order 3: "CALL also for a start page or offset past its range; OWNER for the segment"; then what the first item at fault is refused for, which is one
+-- number: "19 MODULE ..; 20 PAGE ..; then RANGE ..; GUARD". "b is the bytes used, a is 0."
+unfoldable pub onLoadModule : Tables → (segment page offset : ℕ) (stream : List ℕ) → Decision
+unfolding judged
+onLoadModule t segment page offset stream =
+    let row = rowOf t segment in
+    let target = targetOf t row page in
+    let verdict = judged target (counter page offset) stream in
+    unless
+    (BadCall when (ltb 3 page || ltb SEGMENT offset)
+    ∷ NotOwner when not (mayReach t row)
+    ∷ BadRange when eqb (refusalOf verdict) 13
+    ∷ Guarded when eqb (refusalOf verdict) 14
+    ∷ BadModule when eqb (refusalOf verdict) 19
+    ∷ BadPage when eqb (refusalOf verdict) 20
+    ∷ []) t
+    (gives (Done 0 (usedOf verdict)) t changing one-by-one row (storedBy target (counter page offset) stream))

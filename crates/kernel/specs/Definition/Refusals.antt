@@ -6,6 +6,12 @@ use mathlib.Core.Logic.{_≢_, _⊎_}
 use mathlib.Core.List.{List}
 use Prim.Native.Nat.{ℕ, _+_, _-_, _*_, _/_, _%_, _^_, _≤_, _<_}
 use lib.ListN.{length, getD}
+use Rattle.line.specs.Definition.Guard.{GuardedByte}
+use Rattle.modules.specs.Definition.Reading.{streamBits}
+use Rattle.modules.specs.Definition.Counter.{counter}
+use Rattle.modules.specs.Definition.Faults.{Refused}
+use Rattle.modules.specs.declared.Judged.{Judged}
+use Rattle.modules.specs.declared.Judged.the-variants.{Module, Page, Range, Guard}
 use Rattle.names.specs.Definition.Grammar.{Reading, Reads}
 use Rattle.names.specs.Definition.Words.{LinkName, DefaultName}
 use Rattle.rows.specs.Definition.Lists.{padded}
@@ -20,7 +26,7 @@ use Rattle.kernel.specs.Definition.Line.{totalOf, sizeAt, boundaryOf}
 use Rattle.kernel.specs.Definition.Segments.{reachOf}
 use Rattle.kernel.specs.Definition.Names.{wanted}
 use Rattle.kernel.specs.declared.Wanted.{Wanted}
-use Rattle.kernel.specs.Definition.Calls.{Call, start, reset, «open», close, read, write, default, status, link, set-user-boundary, allocate, free, store, load, no-call, short-start, isStart}
+use Rattle.kernel.specs.Definition.Calls.{Call, start, reset, «open», close, read, write, default, status, link, set-user-boundary, allocate, free, store, load, load-module, no-call, short-start, isStart, targetOf}
 use Rattle.kernel.specs.declared.Tables.{Tables}
 
 -- the channel is open, and its row is i
@@ -64,16 +70,14 @@ pub data GivesBack : (caller class : ℕ) → Type 0 where
 abbrev pub Reached : Tables → ℕ → Type 0
 Reached t row = (row ≡ 0) ⊎ ((classAt t row ≡ USER) ⊎ (classAt t row ≡ SHARED))
 
--- "30h to 5Bh, save 3Dh and 3Eh"
-pub record GuardedByte (offset : ℕ) : Type 0 where
-  pub from : 48 ≤ offset
-  pub to : offset ≤ 91
-  pub save : (offset ≢ 61) × (offset ≢ 62)
-
 -- "a bit other than 4, 5, 6"
 pub record OtherBit (flags k : ℕ) : Type 0 where
   pub other : (k ≢ 4) × (k ≢ 5) × (k ≢ 6)
   pub set : flags / 2 ^ k % 2 ≡ 1
+
+-- order 3: "The first item at fault decides; at one item that order": what the stream is refused for in the segment of this row, which is one number at most
+abbrev pub ModuleRefused : Tables → (row page offset : ℕ) (stream : List ℕ) → Judged → Type 0
+ModuleRefused t row page offset stream verdict = Refused (targetOf t row page) (counter page offset) (streamBits stream) verdict
 
 abbrev pub NotStart : Call → Type 0
 NotStart c = isStart c ≡ false
@@ -88,6 +92,9 @@ pub data Row (t : Tables) (ram output : ℕ) : (c : Call) (k : ℕ) → Type 0 w
   start-short : Row t ram output short-start 2
   allocate-caller : {caller : ℕ} → 1 < caller → Row t ram output (allocate caller) 2
   free-caller : {caller segment : ℕ} → 1 < caller → Row t ram output (free caller segment) 2
+  -- order 3: "CALL also for a start page or offset past its range"
+  module-start-page : {segment page offset : ℕ} {stream : List ℕ} → 3 < page → Row t ram output (load-module segment page offset stream) 2
+  module-start-offset : {segment page offset : ℕ} {stream : List ℕ} → SEGMENT < offset → Row t ram output (load-module segment page offset stream) 2
   -- 3 CHANNEL: "255, or not open (open: 255 only)"; no u8 is beyond 255
   open-channel : {channel driver n : ℕ} {name : List ℕ} → 255 ≤ channel → Row t ram output («open» channel driver n name) 3
   close-channel : {channel : ℕ} → NotOpen t channel → Row t ram output (close channel) 3
@@ -117,6 +124,8 @@ pub data Row (t : Tables) (ram output : ℕ) : (c : Call) (k : ℕ) → Type 0 w
   free-owner : {caller segment : ℕ} → ((row : ℕ) → InList t segment row → ¬ GivesBack caller (classAt t row)) → Row t ram output (free caller segment) 11
   store-owner : {segment offset : ℕ} {bytes : List ℕ} → ((row : ℕ) → InList t segment row → ¬ Reached t row) → Row t ram output (store segment offset bytes) 11
   load-owner : {segment offset size : ℕ} → ((row : ℕ) → InList t segment row → ¬ Reached t row) → Row t ram output (load segment offset size) 11
+  module-owner : {segment page offset : ℕ} {stream : List ℕ} → ((row : ℕ) → InList t segment row → ¬ Reached t row)
+      → Row t ram output (load-module segment page offset stream) 11
   -- 12 BOUNDARY: "nothing shared, or value above the EXOS boundary"
   bound-none : {value : ℕ} → ¬ HasClass t SHARED → Row t ram output (set-user-boundary value) 12
   bound-above : {value : ℕ} → boundaryOf t < value → Row t ram output (set-user-boundary value) 12
@@ -128,6 +137,11 @@ pub data Row (t : Tables) (ram output : ℕ) : (c : Call) (k : ℕ) → Type 0 w
   store-end : {segment offset row : ℕ} {bytes : List ℕ} → InList t segment row → reachOf t row < offset + length bytes → Row t ram output (store segment offset bytes) 13
   load-end : {segment offset size row : ℕ} → InList t segment row → reachOf t row < offset + size → Row t ram output (load segment offset size) 13
   load-output : {segment offset size : ℕ} → output < size → Row t ram output (load segment offset size) 13
+  -- order 3: "then RANGE above the user boundary; GUARD", of the first item at fault (13 and 14)
+  module-range : {segment page offset row : ℕ} {stream : List ℕ} → InList t segment row → ModuleRefused t row page offset stream Range
+      → Row t ram output (load-module segment page offset stream) 13
+  module-guard : {segment page offset row : ℕ} {stream : List ℕ} → InList t segment row → ModuleRefused t row page offset stream Guard
+      → Row t ram output (load-module segment page offset stream) 14
   -- 14 GUARD: "store touches page zero 30h to 5Bh, save 3Dh and 3Eh"
   store-guard : {segment offset k : ℕ} {bytes : List ℕ} → InList t segment 0 → offset ≤ k → k < offset + length bytes → GuardedByte k
       → Row t ram output (store segment offset bytes) 14
@@ -138,3 +152,9 @@ pub data Row (t : Tables) (ram output : ℕ) : (c : Call) (k : ℕ) → Type 0 w
   start-low : {room : ℕ} {list : List ℕ} → room < 256 → Row t ram output (start room list) 16
   start-high : {room : ℕ} {list : List ℕ} → 16128 < room → Row t ram output (start room list) 16
   start-ram : {room : ℕ} {list : List ℕ} → ram ≢ SEGMENT * length list → Row t ram output (start room list) 16
+  -- 19 MODULE: "for an illegal item, input that runs out or bad padding"
+  module-bad : {segment page offset row : ℕ} {stream : List ℕ} → InList t segment row → ModuleRefused t row page offset stream Module
+      → Row t ram output (load-module segment page offset stream) 19
+  -- 20 PAGE: "for a move or store outside the page"
+  module-page : {segment page offset row : ℕ} {stream : List ℕ} → InList t segment row → ModuleRefused t row page offset stream Page
+      → Row t ram output (load-module segment page offset stream) 20

@@ -1,6 +1,6 @@
 -- "Who may have a segment": allocate, free, the user boundary, and what the user may store and load.
 use mathlib.Core.Bool.{Bool, cond, not, _&&_, _||_}
-use Prim.Native.Nat.{ℕ, _+_}
+use Prim.Native.Nat.{ℕ}
 use lib.Dec.{ltb, eqb}
 use lib.ListN.{set}
 use Rattle.rows.specs.Definition.Classes.{FREE, USER, SYSTEM, DEVICE, SHARED}
@@ -49,7 +49,3 @@ mayReach t row = ltb row (t .segments) && (eqb row 0 || eqb (classAt t row) USER
 
 abbrev pub reachOf : Tables → ℕ → ℕ
 reachOf t row = cond (eqb (classAt t row) SHARED) (t .user) SEGMENT
-
--- "store touches page zero 30h to 5Bh, save 3Dh and 3Eh": n bytes from this offset of this row do. 30h is 48, 3Dh 61, 3Fh 63, and 5Bh 91
-abbrev pub guarded : (row offset n : ℕ) → Bool
-guarded row offset n = eqb row 0 && ltb 0 n && ((ltb offset 61 && ltb 48 (offset + n)) || (ltb offset 92 && ltb 63 (offset + n)))

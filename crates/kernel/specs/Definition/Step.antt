@@ -8,7 +8,7 @@ use Rattle.kernel.specs.Definition.Tables.{ramSize}
 use Rattle.kernel.specs.Definition.Good.{goodTest}
 use Rattle.kernel.specs.Definition.Bytes.{nothing, ramAfter, outputAfter}
 use Rattle.kernel.specs.Definition.Answers.{gives, Decision, _changing_, unless, _when_}
-use Rattle.kernel.specs.Definition.Calls.{Call, start, reset, «open», close, read, write, default, status, link, boundary, set-user-boundary, allocate, free, store, load, no-call, short-start, isStart, onStart, onReset, onOpen, onClose, onRead, onWrite, onDefault, onStatus, onLink, onBoundary, onSetUserBoundary, onAllocate, onFree, onStore, onLoad}
+use Rattle.kernel.specs.Definition.Calls.{Call, start, reset, «open», close, read, write, default, status, link, boundary, set-user-boundary, allocate, free, store, load, load-module, no-call, short-start, isStart, onStart, onReset, onOpen, onClose, onRead, onWrite, onDefault, onStatus, onLink, onBoundary, onSetUserBoundary, onAllocate, onFree, onStore, onLoad, onLoadModule}
 use Rattle.kernel.specs.declared.Tables.{Tables}
 use Rattle.kernel.specs.declared.Answer.{Answer}
 use Rattle.kernel.specs.declared.Answer.the-variants.{BadTables, BadCall}
@@ -20,7 +20,7 @@ readyTest t ram = goodTest t && eqb ram (ramSize t)
 
 -- what a call that is heard decides
 unfoldable pub heard : Tables → (ram output : ℕ) → Call → Decision
-unfolding onStart onReset onOpen onClose onRead onWrite onDefault onStatus onLink onBoundary onSetUserBoundary onAllocate onFree onStore onLoad
+unfolding onStart onReset onOpen onClose onRead onWrite onDefault onStatus onLink onBoundary onSetUserBoundary onAllocate onFree onStore onLoad onLoadModule
 heard t ram output (start room list) = onStart t ram room list
 heard t ram output (reset flags) = onReset t flags
 heard t ram output («open» channel driver n name) = onOpen t channel driver n name
@@ -36,6 +36,7 @@ heard t ram output (allocate caller) = onAllocate t caller
 heard t ram output (free caller segment) = onFree t caller segment
 heard t ram output (store segment offset bytes) = onStore t segment offset bytes
 heard t ram output (load segment offset size) = onLoad t output segment offset size
+heard t ram output (load-module segment page offset stream) = onLoadModule t segment page offset stream
 heard t ram output no-call = gives BadCall t changing nothing
 heard t ram output short-start = gives BadCall t changing nothing
 

@@ -25,7 +25,7 @@ use Rattle.kernel.specs.Definition.Calls.{Call}
 use Rattle.kernel.specs.Definition.Good.{Good}
 use Rattle.kernel.specs.Laws.Grow.{grown-rest}
 use Rattle.kernel.specs.Laws.Shrink.{shrunk-rest}
-use Rattle.kernel.specs.Laws.Effects.{Effect, resets, opens, closes, reads, writes, names, counts, links, tells, bounds, grants, shares, frees, stores, loads}
+use Rattle.kernel.specs.Laws.Effects.{Effect, resets, opens, closes, reads, writes, names, counts, links, tells, bounds, grants, shares, frees, stores, loads, loads-module}
 use Rattle.kernel.specs.declared.Tables.{Tables}
 
 -- the list of segments stays
@@ -135,3 +135,4 @@ effect-listed (shares s) = record { segments = refl; list = refl }
 effect-listed {t} (frees {caller} {segment} h o) = freeing-listed t (rowOf t segment)
 effect-listed (stores m h) = record { segments = refl; list = refl }
 effect-listed (loads m h) = record { segments = refl; list = refl }
+effect-listed (loads-module b m h) = record { segments = refl; list = refl }

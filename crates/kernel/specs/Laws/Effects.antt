@@ -8,6 +8,10 @@ use Prim.Native.Nat.{ℕ, _+_, _-_, _≤_, _<_}
 use borrow.Author.Tests.{ltb-true, ltb-false, leb-false, eqb-true, eqb-false, not-true, not-false}
 use lib.Dec.{eqb, ltb, leb}
 use lib.ListN.{length}
+use Rattle.line.specs.Definition.Guard.{guarded}
+use Rattle.modules.specs.Definition.Counter.{counter}
+use Rattle.modules.specs.Definition.Judging.{judged, storedBy, refusalOf, usedOf}
+use Rattle.modules.specs.Laws.Stored.{Below, stored-below, none-refuses}
 use Rattle.names.specs.Definition.Grammar.{Reading}
 use Rattle.names.specs.Definition.Read.{reading}
 use Rattle.names.specs.Definition.Tests.{linkNameTest, defaultNameTest}
@@ -20,15 +24,15 @@ use Rattle.rows.specs.Definition.Channels.{newChannel}
 use Rattle.rows.specs.declared.Channel.{Channel}
 use Rattle.kernel.specs.Definition.Tables.{SEGMENT, numberAt, classAt, rowOf, lowestFree, sharing, lastRow, channelAt, withDefault}
 use Rattle.kernel.specs.Definition.Line.{totalOf, sizeAt, boundaryOf, roomFor, opening, closing}
-use Rattle.kernel.specs.Definition.Segments.{classFor, someFree, mayShare, mayFree, granting, sharingLast, freeing, bounding, mayReach, reachOf, guarded}
+use Rattle.kernel.specs.Definition.Segments.{classFor, someFree, mayShare, mayFree, granting, sharingLast, freeing, bounding, mayReach, reachOf}
 use Rattle.kernel.specs.Definition.Devices.{linking, deviceNamed}
 use Rattle.kernel.specs.Definition.Reset.{otherBits, resetting}
 use Rattle.kernel.specs.Definition.Start.{startTest, started}
 use Rattle.kernel.specs.Definition.Names.{wanted, deviceFor}
 use Rattle.kernel.specs.declared.Wanted.{Wanted}
-use Rattle.kernel.specs.Definition.Bytes.{nothing, zeroed, cleared, appended, removed, moved, in-buffer, in-segment, these, from-buffer, from-segment, countsOf}
+use Rattle.kernel.specs.Definition.Bytes.{nothing, zeroed, cleared, appended, removed, moved, in-buffer, in-segment, one-by-one, these, from-buffer, from-segment, countsOf}
 use Rattle.kernel.specs.Definition.Answers.{numberOf, aOf, bOf, granted, gives, Decision, _changing_, _filling_}
-use Rattle.kernel.specs.Definition.Calls.{Call, start, reset, «open», close, read, write, default, status, link, boundary, set-user-boundary, allocate, free, store, load, no-call, short-start, isStart, onStart, onReset, onOpenTo, onOpenNamed, onOpen, onClose, onRead, onWrite, onDefault, onStatus, onLink, onBoundary, onSetUserBoundary, onAllocate, onFree, onStore, onLoad}
+use Rattle.kernel.specs.Definition.Calls.{Call, start, reset, «open», close, read, write, default, status, link, boundary, set-user-boundary, allocate, free, store, load, load-module, no-call, short-start, isStart, targetOf, onStart, onReset, onOpenTo, onOpenNamed, onOpen, onClose, onRead, onWrite, onDefault, onStatus, onLink, onBoundary, onSetUserBoundary, onAllocate, onFree, onStore, onLoad, onLoadModule}
 use Rattle.kernel.specs.Definition.Step.{readyTest, heard, decided}
 use Rattle.kernel.specs.declared.Tables.{Tables}
 use Rattle.kernel.specs.declared.Answer.{Answer}
@@ -81,6 +85,10 @@ pub data Effect (t : Tables) : Call → Decision → Type 0 where
       → Effect t (store segment offset bytes) (gives (Done 0 (length bytes)) t changing in-segment (rowOf t segment) offset bytes)
   loads : {segment offset size : ℕ} → mayReach t (rowOf t segment) ≡ true → offset + size ≤ reachOf t (rowOf t segment)
       → Effect t (load segment offset size) (gives (Done 0 size) t filling from-segment (rowOf t segment) offset size)
+  loads-module : {segment page offset : ℕ} {stream : List ℕ} (b : ℕ) → mayReach t (rowOf t segment) ≡ true
+      → Below (reachOf t (rowOf t segment)) (storedBy (targetOf t (rowOf t segment) page) (counter page offset) stream)
+      → Effect t (load-module segment page offset stream)
+      (gives (Done 0 b) t changing one-by-one (rowOf t segment) (storedBy (targetOf t (rowOf t segment) page) (counter page offset) stream))
 
 -- of a call on the tables t with `ram` bytes lent
 pub data Verdict (t : Tables) (ram : ℕ) : Call → Decision → Type 0 where
@@ -135,7 +143,7 @@ module _ (t : Tables) (ram : ℕ) where
   freed caller row false e m = inr (eqb-true _ _ (and-right (eqb caller 0) _ m))
 
   heard-verdict : (output : ℕ) (c : Call) → Verdict t ram c (heard t ram output c)
-  unfolding heard onStart onReset onOpen onClose onRead onWrite onDefault onStatus onLink onBoundary onSetUserBoundary onAllocate onFree onStore onLoad
+  unfolding heard onStart onReset onOpen onClose onRead onWrite onDefault onStatus onLink onBoundary onSetUserBoundary onAllocate onFree onStore onLoad onLoadModule
   heard-verdict output (start room list) = past (not (startTest ram room list)) _ refl (λ e. starts (not-false _ e))
   heard-verdict output (reset flags) = past (otherBits flags) _ refl (λ _. does refl resets)
   heard-verdict output («open» channel driver n name) =
@@ -180,6 +188,17 @@ module _ (t : Tables) (ram : ℕ) where
       past (not (mayReach t (rowOf t segment))) _ refl (λ e.
       past (ltb (reachOf t (rowOf t segment)) (offset + size) || ltb output size) _ refl (λ f.
       does refl (loads (not-false _ e) (ltb-false _ _ (or-left _ (ltb output size) f)))))
+  heard-verdict output (load-module segment page offset stream) =
+      let target = targetOf t (rowOf t segment) page in
+      let k = refusalOf (judged target (counter page offset) stream) in
+      past (ltb 3 page || ltb SEGMENT offset) _ refl (λ _.
+      past (not (mayReach t (rowOf t segment))) _ refl (λ e.
+      past (eqb k 13) _ refl (λ range.
+      past (eqb k 14) _ refl (λ guard.
+      past (eqb k 19) _ refl (λ bad.
+      past (eqb k 20) _ refl (λ out.
+      does refl (loads-module (usedOf (judged target (counter page offset) stream)) (not-false _ e)
+      (stored-below target (counter page offset) stream (none-refuses (judged target (counter page offset) stream) range guard bad out)))))))))
   heard-verdict output no-call = refuses _ (plain-is _ refl)
   heard-verdict output short-start = refuses _ (plain-is _ refl)
 

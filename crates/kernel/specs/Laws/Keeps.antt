@@ -24,7 +24,7 @@ use Rattle.kernel.specs.Laws.KeptLine.{opening-keeps, closing-keeps}
 use Rattle.kernel.specs.Laws.KeptSegments.{class-outside, granting-keeps, sharing-keeps, freeing-shared, freeing-outside, bounding-keeps}
 use Rattle.kernel.specs.Laws.KeptNames.{linking-keeps, naming-keeps}
 use Rattle.kernel.specs.Laws.KeptReset.{resetting-keeps, start-good}
-use Rattle.kernel.specs.Laws.Effects.{Effect, resets, opens, closes, reads, writes, names, counts, links, tells, bounds, grants, shares, frees, stores, loads, Verdict, bars, drives, refuses, starts, does, verdict}
+use Rattle.kernel.specs.Laws.Effects.{Effect, resets, opens, closes, reads, writes, names, counts, links, tells, bounds, grants, shares, frees, stores, loads, loads-module, Verdict, bars, drives, refuses, starts, does, verdict}
 use Rattle.kernel.specs.declared.Tables.{Tables}
 use Rattle.kernel.specs.declared.Answer.the-variants.{Done, BadStart}
 
@@ -48,6 +48,7 @@ effect-keeps {t} g (frees {caller} {segment} h (inl e)) = freeing-outside t (row
 effect-keeps {t} g (frees {caller} {segment} h (inr e)) = freeing-shared t (rowOf t segment) g h e
 effect-keeps g (stores m h) = g
 effect-keeps g (loads m h) = g
+effect-keeps g (loads-module b m h) = g
 
 verdict-keeps : {t : Tables} {ram : ℕ} {c : Call} {d : Decision} → Good t → Verdict t ram c d → Good (d .tables)
 verdict-keeps g (bars e) = g

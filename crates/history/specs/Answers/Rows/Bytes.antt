@@ -7,13 +7,14 @@ use native.Mathlib.Decide.{decLe, decLt}
 use native.Mathlib.Omega.{arith}
 use lib.Dec.{ltb}
 use lib.ListN.{length}
+use Rattle.line.specs.Definition.Guard.{GuardedByte, guarded}
 use Rattle.rows.specs.Definition.Classes.{USER, SHARED}
 use Rattle.rows.specs.Laws.Says.{Says, says-lt, says-eq, says-and, says-or, says-not, says-as}
 use Rattle.kernel.specs.Definition.Tables.{classAt, rowOf}
 use Rattle.kernel.specs.Definition.Good.{Good}
-use Rattle.kernel.specs.Definition.Segments.{mayReach, reachOf, guarded}
+use Rattle.kernel.specs.Definition.Segments.{mayReach, reachOf}
 use Rattle.kernel.specs.Definition.Calls.{store, load, onStore, onLoad}
-use Rattle.kernel.specs.Definition.Refusals.{Row, InList, Reached, GuardedByte, store-owner, load-owner, store-end, load-end, load-output, store-guard}
+use Rattle.kernel.specs.Definition.Refusals.{Row, InList, Reached, store-owner, load-owner, store-end, load-end, load-output, store-guard}
 use Rattle.kernel.specs.declared.Tables.{Tables}
 use Rattle.kernel.specs.declared.Answer.the-variants.{NotOwner, BadRange, Guarded}
 use Rattle.history.specs.Answers.Lowest.{Below, Lowest, end, rule}

@@ -1,0 +1,2 @@
+-- What the definition says of a stream: what a whole module stores, what is at fault, and that a stream has one reading.
+pub mod Stored

@@ -1,0 +1,3 @@
+-- Relocatable modules: the definition, words for the reader, and laws.
+pub mod Definition
+pub mod Laws
