@@ -1,2 +1,5 @@
 -- What the definition says of a stream: what a whole module stores, what is at fault, and that a stream has one reading.
 pub mod Stored
+pub mod Codes
+pub mod Acts
+pub mod Performs

@@ -1,7 +1,13 @@
-// Relocatable modules, as a stream of bits: the items, and the reader that judges and stores them.
-pub mod reader;
+// Relocatable modules: a stream of bits that holds items, judged and stored by one reader.
+ghost use mathlib.Core.Path.{_≡_};
+ghost use Prim.Native.Nat.{_<_};
 
-// What a module's stream holds before its end item.
+mod bits; // a bit of the stream, and how many an item wants
+mod location; // the location counter: relocation and moves
+mod items; // an item of its bits, and what it does
+pub mod reader; // the reader
+
+// What a stream holds before its end item.
 pub enum Item {
     Byte(u8),
     Word(u16),
@@ -30,4 +36,32 @@ pub enum Judged {
     Page,
     Range,
     Guard,
+}
+
+// Why the reading broke off: the end item, an illegal item, the end of input, or what an item is refused for.
+pub enum Stop {
+    End,
+    Illegal,
+    Exhausted,
+    Page,
+    Range,
+    Guard,
+}
+
+// What comes of an item: the next counter, or a stop.
+pub enum Act {
+    Next(Counter),
+    Halt(Stop),
+}
+
+fn wide(x: u8) -> usize
+    ensures { λ r. ⌜ (r ≡ x) × (r < 256) ⌝ }
+{
+    x as usize
+}
+
+fn wide16(x: u16) -> usize
+    ensures { λ r. ⌜ (r ≡ x) × (r < 65536) ⌝ }
+{
+    x as usize
 }

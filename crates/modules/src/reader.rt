@@ -1,2 +1,122 @@
-// The reader of a module's stream.
+// The reader of a module's stream: it judges the stream, or stores its items.
 ghost use mathlib.Core.Path.{_≡_};
+ghost use Prim.Native.Nat.{_+_, _*_, _%_, _≤_, _<_};
+ghost use lib.ListN.{length, take, drop};
+ghost use Rattle.modules.specs.Definition.Reading.{lookedAt, streamBits};
+ghost use Rattle.modules.specs.Definition.Judging.{judged, zeros};
+ghost use Rattle.modules.specs.Within.Codes.{itemOf};
+ghost use Rattle.modules.specs.Within.Acts.{Counts, Counting, actOf, actPuts, putWhere, settled};
+ghost use Rattle.modules.specs.Within.Scan.{storedBefore};
+use super::Act;
+use super::Counter;
+use super::Judged;
+use super::Stop;
+use super::Target;
+use super::bits::bit;
+use super::bits::wanted;
+use super::items::item_of;
+use super::items::judge_item;
+use super::items::store_where;
+
+// What comes of an item once all its bits are there, and its bytes stored where the reading stores.
+fn perform(code: usize, c: Counter, target: Target, storing: bool, ram: &mut [u8]) -> Act
+    requires { ⌜ (code < 2097152) × Counts c × (target .page ≤ 3) × (16384 * target .row + 16384 ≤ length (now ram)) ⌝ }
+    ensures acts { λ r. ⌜ r ≡ actOf target c code ⌝ }
+    ensures counts { λ r. ⌜ Counting r ⌝ }
+    ensures stores { λ r. ⌜ now (ram .exit) ≡ putWhere storing (16384 * target .row) (now (ram .entry)) (actPuts r c (itemOf code)) ⌝ }
+{
+    if code == 14 {
+        return Act::Halt(Stop::End);
+    }
+    if code == 15 {
+        return Act::Halt(Stop::Illegal);
+    }
+    let item = item_of(code);
+    let act = judge_item(item, c, target);
+    match act {
+        Act::Next(_) => {
+            store_where(storing, ram, 16384 * target.row, c, item);
+        }
+        Act::Halt(_) => {}
+    }
+    act
+}
+
+// How many bytes of the stream are looked at.
+fn looked(stream: &[u8]) -> usize
+    ensures { λ r. ⌜ (r ≡ length (lookedAt (now (stream .entry)))) × (r ≤ 65535) × (r ≤ length (now (stream .entry))) ⌝ }
+{
+    if stream.len() < 65535 {
+        stream.len()
+    } else {
+        65535
+    }
+}
+
+// The bits from a position to the end of its byte are zero.
+fn padded(stream: &[u8], at: usize) -> bool
+    requires { ⌜ at ≤ 8 * length (lookedAt (now stream)) ⌝ }
+    ensures { λ r. ⌜ r ≡ zeros (take (length (drop at (streamBits (now (stream .entry)))) % 8) (drop at (streamBits (now (stream .entry))))) ⌝ }
+{
+    let mut i = at;
+    let mut zero = true;
+    while 0 < i % 8 {
+        zero = zero & (bit(stream, i) == 0);
+        i = i + 1;
+    }
+    zero
+}
+
+// What the stop that the reading yields is judged to be.
+fn settle(stream: &[u8], at: usize, stop: Stop) -> Judged
+    requires { ⌜ at ≤ 8 * length (lookedAt (now stream)) ⌝ }
+    ensures { λ r. ⌜ r ≡ settled (length (lookedAt (now (stream .entry)))) stop (drop at (streamBits (now (stream .entry)))) ⌝ }
+{
+    match stop {
+        Stop::End => {
+            if padded(stream, at) {
+                Judged::Whole(((at + 7) / 8) as u16)
+            } else {
+                Judged::Module
+            }
+        }
+        Stop::Illegal => Judged::Module,
+        Stop::Exhausted => Judged::Module,
+        Stop::Page => Judged::Page,
+        Stop::Range => Judged::Range,
+        Stop::Guard => Judged::Guard,
+    }
+}
+
+// Reads items "until the end item, an illegal item or the end of input breaks off the reading".
+pub fn read(stream: &[u8], start: Counter, target: Target, storing: bool, ram: &mut [u8]) -> Judged
+    requires { ⌜ Counts start × (target .page ≤ 3) × (16384 * target .row + 16384 ≤ length (now ram)) ⌝ }
+    ensures judges { λ r. ⌜ r ≡ judged target start (now (stream .entry)) ⌝ }
+    ensures stores { λ _. ⌜ now (ram .exit) ≡ putWhere storing (16384 * target .row) (now (ram .entry)) (storedBefore target start (now (stream .entry))) ⌝ }
+{
+    let end = 8 * looked(stream);
+    let mut at: usize = 0;
+    let mut c = start;
+    let stop = 'reader: loop {
+        let mut code: usize = 1;
+        let mut left: usize = 1;
+        while 0 < left {
+            if end <= at {
+                break 'reader Stop::Exhausted;
+            }
+            code = 2 * code + bit(stream, at);
+            at = at + 1;
+            left = wanted(code, left - 1);
+        }
+        let act = perform(code, c, target, storing, ram);
+        match act {
+            Act::Next(next) => {
+                c = next;
+            }
+            Act::Halt(why) => {
+                break why;
+            }
+        }
+    };
+    settle(stream, at, stop)
+}

@@ -5,7 +5,7 @@ use Prim.Native.Nat.{ℕ, _+_, _-_, _*_}
 use lib.ListN.{length, take, drop, replicate}
 use Rattle.line.specs.Definition.Line.{lineFrom, putLine, afterOpen, afterClose, afterLink}
 use Rattle.line.specs.Definition.Ram.{putAt, filled}
-use Rattle.modules.specs.Definition.Counter.{Put}
+use Rattle.modules.specs.Definition.Counter.{Put, putEach}
 use Rattle.rows.specs.Definition.Classes.{FREE, USER, SYSTEM, DEVICE, SHARED}
 use Rattle.rows.specs.declared.Channel.{Channel}
 use Rattle.kernel.specs.Definition.Tables.{SEGMENT, countOf}
@@ -58,11 +58,6 @@ ramReset t ram flags =
 abbrev pub segmentAt : ℕ → ℕ
 segmentAt row = SEGMENT * row
 
--- the RAM with one byte put after the other into the segment of a row
-abbrev pub putEach : (row : ℕ) → List ℕ → List Put → List ℕ
-putEach row ram [] = ram
-putEach row ram (put ∷ puts) = putEach row (putAt ram (segmentAt row + put .offset) (put .byte ∷ [])) puts
-
 -- the RAM after a change by a call that was made on the tables t and gave the tables u: an open and a link lie on the chain of u, which may have grown
 unfoldable pub ramAfter : (t u : Tables) → List ℕ → Change → List ℕ
 ramAfter t u ram nothing = ram
@@ -73,7 +68,7 @@ ramAfter t u ram (removed i) = ramClosed t ram i
 ramAfter t u ram (moved m) = afterLink (u .chain) (t .room) m ram (totalOf t)
 ramAfter t u ram (in-buffer i offset bytes) = putLine (t .chain) (t .room) ram (bufferAt t i + offset) bytes
 ramAfter t u ram (in-segment row offset bytes) = putAt ram (segmentAt row + offset) bytes
-ramAfter t u ram (one-by-one row puts) = putEach row ram puts
+ramAfter t u ram (one-by-one row puts) = putEach (segmentAt row) ram puts
 
 -- "Status writes the counts free, user, system, device, shared."
 abbrev pub countsOf : Tables → List ℕ

@@ -1,6 +1,7 @@
 -- The location counter, and what an item makes of it and stores at it.
 use mathlib.Core.List.{List, [], _∷_, _++_}
 use Prim.Native.Nat.{ℕ, _+_, _*_, _/_, _%_}
+use Rattle.line.specs.Definition.Ram.{putAt}
 use Rattle.modules.specs.declared.Item.{Item}
 use Rattle.modules.specs.declared.Item.the-variants.{Byte, Word, SetPage, Restore, Move}
 use Rattle.modules.specs.declared.Counter.{Counter}
@@ -60,3 +61,8 @@ putsAt c (Move x) = []
 abbrev pub putsOf : (start : ℕ) → Counter → List Item → List Put
 putsOf start c [] = []
 putsOf start c (i ∷ items) = putsAt c i ++ putsOf start (after start c i) items
+
+-- the bytes of a segment that starts at `base` in the RAM, put one after the other
+abbrev pub putEach : (base : ℕ) → List ℕ → List Put → List ℕ
+putEach base ram [] = ram
+putEach base ram (p ∷ puts) = putEach base (putAt ram (base + p .offset) (p .byte ∷ [])) puts

@@ -1,5 +1,5 @@
 -- What a stream is refused for, computed: "The first item at fault decides; at one item that order."
-use mathlib.Core.Bool.{Bool, true, false, cond, not, _&&_}
+use mathlib.Core.Bool.{Bool, true, false, cond, not, _&&_, _||_}
 use mathlib.Core.List.{List, [], _∷_}
 use Prim.Native.Nat.{ℕ, _+_, _-_, _/_, _%_}
 use lib.Dec.{ltb, eqb}
@@ -25,7 +25,7 @@ leaves c (Move x) = not (eqb (landing c x / PAGE) (c .page))
 
 -- 20 PAGE "for a move or store outside the page"
 abbrev pub outside : Counter → Item → Bool
-outside c i = cond (leaves c i) true (ltb PAGE (c .offset + sizeOf i))
+outside c i = leaves c i || ltb PAGE (c .offset + sizeOf i)
 
 -- "then RANGE above the user boundary": a store alone
 abbrev pub above : Target → Counter → Item → Bool

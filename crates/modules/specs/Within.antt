@@ -1,0 +1,4 @@
+-- Words for functions within the reader: no sentences of the order.
+pub mod Codes
+pub mod Acts
+pub mod Scan

@@ -1,0 +1,72 @@
+-- What comes of an item, and of the stop that the reading yields.
+use mathlib.Core.Bool.{Bool, cond}
+use mathlib.Core.List.{List, []}
+use Prim.Native.Nat.{ℕ, _+_, _≤_}
+use lib.Dec.{eqb}
+use Rattle.modules.specs.Definition.Bits.{Bit}
+use Rattle.modules.specs.Definition.Reading.{end, illegal-item, end-of-input}
+use Rattle.modules.specs.Definition.Counter.{sizeOf, after, Put, putsAt, putEach}
+use Rattle.modules.specs.Definition.Judging.{outside, above, touches, judgedAt}
+use Rattle.modules.specs.Within.Codes.{itemOf}
+use Rattle.modules.specs.declared.Item.{Item}
+use Rattle.modules.specs.declared.Item.the-variants.{Byte, Word, SetPage, Restore, Move}
+use Rattle.modules.specs.declared.Counter.{Counter}
+use Rattle.modules.specs.declared.Target.{Target}
+use Rattle.modules.specs.declared.Act.{Act}
+use Rattle.modules.specs.declared.Act.the-variants.{Next, Halt}
+use Rattle.modules.specs.declared.Stop.{Stop}
+use Rattle.modules.specs.declared.Stop.the-variants.{End, Illegal, Exhausted}
+use Rattle.modules.specs.declared.Stop.the-variants as stop
+use Rattle.modules.specs.declared.Judged.{Judged}
+use Rattle.modules.specs.declared.Judged.the-variants.{Page, Range, Guard}
+
+-- of an item with no part of its bits missing
+abbrev pub itemAct : Target → Counter → Item → Act
+itemAct g c i =
+    cond (outside c i) (Halt stop.Page)
+    (cond (above g c i) (Halt stop.Range)
+    (cond (touches g c i) (Halt stop.Guard) (Next (after (g .page) c i))))
+
+unfoldable pub actOf : Target → Counter → (code : ℕ) → Act
+unfolding itemOf
+actOf g c code = cond (eqb code 14) (Halt End) (cond (eqb code 15) (Halt Illegal) (itemAct g c (itemOf code)))
+
+-- what it stores: nothing where it halts
+abbrev pub actPuts : Act → Counter → Item → List Put
+actPuts (Next d) c i = putsAt c i
+actPuts (Halt why) c i = []
+
+-- the RAM with the bytes put, where the reading stores
+abbrev pub putWhere : (storing : Bool) (base : ℕ) → List ℕ → List Put → List ℕ
+putWhere storing base ram puts = cond storing (putEach base ram puts) ram
+
+-- the counter is one: "a page (0 to 3) and an offset, 0 to 16,384"
+pub record Counts (c : Counter) : Type 0 where
+  pub page : c .page ≤ 3
+  pub offset : c .offset ≤ 16384
+
+abbrev pub Counting : Act → Type 0
+Counting (Next d) = Counts d
+Counting (Halt why) = Unit {0}
+
+-- an item that does not halt stores inside the page
+abbrev pub Inside : Act → Counter → Item → Type 0
+Inside (Next d) c i = c .offset + sizeOf i ≤ 16384
+Inside (Halt why) c i = Unit {0}
+
+-- a page that is set is one
+abbrev pub Paged : Item → Type 0
+Paged (Byte x) = Unit {0}
+Paged (Word x) = Unit {0}
+Paged (SetPage page) = page ≤ 3
+Paged Restore = Unit {0}
+Paged (Move x) = Unit {0}
+
+-- what a stop is judged to be; `n` is the stream's bytes, and `rest` the bits behind
+abbrev pub settled : (n : ℕ) → Stop → (rest : List Bit) → Judged
+settled n End rest = judgedAt n (end rest)
+settled n Illegal rest = judgedAt n illegal-item
+settled n Exhausted rest = judgedAt n end-of-input
+settled n stop.Page rest = Page
+settled n stop.Range rest = Range
+settled n stop.Guard rest = Guard

@@ -1,0 +1,44 @@
+-- How the reader holds an item's bits: as a number behind a leading 1.
+use mathlib.Core.Bool.{cond}
+use mathlib.Core.List.{List}
+use Prim.Native.Nat.{ℕ, _+_, _-_, _*_, _/_, _%_, _^_, _≤_, _<_}
+use lib.Dec.{ltb, eqb}
+use lib.ListN.{getD}
+use Rattle.modules.specs.Definition.Bits.{Bit, O, I}
+use Rattle.modules.specs.declared.Item.{Item}
+use Rattle.modules.specs.declared.Item.the-variants.{Byte, Word, SetPage, Restore, Move}
+
+-- the bit at a position of a stream, as a number
+unfoldable pub bitAt : List ℕ → ℕ → ℕ
+bitAt stream at = getD stream (at / 8) 0 / 2 ^ (7 - at % 8) % 2
+
+-- the bits so far with one more
+abbrev pub withBit : (code : ℕ) → Bit → ℕ
+withBit code O = 2 * code
+withBit code I = 2 * code + 1
+
+-- how many bits are still wanted where the item's first bits wanted `left` more: `0` is 2, `1` is 3, `100` is 12, `101` is 13, `1010` is 26, `1011` is 27, and
+-- `10100` is 52
+unfoldable pub wants : (code left : ℕ) → ℕ
+wants code left =
+    cond (ltb 0 left) left
+    (cond (eqb code 2) 8
+    (cond (eqb code 3) 2
+    (cond (eqb code 12) 16
+    (cond (eqb code 13) 1
+    (cond (eqb code 26) 1
+    (cond (eqb code 27) 16
+    (cond (eqb code 52) 2 0)))))))
+
+-- the item of all its bits, where they are neither the end item's (`110` is 14) nor illegal (`111` is 15): `10101` is 53, a page is from 208, a byte from 512,
+-- a word from 786,432 and a move from 1,769,472 on
+unfoldable pub itemOf : (code : ℕ) → Item
+itemOf code =
+    cond (eqb code 53) Restore
+    (cond (ltb code 256) (SetPage (code % 4))
+    (cond (ltb code 768) (Byte (code % 256))
+    (cond (ltb code 851968) (Word (code % 65536)) (Move (code % 65536)))))
+
+-- a code has a leading 1 and at most 20 bits behind it, with those still wanted
+abbrev pub Coded : (code left : ℕ) → Type 0
+Coded code left = (left ≤ 16) × (code < 2 ^ (21 - left))
