@@ -3,3 +3,4 @@ pub mod Stored
 pub mod Codes
 pub mod Acts
 pub mod Performs
+pub mod Numbers
