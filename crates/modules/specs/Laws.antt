@@ -4,3 +4,4 @@ pub mod Codes
 pub mod Acts
 pub mod Performs
 pub mod Numbers
+pub mod Items
