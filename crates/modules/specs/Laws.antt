@@ -5,3 +5,5 @@ pub mod Acts
 pub mod Performs
 pub mod Numbers
 pub mod Items
+pub mod Tests
+pub mod Faults

@@ -22,7 +22,7 @@ number-first : (n : ℕ) (made : ℕ → Item) (x : ℕ) (rest : List Bit) → x
 unfolding withNumber
 number-first n made x rest h =
     let enough : ltb (length (bitsOf n x ++ rest)) n ≡ false
-        = le-ltb _ n (rw (length-append (bitsOf n x) rest, bits-length n x) (omega arith)) in
+    = le-ltb _ n (rw (length-append (bitsOf n x) rest, bits-length n x) (omega arith)) in
     rw (enough, take-at (bitsOf n x) rest n (bits-length n x), drop-at (bitsOf n x) rest n (bits-length n x), number-back n x h)
 
 pub first-item : (i : Item) (rest : List Bit) → Fits i → first (itemBits i ++ rest) ≡ item i rest
@@ -58,8 +58,10 @@ number-stands n made head fits are bits = go (ltb (length bits) n) refl
   where
     enough : ltb (length bits) n ≡ false → length (take n bits) ≡ n
     enough e = length-take-le n bits (ltb-false (length bits) n e)
+
     whole : ltb (length bits) n ≡ false → head ++ bits ≡ itemBits (made (numberOf 0 (take n bits))) ++ drop n bits
     whole e = rw (are (numberOf 0 (take n bits)), bits-back n (take n bits) (enough e), append-assoc, take-append-drop)
+
     go : (b : Bool) → ltb (length bits) n ≡ b → Stands (head ++ bits) (cond b runs-out (item (made (numberOf 0 (take n bits))) (drop n bits)))
     go true e = tt
     go false e = record { fits = fits _ (number-fits n (take n bits) (enough e)); are = whole e }
