@@ -3,7 +3,12 @@ pub mod Stored
 pub mod Codes
 pub mod Acts
 pub mod Performs
+pub mod Positions
+pub mod Scan
 pub mod Numbers
 pub mod Items
 pub mod Tests
 pub mod Faults
+pub mod Taken
+pub mod Padding
+pub mod Turns

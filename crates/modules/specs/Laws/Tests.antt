@@ -1,7 +1,7 @@
 -- The tests of one item decide what the definition of faults says in propositions.
 use mathlib.Core.Path.{_≡_, refl, sym, _∙_}
 use mathlib.Core.Logic.{_≢_, _⊎_, inl, inr}
-use mathlib.Core.Bool.{Bool, true, false, cond, not, _&&_, _||_, false≢true}
+use mathlib.Core.Bool.{Bool, true, false, not, _&&_, _||_, false≢true}
 use Prim.Native.Nat.{ℕ, _+_, _/_, _≤_, _<_}
 use native.Mathlib.Decide.{decLe, decLt}
 use native.Mathlib.Omega.{arith}
@@ -71,7 +71,7 @@ store-decides : (c : Counter) (i : Item) → c .offset ≤ PAGE → leaves c i �
 store-decides c i h e = decides-as (λ k. store (omega arith) k) (λ o. stored e o) (decides-lt PAGE (c .offset + sizeOf i))
 
 move-decides : (c : Counter) (x : ℕ) {b : Bool} → c .offset ≤ PAGE → Decides (landing c x / PAGE ≢ c .page) b
-    → Decides (Outside c (Move x)) (cond b true (ltb PAGE (c .offset + 0)))
+    → Decides (Outside c (Move x)) (b || ltb PAGE (c .offset + 0))
 move-decides c x h (holds m) = holds (move m)
 move-decides c x h (fails n) = decides-as (λ k. absurd (omega arith)) (λ o. absurd (n (moved o))) (decides-lt PAGE (c .offset + 0))
 

@@ -28,7 +28,6 @@ itemAct g c i =
     (cond (touches g c i) (Halt stop.Guard) (Next (after (g .page) c i))))
 
 unfoldable pub actOf : Target → Counter → (code : ℕ) → Act
-unfolding itemOf
 actOf g c code = cond (eqb code 14) (Halt End) (cond (eqb code 15) (Halt Illegal) (itemAct g c (itemOf code)))
 
 -- what it stores: nothing where it halts

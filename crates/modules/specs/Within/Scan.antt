@@ -31,14 +31,12 @@ withItem g c i more =
 
 -- all bits of an item are there; `n` is the stream's bytes, and `rest` the bits behind
 unfoldable pub whole : (n : ℕ) → Target → Counter → (code : ℕ) (rest : List Bit) → (Counter → Scan) → Scan
-unfolding itemOf
 whole n g c code rest more =
     cond (eqb code 14) (stops (judgedAt n (end rest)))
     (cond (eqb code 15) (stops (judgedAt n illegal-item)) (withItem g c (itemOf code) (more (after (g .page) c (itemOf code)))))
 
 -- the item's bits so far are `code`, and it wants `left` more
 unfoldable pub scan : (n : ℕ) → Target → Counter → (code left : ℕ) → List Bit → Scan
-unfolding wants whole
 scan n g c code left [] = stops (judgedAt n end-of-input)
 scan n g c code left (b ∷ bits) =
     let code′ = withBit code b in

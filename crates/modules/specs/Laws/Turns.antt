@@ -1,0 +1,118 @@
+-- The turns of the reader's loops.
+use mathlib.Core.Path.{_≡_, refl, sym, ap, _∙_}
+use mathlib.Core.Bool.{Bool, true, false, cond}
+use mathlib.Core.List.{List, [], _∷_, _++_}
+use Prim.Native.Nat.{ℕ, _+_, _-_, _*_, _≤_, _<_}
+use native.Mathlib.Omega.{arith}
+use borrow.Author.Tests.{eq-eqb, ne-eqb}
+use lib.Dec.{eqb}
+use lib.ListN.{length, drop}
+use Rattle.line.specs.Definition.Ram.{putAt}
+use Rattle.modules.specs.Definition.Bits.{Bit}
+use Rattle.modules.specs.Definition.Reading.{lookedAt, streamBits, end-of-input}
+use Rattle.modules.specs.Definition.Counter.{after, Put, putsAt, putEach}
+use Rattle.modules.specs.Definition.Judging.{outside, above, touches, judgedAt}
+use Rattle.modules.specs.Within.Codes.{bitAt, wants, itemOf, Coded}
+use Rattle.modules.specs.Within.Acts.{itemAct, actOf, actPuts, putWhere, settled}
+use Rattle.modules.specs.Within.Scan.{Scan, stops, withItem, whole, scan, scanned}
+use Rattle.modules.specs.Laws.Codes.{coded-more}
+use Rattle.modules.specs.Laws.Positions.{one-bit, no-bit}
+use Rattle.modules.specs.declared.Item.{Item}
+use Rattle.modules.specs.declared.Counter.{Counter}
+use Rattle.modules.specs.declared.Target.{Target}
+use Rattle.modules.specs.declared.Act.{Act}
+use Rattle.modules.specs.declared.Act.the-variants.{Next, Halt}
+use Rattle.modules.specs.declared.Stop.{Stop}
+use Rattle.modules.specs.declared.Stop.the-variants.{Exhausted}
+use Rattle.modules.specs.declared.Judged.{Judged}
+
+-- what is put in two goes
+each-more : (base : ℕ) (ram : List ℕ) (ps qs : List Put) → putEach base (putEach base ram ps) qs ≡ putEach base ram (ps ++ qs)
+each-more base ram [] qs = refl
+each-more base ram (p ∷ ps) qs = each-more base (putAt ram (base + p .offset) (p .byte ∷ [])) ps qs
+
+put-more : (storing : Bool) (base : ℕ) (ram : List ℕ) (ps qs : List Put) → putWhere storing base (putWhere storing base ram ps) qs ≡ putWhere storing base ram (ps ++ qs)
+put-more true base ram ps qs = each-more base ram ps qs
+put-more false base ram ps qs = refl
+
+put-nothing : (storing : Bool) (base : ℕ) (ram : List ℕ) → putWhere storing base ram [] ≡ ram
+put-nothing true base ram = refl
+put-nothing false base ram = refl
+
+-- a whole item does what comes of it
+abbrev byAct : (n : ℕ) → Act → Counter → Item → (rest : List Bit) → (Counter → Scan) → Scan
+byAct n (Next d) c i rest more = record { judged = more d .judged; puts = putsAt c i ++ more d .puts }
+byAct n (Halt why) c i rest more = stops (settled n why rest)
+
+item-act : (n : ℕ) (g : Target) (c : Counter) (i : Item) (rest : List Bit) (more : Counter → Scan) (o a t : Bool) → outside c i ≡ o → above g c i ≡ a → touches g c i ≡ t
+    → withItem g c i (more (after (g .page) c i)) ≡ byAct n (itemAct g c i) c i rest more
+item-act n g c i rest more true a t p q r = rw p
+item-act n g c i rest more false true t p q r = rw (p, q)
+item-act n g c i rest more false false true p q r = rw (p, q, r)
+item-act n g c i rest more false false false p q r = rw (p, q, r)
+
+whole-by : (n : ℕ) (g : Target) (c : Counter) (code : ℕ) (rest : List Bit) (more : Counter → Scan) (e i : Bool) → eqb code 14 ≡ e → eqb code 15 ≡ i
+    → whole n g c code rest more ≡ byAct n (actOf g c code) c (itemOf code) rest more
+unfolding whole actOf
+whole-by n g c code rest more true i p q = rw p
+whole-by n g c code rest more false true p q = rw (p, q)
+whole-by n g c code rest more false false p q =
+    let x = itemOf code in
+    rw (p, q) (item-act n g c x rest more (outside c x) (above g c x) (touches g c x) refl refl refl)
+
+whole-act : (n : ℕ) (g : Target) (c : Counter) (code left : ℕ) (rest : List Bit) (act : Act) → left ≤ 0 → act ≡ actOf g c code
+    → scanned n g c code left rest ≡ byAct n act c (itemOf code) rest (λ d. scan n g d 1 1 rest)
+whole-act n g c code left rest act h e =
+    rw (eq-eqb left 0 (omega arith), e) (whole-by n g c code rest (λ d. scan n g d 1 1 rest) (eqb code 14) (eqb code 15) refl refl)
+
+-- what the reading will come to: what is judged, and the RAM
+abbrev pub Comes : (storing : Bool) (base : ℕ) (ram : List ℕ) → Scan → Judged → List ℕ → Type 0
+Comes storing base ram s j end = (s .judged ≡ j) × (putWhere storing base ram (s .puts) ≡ end)
+
+module _ (stream : List ℕ) (n : ℕ) (g : Target) (c : Counter) (code left : ℕ) where
+  -- a turn of the bit fetch
+  pub turn : (at b w : ℕ) (all : Scan) → at < 8 * length (lookedAt stream) → 0 < left → b ≡ bitAt stream at → b < 2 → w ≡ wants (2 * code + b) (left - 1) → Coded code left
+      → scanned n g c code left (drop at (streamBits stream)) ≡ all
+      → Coded (2 * code + b) w × (scanned n g c (2 * code + b) w (drop (at + 1) (streamBits stream)) ≡ all)
+  unfolding scan
+  turn at b w all h p e f q k i =
+      let o = one-bit stream at code b h e in
+      let rest = drop (at + 1) (streamBits stream) in
+      let s : scanned n g c code left (drop at (streamBits stream)) ≡ scanned n g c (2 * code + b) w rest = rw (o .here, ne-eqb left 0 (omega arith), o .code-is, q) in
+      (rw q (coded-more code left b k p f), sym s ∙ i)
+
+  -- the input is at its end
+  pub ran-out : (at : ℕ) → 8 * length (lookedAt stream) ≤ at → 0 < left → stops (judgedAt n end-of-input) ≡ scanned n g c code left (drop at (streamBits stream))
+  unfolding scan
+  ran-out at h p = rw (no-bit stream at h, ne-eqb left 0 (omega arith))
+
+module _ (n : ℕ) (g : Target) (c : Counter) (code left : ℕ) (rest : List Bit) (act : Act) (l : left ≤ 0) (e : act ≡ actOf g c code)
+    (storing : Bool) (base : ℕ) (ram ram₁ : List ℕ) (p : ram₁ ≡ putWhere storing base ram (actPuts act c (itemOf code))) (s : Scan)
+    (i : scanned n g c code left rest ≡ s) (j : Judged) (end : List ℕ) (k : Comes storing base ram s j end) where
+  -- the item is whole, and the reading goes on
+  pub goes : (d : Counter) → act ≡ Next d → Comes storing base ram₁ (scan n g d 1 1 rest) j end
+  goes d q =
+      let x = itemOf code in
+      let more = scan n g d 1 1 rest in
+      let w : record { judged = more .judged; puts = putsAt c x ++ more .puts } ≡ s =
+          sym (whole-act n g c code left rest act l e ∙ ap (λ (a : Act). byAct n a c x rest (λ d. scan n g d 1 1 rest)) q) ∙ i in
+      let r : ram₁ ≡ putWhere storing base ram (putsAt c x) = p ∙ ap (λ (a : Act). putWhere storing base ram (actPuts a c x)) q in
+      (ap (λ (z : Scan). z .judged) w ∙ k .0,
+      ap (λ (z : List ℕ). putWhere storing base z (more .puts)) r ∙ put-more storing base ram (putsAt c x) (more .puts)
+      ∙ ap (λ (z : Scan). putWhere storing base ram (z .puts)) w ∙ k .1)
+
+  -- or it breaks off
+  pub halts : (why : Stop) → act ≡ Halt why → (settled n why rest ≡ j) × (ram₁ ≡ end)
+  halts why q =
+      let x = itemOf code in
+      let w : stops (settled n why rest) ≡ s =
+          sym (whole-act n g c code left rest act l e ∙ ap (λ (a : Act). byAct n a c x rest (λ d. scan n g d 1 1 rest)) q) ∙ i in
+      (ap (λ (z : Scan). z .judged) w ∙ k .0,
+      p ∙ ap (λ (a : Act). putWhere storing base ram (actPuts a c x)) q ∙ ap (λ (z : Scan). putWhere storing base ram (z .puts)) w ∙ k .1)
+
+-- the reading breaks off at the end of input
+pub stopped : (n : ℕ) (rest : List Bit) (storing : Bool) (base : ℕ) (ram : List ℕ) (s : Scan) (j : Judged) (end : List ℕ) → stops (judgedAt n end-of-input) ≡ s → Comes storing base ram s j end
+    → (settled n Exhausted rest ≡ j) × (ram ≡ end)
+stopped n rest storing base ram s j end e k =
+    (ap (λ (z : Scan). z .judged) e ∙ k .0,
+    sym (put-nothing storing base ram) ∙ ap (λ (z : Scan). putWhere storing base ram (z .puts)) e ∙ k .1)
