@@ -12,3 +12,4 @@ pub mod Faults
 pub mod Taken
 pub mod Padding
 pub mod Turns
+pub mod Unique

@@ -2,7 +2,7 @@
 -- That `judged` (Judging.antt) gives exactly these is proved in Laws.
 use mathlib.Core.Path.{_≡_}
 use mathlib.Core.Logic.{_≢_}
-use mathlib.Core.List.{List, _++_}
+use mathlib.Core.List.{List, [], _∷_, _++_}
 use Prim.Native.Nat.{ℕ, _+_, _/_, _%_, _≤_, _<_}
 use lib.ListN.{length, getD}
 use Rattle.line.specs.Definition.Guard.{GuardedByte}
@@ -49,6 +49,11 @@ pub record Faultless (g : Target) (c : Counter) (i : Item) : Type 0 where
   pub inside : ¬ Outside c i
   pub below : ¬ Above g c i
   pub clear : ¬ Touches g c i
+
+-- items without fault, each from the counter that those before it leave
+abbrev pub FaultlessFrom : Target → Counter → List Item → Type 0
+FaultlessFrom g c [] = Unit {0}
+FaultlessFrom g c (i ∷ items) = Faultless g c i × FaultlessFrom g (after (g .page) c i) items
 
 -- the bits begin with the bits of an item; `rest` is what stands behind it
 pub record Begins (bits : List Bit) (i : Item) (rest : List Bit) : Type 0 where

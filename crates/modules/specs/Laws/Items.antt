@@ -21,8 +21,7 @@ use Rattle.modules.specs.declared.Item.the-variants.{Byte, Word, SetPage
 number-first : (n : ℕ) (made : ℕ → Item) (x : ℕ) (rest : List Bit) → x < 2 ^ n → withNumber n made (bitsOf n x ++ rest) ≡ item (made x) rest
 unfolding withNumber
 number-first n made x rest h =
-    let enough : ltb (length (bitsOf n x ++ rest)) n ≡ false
-    = le-ltb _ n (rw (length-append (bitsOf n x) rest, bits-length n x) (omega arith)) in
+    let enough : ltb (length (bitsOf n x ++ rest)) n ≡ false = le-ltb _ n (rw (length-append (bitsOf n x) rest, bits-length n x) (omega arith)) in
     rw (enough, take-at (bitsOf n x) rest n (bits-length n x), drop-at (bitsOf n x) rest n (bits-length n x), number-back n x h)
 
 pub first-item : (i : Item) (rest : List Bit) → Fits i → first (itemBits i ++ rest) ≡ item i rest

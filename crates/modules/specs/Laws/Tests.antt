@@ -29,6 +29,10 @@ pub decides-false : {P : Type 0} {b : Bool} → Decides P b → ¬ P → b ≡ f
 decides-false (holds h) n = absurd (n h)
 decides-false (fails m) n = refl
 
+pub decides-no : {P : Type 0} {b : Bool} → Decides P b → b ≡ false → ¬ P
+decides-no (holds h) e = λ p. false≢true (sym e)
+decides-no (fails n) e = n
+
 decides-by : {P : Type 0} (b : Bool) → (b ≡ true → P) → (b ≡ false → ¬ P) → Decides P b
 decides-by true p n = holds (p refl)
 decides-by false p n = fails (n refl)
