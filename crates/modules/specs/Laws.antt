@@ -13,3 +13,5 @@ pub mod Taken
 pub mod Padding
 pub mod Turns
 pub mod Unique
+pub mod Moves
+pub mod Examples
