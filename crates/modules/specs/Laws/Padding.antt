@@ -31,13 +31,13 @@ zero-take bit b n rest l e h =
     let s : suc (length rest) % 8 ≡ suc (length rest % 8) = omega arith in
     rw s (first-zero bit b e (take (length rest % 8) rest))
 
-module _ (stream : List ℕ) (at b : ℕ) (low : at ≤ 8 * length (lookedAt stream)) (h : 0 < at % 8) where
+module _ (stream : List ℕ) (at : ℕ) (low : at ≤ 8 * length (lookedAt stream)) (h : 0 < at % 8) where
   pub within-byte : at < 8 * length (lookedAt stream)
   within-byte = omega arith
 
-  pub zero-bit : (zero all : Bool) → b ≡ bitAt stream at → zero && zeroRest (drop at (streamBits stream)) ≡ all
+  pub zero-bit : (b : ℕ) (zero all : Bool) → b ≡ bitAt stream at → zero && zeroRest (drop at (streamBits stream)) ≡ all
       → (zero && eqb b 0) && zeroRest (drop (at + 1) (streamBits stream)) ≡ all
-  zero-bit zero all e i =
+  zero-bit b zero all e i =
       let o = one-bit stream at 0 b within-byte e in
       let rest = drop (at + 1) (streamBits stream) in
       let l = rest-length stream (at + 1) in

@@ -71,6 +71,9 @@ pub no-bit : (stream : List ℕ) (at : ℕ) → 8 * length (lookedAt stream) ≤
 no-bit stream at h = drop-of-length-le (streamBits stream) {i = at} (rw (bytes-length (lookedAt stream)) h)
 
 -- how many bytes are looked at
+pub looked-within : (stream : List ℕ) → (length (lookedAt stream) ≤ length stream) × (length (lookedAt stream) ≤ 65535)
+looked-within stream = let n = length-take 65535 stream in (omega arith, omega arith)
+
 pub looked-short : (stream : List ℕ) → length stream < 65535 → length stream ≡ length (lookedAt stream)
 looked-short stream h = rw (take-all 65535 stream (omega arith))
 

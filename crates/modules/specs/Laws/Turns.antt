@@ -11,12 +11,13 @@ use Rattle.line.specs.Definition.Ram.{putAt}
 use Rattle.modules.specs.Definition.Bits.{Bit}
 use Rattle.modules.specs.Definition.Reading.{lookedAt, streamBits, end-of-input}
 use Rattle.modules.specs.Definition.Counter.{after, Put, putsAt, putEach}
-use Rattle.modules.specs.Definition.Judging.{outside, above, touches, judgedAt}
+use Rattle.modules.specs.Definition.Judging.{outside, above, touches, judgedAt, judged}
 use Rattle.modules.specs.Within.Codes.{bitAt, wants, itemOf, Coded}
-use Rattle.modules.specs.Within.Acts.{itemAct, actOf, actPuts, putWhere, settled}
-use Rattle.modules.specs.Within.Scan.{Scan, stops, withItem, whole, scan, scanned}
+use Rattle.modules.specs.Within.Acts.{itemAct, actOf, actPuts, putWhere, Counts, Counting, settled}
+use Rattle.modules.specs.Within.Scan.{Scan, stops, withItem, whole, scan, scanned, storedBefore}
 use Rattle.modules.specs.Laws.Codes.{coded-more}
 use Rattle.modules.specs.Laws.Positions.{one-bit, no-bit}
+use Rattle.modules.specs.Laws.Taken.{scan-stream}
 use Rattle.modules.specs.declared.Item.{Item}
 use Rattle.modules.specs.declared.Counter.{Counter}
 use Rattle.modules.specs.declared.Target.{Target}
@@ -102,17 +103,30 @@ module _ (n : ℕ) (g : Target) (c : Counter) (code left : ℕ) (rest : List Bit
       ∙ ap (λ (z : Scan). putWhere storing base ram (z .puts)) w ∙ k .1)
 
   -- or it breaks off
-  pub halts : (why : Stop) → act ≡ Halt why → (settled n why rest ≡ j) × (ram₁ ≡ end)
-  halts why q =
+  pub halts : (why stop : Stop) (ram₂ : List ℕ) → act ≡ Halt why → stop ≡ why → ram₂ ≡ ram₁ → (settled n stop rest ≡ j) × (ram₂ ≡ end)
+  halts why stop ram₂ q f r =
       let x = itemOf code in
       let w : stops (settled n why rest) ≡ s =
           sym (whole-act n g c code left rest act l e ∙ ap (λ (a : Act). byAct n a c x rest (λ d. scan n g d 1 1 rest)) q) ∙ i in
-      (ap (λ (z : Scan). z .judged) w ∙ k .0,
-      p ∙ ap (λ (a : Act). putWhere storing base ram (actPuts a c x)) q ∙ ap (λ (z : Scan). putWhere storing base ram (z .puts)) w ∙ k .1)
+      (ap (λ (y : Stop). settled n y rest) f ∙ ap (λ (z : Scan). z .judged) w ∙ k .0,
+      r ∙ p ∙ ap (λ (a : Act). putWhere storing base ram (actPuts a c x)) q ∙ ap (λ (z : Scan). putWhere storing base ram (z .puts)) w ∙ k .1)
 
 -- the reading breaks off at the end of input
-pub stopped : (n : ℕ) (rest : List Bit) (storing : Bool) (base : ℕ) (ram : List ℕ) (s : Scan) (j : Judged) (end : List ℕ) → stops (judgedAt n end-of-input) ≡ s → Comes storing base ram s j end
-    → (settled n Exhausted rest ≡ j) × (ram ≡ end)
-stopped n rest storing base ram s j end e k =
-    (ap (λ (z : Scan). z .judged) e ∙ k .0,
-    sym (put-nothing storing base ram) ∙ ap (λ (z : Scan). putWhere storing base ram (z .puts)) e ∙ k .1)
+pub stopped : (n : ℕ) (rest : List Bit) (storing : Bool) (base : ℕ) (ram ram₁ : List ℕ) (s : Scan) (stop : Stop) (j : Judged) (end : List ℕ)
+    → stops (judgedAt n end-of-input) ≡ s → Comes storing base ram s j end → stop ≡ Exhausted → ram₁ ≡ ram → (settled n stop rest ≡ j) × (ram₁ ≡ end)
+stopped n rest storing base ram ram₁ s stop j end e k f r =
+    (ap (λ (y : Stop). settled n y rest) f ∙ ap (λ (z : Scan). z .judged) e ∙ k .0,
+    r ∙ sym (put-nothing storing base ram) ∙ ap (λ (z : Scan). putWhere storing base ram (z .puts)) e ∙ k .1)
+
+pub finished : {r settled j : Judged} {ram end : List ℕ} → r ≡ settled → (settled ≡ j) × (ram ≡ end) → (r ≡ j) × (ram ≡ end)
+finished e h = (e ∙ h .0, h .1)
+
+-- the reading begins
+pub begins : (stream : List ℕ) (g : Target) (c : Counter) (storing : Bool) (base : ℕ) (ram : List ℕ)
+    → Comes storing base ram (scan (length (lookedAt stream)) g c 1 1 (drop 0 (streamBits stream))) (judged g c stream) (putWhere storing base ram (storedBefore g c stream))
+begins stream g c storing base ram =
+    let e = scan-stream g c stream in
+    (ap (λ (s : Scan). s .judged) e, ap (λ (s : Scan). putWhere storing base ram (s .puts)) e)
+
+pub next-counter : (act : Act) (d : Counter) → act ≡ Next d → Counting act → Counts d
+next-counter act d e h = rw e at h
