@@ -14,4 +14,5 @@ pub mod Closing
 pub mod Resetting
 pub mod Spans
 pub mod Accessing
+pub mod Loading
 pub mod Values

@@ -126,7 +126,7 @@ impl Tables {
     }
 
     // The user may store to and load from the segment of this row.
-    fn may_reach(self, row: usize) -> bool
+    pub fn may_reach(self, row: usize) -> bool
         requires { ⌜ self .segments ≤ 32 ⌝ }
         ensures { λ r. ⌜ r ≡ mayReach self row ⌝ }
     {
@@ -138,7 +138,7 @@ impl Tables {
     }
 
     // Up to which offset.
-    fn reach_of(self, row: usize) -> usize
+    pub fn reach_of(self, row: usize) -> usize
         requires { ⌜ row < 32 ⌝ }
         ensures { λ r. ⌜ r ≡ reachOf self row ⌝ }
     {

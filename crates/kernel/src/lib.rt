@@ -11,6 +11,7 @@ pub mod reset; // reset
 pub mod open; // open
 pub mod close; // close
 pub mod bytes; // read, write, store, load, and a buffer lent on
+pub mod loader; // load module
 pub mod default; // default
 pub mod link; // link
 pub mod segments; // boundary, set user boundary, allocate, free, status

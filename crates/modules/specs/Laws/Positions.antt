@@ -63,7 +63,7 @@ one-bit stream at code b h e =
     record {
       bit = bitOf (7 - at % 8) (getD s (at / 8) 0);
       here = drop-cons (bitsIn s) at O l ∙ rw (get-bit s at h, next);
-      code-is = rw (with-bit code (7 - at % 8) (getD s (at / 8) 0), byte, e)
+      code-is = rw (with-bit code (7 - at % 8) (getD s (at / 8) 0), byte, e);
     }
 
 -- at the end no bit stands

@@ -96,27 +96,30 @@ module _ (n : ℕ) (g : Target) (c : Counter) (code left : ℕ) (rest : List Bit
       let x = itemOf code in
       let more = scan n g d 1 1 rest in
       let w : record { judged = more .judged; puts = putsAt c x ++ more .puts } ≡ s =
-          sym (whole-act n g c code left rest act l e ∙ ap (λ (a : Act). byAct n a c x rest (λ d. scan n g d 1 1 rest)) q) ∙ i in
-      let r : ram₁ ≡ putWhere storing base ram (putsAt c x) = p ∙ ap (λ (a : Act). putWhere storing base ram (actPuts a c x)) q in
-      (ap (λ (z : Scan). z .judged) w ∙ k .0,
-      ap (λ (z : List ℕ). putWhere storing base z (more .puts)) r ∙ put-more storing base ram (putsAt c x) (more .puts)
-      ∙ ap (λ (z : Scan). putWhere storing base ram (z .puts)) w ∙ k .1)
+      sym (whole-act n g c code left rest act l e ∙ ap (λ (a : Act). byAct n a c x rest (λ d. scan n g d 1 1 rest)) q) ∙ i in
+      let r : ram₁ ≡ putWhere storing base ram (putsAt c x) = p ∙ ap (λ (a : Act). putWhere storing base ram (actPuts a c x)) q in (
+        ap (λ (z : Scan). z .judged) w ∙ k .0,
+        ap (λ (z : List ℕ). putWhere storing base z (more .puts)) r ∙ put-more storing base ram (putsAt c x) (more .puts)
+            ∙ ap (λ (z : Scan). putWhere storing base ram (z .puts)) w ∙ k .1,
+      )
 
   -- or it breaks off
   pub halts : (why stop : Stop) (ram₂ : List ℕ) → act ≡ Halt why → stop ≡ why → ram₂ ≡ ram₁ → (settled n stop rest ≡ j) × (ram₂ ≡ end)
   halts why stop ram₂ q f r =
       let x = itemOf code in
       let w : stops (settled n why rest) ≡ s =
-          sym (whole-act n g c code left rest act l e ∙ ap (λ (a : Act). byAct n a c x rest (λ d. scan n g d 1 1 rest)) q) ∙ i in
-      (ap (λ (y : Stop). settled n y rest) f ∙ ap (λ (z : Scan). z .judged) w ∙ k .0,
-      r ∙ p ∙ ap (λ (a : Act). putWhere storing base ram (actPuts a c x)) q ∙ ap (λ (z : Scan). putWhere storing base ram (z .puts)) w ∙ k .1)
+      sym (whole-act n g c code left rest act l e ∙ ap (λ (a : Act). byAct n a c x rest (λ d. scan n g d 1 1 rest)) q) ∙ i in (
+        ap (λ (y : Stop). settled n y rest) f ∙ ap (λ (z : Scan). z .judged) w ∙ k .0,
+        r ∙ p ∙ ap (λ (a : Act). putWhere storing base ram (actPuts a c x)) q ∙ ap (λ (z : Scan). putWhere storing base ram (z .puts)) w ∙ k .1,
+      )
 
 -- the reading breaks off at the end of input
 pub stopped : (n : ℕ) (rest : List Bit) (storing : Bool) (base : ℕ) (ram ram₁ : List ℕ) (s : Scan) (stop : Stop) (j : Judged) (end : List ℕ)
     → stops (judgedAt n end-of-input) ≡ s → Comes storing base ram s j end → stop ≡ Exhausted → ram₁ ≡ ram → (settled n stop rest ≡ j) × (ram₁ ≡ end)
-stopped n rest storing base ram ram₁ s stop j end e k f r =
-    (ap (λ (y : Stop). settled n y rest) f ∙ ap (λ (z : Scan). z .judged) e ∙ k .0,
-    r ∙ sym (put-nothing storing base ram) ∙ ap (λ (z : Scan). putWhere storing base ram (z .puts)) e ∙ k .1)
+stopped n rest storing base ram ram₁ s stop j end e k f r = (
+  ap (λ (y : Stop). settled n y rest) f ∙ ap (λ (z : Scan). z .judged) e ∙ k .0,
+  r ∙ sym (put-nothing storing base ram) ∙ ap (λ (z : Scan). putWhere storing base ram (z .puts)) e ∙ k .1,
+)
 
 pub finished : {r settled j : Judged} {ram end : List ℕ} → r ≡ settled → (settled ≡ j) × (ram ≡ end) → (r ≡ j) × (ram ≡ end)
 finished e h = (e ∙ h .0, h .1)

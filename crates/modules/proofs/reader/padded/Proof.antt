@@ -31,7 +31,7 @@ loop-less : tie.Need-loop-less Inv-loop μ-loop
 loop-less c = let a = c .before .before .before .before .args in let l = c .before .before .loop in omega (arith, within-byte (now (a .stream)) (l .i) (l .inv .0) (c .before .loop-test .taken))
 
 loop-again : tie.Need-loop-again Inv-loop μ-loop
-loop-again c = 
+loop-again c =
     let a = c .before .before .before .before .args in
     let l = c .before .before .loop in
     (omega (arith, within-byte (now (a .stream)) (l .i) (l .inv .0) (c .before .loop-test .taken)), zero-bit (now (a .stream)) (l .i) (l .inv .0) (c .before .loop-test .taken) (c .bit .result) (l .zero) _ (c .bit .ensures .0) (l .inv .1))

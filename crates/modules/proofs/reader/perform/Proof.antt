@@ -9,7 +9,7 @@ returns : tie.Need-returns
 returns c = let s = c .before .before in (act-end _ _ _ (c .if1 .taken), (tt, put-none (s .args .storing) (16384 * s .args .target .row) _))
 
 returns-2 : tie.Need-returns-2
-returns-2 c = 
+returns-2 c =
     let s = c .before .before .before in (act-illegal _ _ _ (c .before .if1 .left) (c .if2 .taken), (tt, put-none (s .args .storing) (16384 * s .args .target .row) _))
 
 item-of-requires : tie.Need-item-of-requires

@@ -49,7 +49,7 @@ mul-code : tie.Need-mul-code Inv-loop μ-loop Inv-reader μ-reader
 mul-code c = omega (arith, coded-fits _ _ (c .before .before .loop .inv .3))
 
 bit-requires : tie.Need-bit-requires Inv-loop μ-loop Inv-reader μ-reader
-bit-requires c κs = 
+bit-requires c κs =
     let l = c .before .before in
     let r = l .before in
     let s = r .before in
@@ -61,7 +61,7 @@ add-code : tie.Need-add-code Inv-loop μ-loop Inv-reader μ-reader
 add-code c = omega (arith, coded-fits _ _ (c .before .before .before .loop .inv .3), c .bit .ensures .1)
 
 add-at : tie.Need-add-at Inv-loop μ-loop Inv-reader μ-reader
-add-at c = 
+add-at c =
     let l = c .before .before .before in
     let r = l .before in
     let s = r .before in
@@ -79,7 +79,7 @@ loop-less : tie.Need-loop-less Inv-loop μ-loop Inv-reader μ-reader
 loop-less c = search needs
 
 loop-again : tie.Need-loop-again Inv-loop μ-loop Inv-reader μ-reader
-loop-again c = 
+loop-again c =
     let l = c .before .before .before .before in
     let r = l .before in
     let s = r .before in
@@ -90,7 +90,7 @@ loop-again c =
     (omega (arith, c .before .before .if1 .left), omega arith, omega arith, w .0, w .1)
 
 perform-requires : tie.Need-perform-requires Inv-loop μ-loop Inv-reader μ-reader
-perform-requires c κs = 
+perform-requires c κs =
     let l = c .before .before in
     let r = l .before in
     let s = r .before in
@@ -105,7 +105,7 @@ reader-less : tie.Need-reader-less Inv-loop μ-loop Inv-reader μ-reader
 reader-less c = search needs
 
 reader-again : tie.Need-reader-again Inv-loop μ-loop Inv-reader μ-reader
-reader-again c = 
+reader-again c =
     let p = c .before .before .before .before .before in
     let l = c .before .before .before .before .before .before .before .before in
     let r = l .before in
@@ -118,7 +118,7 @@ enum-known-act-2 : tie.Need-enum-known-act-2 Inv-loop μ-loop Inv-reader μ-read
 enum-known-act-2 c = search needs
 
 settle-requires : tie.Need-settle-requires Inv-loop μ-loop Inv-reader μ-reader
-settle-requires c κs = 
+settle-requires c κs =
     let l = c .before in
     let r = l .before in
     let s = r .before in
@@ -127,7 +127,7 @@ settle-requires c κs =
     omega (arith, n, l .loop .inv .0)
 
 same-length : tie.Need-same-length Inv-loop μ-loop Inv-reader μ-reader
-same-length c = 
+same-length c =
     let l = c .before .before in
     let r = l .before in
     elim (c .before .loop-test .came) [
@@ -136,7 +136,7 @@ same-length c =
     ]
 
 returns : tie.Need-returns Inv-loop μ-loop Inv-reader μ-reader
-returns c = 
+returns c =
     let l = c .before .before in
     let r = l .before in
     let s = r .before .before .before .before in
