@@ -88,7 +88,7 @@ module _ (t : Tables) (ram stream : List ℕ) (segment page offset : ℕ) where
         module-done used q ram₁ after same a out =
             let whole : refusalOf (judged target start stream) ≡ 0 = rw (judged-is, q) in
             let puts : storedBefore (record { row = row; reach = reach; page = page }) start stream ≡ storedBy target start stream =
-                ap (λ (r : ℕ). storedBefore (record { row = row; reach = r; page = page }) start stream) k ∙ stored-all target start stream whole in
+            ap (λ (r : ℕ). storedBefore (record { row = row; reach = r; page = page }) start stream) k ∙ stored-all target start stream whole in
             rw (decided-by, judged-is, q, a, same, puts)
 
 -- the segment of the row lies in the RAM
