@@ -1,7 +1,7 @@
 -- From a record's kind to the call in its body.
 use mathlib.Core.Path.{_≡_}
 use mathlib.Core.Bool.{Bool, true, not}
-use mathlib.Core.List.{List}
+use mathlib.Core.List.{List, [], _∷_}
 use Prim.Native.Nat.{ℕ}
 use lib.ListN.{length}
 use borrow.Author.Tests.{ne-eqb}
@@ -18,10 +18,17 @@ use Rattle.events.specs.Definition.Records.{callIn, stepOf}
 use Rattle.events.specs.Laws.Bodies.{no-start}
 use Rattle.events.proofs.Laws.{bad-call}
 
+-- the kind is none of these
+abbrev NoneOf : (kind : ℕ) → List ℕ → Type 0
+NoneOf kind [] = Unit {0}
+NoneOf kind (k ∷ ks) = NoneOf kind ks × (kind ≡ k → ⊥)
+
 -- a kind of no call
-pub unknown-kind : (kind : ℕ) (body : List ℕ) → (kind ≡ 0 → ⊥) → (kind ≡ 1 → ⊥) → (kind ≡ 3 → ⊥) → (kind ≡ 6 → ⊥) → (kind ≡ 8 → ⊥) → (kind ≡ 19 → ⊥) → (kind ≡ 20 → ⊥) → (kind ≡ 21 → ⊥) → (kind ≡ 22 → ⊥) → (kind ≡ 23 → ⊥) → (kind ≡ 24 → ⊥) → (kind ≡ 25 → ⊥) → (kind ≡ 256 → ⊥) → (kind ≡ 257 → ⊥) → (kind ≡ 258 → ⊥) → callIn kind body ≡ no-call
+pub unknown-kind : (kind : ℕ) (body : List ℕ)
+    → NoneOf kind (258 ∷ 257 ∷ 256 ∷ 30 ∷ 25 ∷ 24 ∷ 23 ∷ 22 ∷ 21 ∷ 20 ∷ 19 ∷ 8 ∷ 6 ∷ 3 ∷ 1 ∷ 0 ∷ [])
+    → callIn kind body ≡ no-call
 unfolding callIn
-unknown-kind kind body a b c d e f g h i j k l m n o =
+unknown-kind kind body ((((((((((((((((_, a), b), c), d), e), f), g), h), i), j), k), l), p), m), n), o) =
     rw (
       ne-eqb kind 256 m,
       ne-eqb kind 0 a,
@@ -38,6 +45,7 @@ unknown-kind kind body a b c d e f g h i j k l m n o =
       ne-eqb kind 25 l,
       ne-eqb kind 257 n,
       ne-eqb kind 258 o,
+      ne-eqb kind 30 p,
     )
 
 module _ (t : Tables) (ram : List ℕ) (kind : ℕ) (body out : List ℕ) where

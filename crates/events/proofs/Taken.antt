@@ -4,8 +4,8 @@ use mathlib.Core.List.{List}
 use Prim.Native.Nat.{ℕ, _-_, _<_, _≤_}
 use lib.ListN.{length, take, drop}
 use borrow.Author.Tests.{lt-ltb, le-ltb, eq-eqb, ne-eqb}
-use Rattle.kernel.specs.Definition.Calls.{start, reset, «open», close, read, write, default, status, link, boundary, set-user-boundary, allocate, free, store, load, no-call}
-use Rattle.events.specs.Definition.Records.{u8At, u16At, startIn, resetIn, openIn, closeIn, readIn, writeIn, defaultIn, statusIn, linkIn, boundaryIn, setUserBoundaryIn, allocateIn, freeIn, storeIn, loadIn}
+use Rattle.kernel.specs.Definition.Calls.{start, reset, «open», close, read, write, default, status, link, boundary, set-user-boundary, allocate, free, store, load, load-module, no-call}
+use Rattle.events.specs.Definition.Records.{u8At, u16At, startIn, resetIn, openIn, closeIn, readIn, writeIn, defaultIn, statusIn, linkIn, boundaryIn, setUserBoundaryIn, allocateIn, freeIn, storeIn, loadIn, loadModuleIn}
 use Rattle.events.proofs.Laws.{rest-of}
 
 pub start-taken : (body : List ℕ) (room : ℕ) → 2 ≤ length body → room ≡ u16At body 0 → startIn body ≡ start room (take (length body - 2) (drop 2 body))
@@ -123,3 +123,12 @@ load-bad body h = rw (ne-eqb (length body) 5 h)
 pub load-taken : (body : List ℕ) (offset size : ℕ) → length body ≡ 5 → offset ≡ u16At body 1 → size ≡ u16At body 3 → loadIn body ≡ load (u8At body 0) offset size
 unfolding loadIn
 load-taken body offset size h e f = rw (eq-eqb (length body) 5 h, e, f)
+
+pub load-module-bad : (body : List ℕ) → length body < 4 → loadModuleIn body ≡ no-call
+unfolding loadModuleIn
+load-module-bad body h = rw (lt-ltb (length body) 4 h)
+
+pub load-module-taken : (body : List ℕ) (offset : ℕ) → 4 ≤ length body → offset ≡ u16At body 2
+    → loadModuleIn body ≡ load-module (u8At body 0) (u8At body 1) offset (take (length body - 4) (drop 4 body))
+unfolding loadModuleIn
+load-module-taken body offset h e = rw (le-ltb (length body) 4 h, e, rest-of 4 body)

@@ -16,6 +16,7 @@ use segments::allocate_event;
 use segments::boundary_event;
 use segments::free_event;
 use segments::load_event;
+use segments::load_module_event;
 use segments::set_user_boundary_event;
 use segments::status_event;
 use segments::store_event;
@@ -27,7 +28,7 @@ use system::start_event;
 pub mod fields; // the numbers in a body
 pub mod records; // the record at the front of a log
 pub mod channels; // open, close, read, write
-pub mod segments; // status, boundary, set user boundary, allocate, free, store, load
+pub mod segments; // status, boundary, set user boundary, allocate, free, store, load, load module
 pub mod system; // start, reset, default, link
 
 // What stands at the front of a log: a record of this kind whose body has so many bytes, less than a record, or a bad length.
@@ -55,6 +56,7 @@ pub fn call_good(t: Tables, ram: &mut [u8], kind: u16, body: &[u8], out: &mut [u
         23 => set_user_boundary_event(t, body),
         24 => allocate_event(t, body),
         25 => free_event(t, body),
+        30 => load_module_event(t, ram, body),
         256 => start_event(t, ram, body),
         257 => store_event(t, ram, body),
         258 => load_event(t, ram, body, out),

@@ -1,4 +1,4 @@
-// The bodies of status, boundary, set user boundary, allocate, free, store and load.
+// The bodies of status, boundary, set user boundary, allocate, free, store, load and load module.
 ghost use mathlib.Core.Path.{_≡_};
 ghost use mathlib.Core.List.{List};
 ghost use Prim.Native.Nat.{ℕ};
@@ -6,7 +6,7 @@ ghost use lib.ListN.{length};
 ghost use Rattle.kernel.specs.Definition.Tables.{ramSize};
 ghost use Rattle.kernel.specs.Definition.Good.{Good};
 ghost use Rattle.kernel.specs.Definition.Step.{step, result};
-ghost use Rattle.events.specs.Definition.Records.{statusIn, boundaryIn, setUserBoundaryIn, allocateIn, freeIn, storeIn, loadIn};
+ghost use Rattle.events.specs.Definition.Records.{statusIn, boundaryIn, setUserBoundaryIn, allocateIn, freeIn, storeIn, loadIn, loadModuleIn};
 use super::fields::u16_at;
 use kernel::Answer;
 use kernel::Outcome;
@@ -91,4 +91,16 @@ pub fn load_event(t: Tables, ram: &[u8], body: &[u8], out: &mut [u8]) -> Outcome
     let offset = u16_at(body, 1);
     let size = u16_at(body, 3);
     t.load_good(ram, body[0], offset, size, out)
+}
+
+// Segment, start page, start offset, stream.
+pub fn load_module_event(t: Tables, ram: &mut [u8], body: &[u8]) -> Outcome
+    requires { ⌜ Good t × (length (now ram) ≡ ramSize t) ⌝ }
+    ensures { λ r. ⌜ ((out : List ℕ) → result r (now (ram .exit)) out ≡ step t (now (ram .entry)) (loadModuleIn (now (body .entry))) out) ⌝ }
+{
+    if body.len() < 4 {
+        return t.refuse(Answer::BadCall);
+    }
+    let offset = u16_at(body, 2);
+    t.load_module_good(ram, body[0], body[1], offset, &body[4..])
 }

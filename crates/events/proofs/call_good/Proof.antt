@@ -42,6 +42,9 @@ allocate-event-requires c κs = search needs
 free-event-requires : tie.Need-free-event-requires
 free-event-requires c κs = search needs
 
+load-module-event-requires : tie.Need-load-module-event-requires
+load-module-event-requires c κs = search needs
+
 start-event-requires : tie.Need-start-event-requires
 start-event-requires c κs = search needs
 
@@ -131,27 +134,34 @@ same-length-9 c = search needs
 
 returns-13 : tie.Need-returns-13
 unfolding callIn
-returns-13 c = by-kind _ _ _ _ _ 256 _ _ (c .before .before .before .before .match .keys13) refl (c .before .before .start-event .ensures _)
+returns-13 c = by-kind _ _ _ _ _ 30 _ _ (c .before .before .before .before .match .keys13) refl (c .before .before .load-module-event .ensures _)
 
 same-length-10 : tie.Need-same-length-10
 same-length-10 c = search needs
 
 returns-14 : tie.Need-returns-14
 unfolding callIn
-returns-14 c = by-kind _ _ _ _ _ 257 _ _ (c .before .before .before .before .match .keys14) refl (c .before .before .store-event .ensures _)
+returns-14 c = by-kind _ _ _ _ _ 256 _ _ (c .before .before .before .before .match .keys14) refl (c .before .before .start-event .ensures _)
 
 same-length-11 : tie.Need-same-length-11
 same-length-11 c = search needs
 
+returns-15 : tie.Need-returns-15
+unfolding callIn
+returns-15 c = by-kind _ _ _ _ _ 257 _ _ (c .before .before .before .before .match .keys15) refl (c .before .before .store-event .ensures _)
+
 same-length-12 : tie.Need-same-length-12
 same-length-12 c = search needs
 
-returns-15 : tie.Need-returns-15
-unfolding callIn
-returns-15 c = by-kind _ _ _ _ _ 258 _ _ (c .before .before .before .before .before .match .keys15) refl (c .before .before .load-event .ensures)
+same-length-13 : tie.Need-same-length-13
+same-length-13 c = search needs
 
 returns-16 : tie.Need-returns-16
-returns-16 c = no-kind _ _ _ _ _ (c .before .before .before .before .before .pre .0) (c .before .before .before .before .before .pre .1) _ (unknown-kind _ _ (c .before .match .rest .0 .0 .0 .0 .0 .0 .0 .0 .0 .0 .0 .0 .0 .0 .1) (c .before .match .rest .0 .0 .0 .0 .0 .0 .0 .0 .0 .0 .0 .0 .0 .1) (c .before .match .rest .0 .0 .0 .0 .0 .0 .0 .0 .0 .0 .0 .0 .1) (c .before .match .rest .0 .0 .0 .0 .0 .0 .0 .0 .0 .0 .0 .1) (c .before .match .rest .0 .0 .0 .0 .0 .0 .0 .0 .0 .0 .1) (c .before .match .rest .0 .0 .0 .0 .0 .0 .0 .0 .0 .1) (c .before .match .rest .0 .0 .0 .0 .0 .0 .0 .0 .1) (c .before .match .rest .0 .0 .0 .0 .0 .0 .0 .1) (c .before .match .rest .0 .0 .0 .0 .0 .0 .1) (c .before .match .rest .0 .0 .0 .0 .0 .1) (c .before .match .rest .0 .0 .0 .0 .1) (c .before .match .rest .0 .0 .0 .1) (c .before .match .rest .0 .0 .1) (c .before .match .rest .0 .1) (c .before .match .rest .1)) (c .refuse .ensures)
+unfolding callIn
+returns-16 c = by-kind _ _ _ _ _ 258 _ _ (c .before .before .before .before .before .match .keys16) refl (c .before .before .load-event .ensures)
+
+returns-17 : tie.Need-returns-17
+returns-17 c = no-kind _ _ _ _ _ (c .before .before .before .before .before .pre .0) (c .before .before .before .before .before .pre .1) _ (unknown-kind _ _ (c .before .match .rest)) (c .refuse .ensures)
 
 pub call-good-spec : {M : Type 1} → statement M
 call-good-spec =
@@ -169,6 +179,7 @@ call-good-spec =
     set-user-boundary-event-requires
     allocate-event-requires
     free-event-requires
+    load-module-event-requires
     start-event-requires
     store-event-requires
     load-event-requires
@@ -198,6 +209,8 @@ call-good-spec =
     same-length-10
     returns-14
     same-length-11
-    same-length-12
     returns-15
-    returns-16)
+    same-length-12
+    same-length-13
+    returns-16
+    returns-17)

@@ -4,7 +4,7 @@ use mathlib.Core.List.{List}
 use Prim.Native.Nat.{ℕ, _+_, _-_, _*_}
 use lib.ListN.{length, getD, take, drop}
 use lib.Dec.{ltb, eqb}
-use Rattle.kernel.specs.Definition.Calls.{Call, start, reset, «open», close, read, write, default, status, link, boundary, set-user-boundary, allocate, free, store, load, no-call, short-start}
+use Rattle.kernel.specs.Definition.Calls.{Call, start, reset, «open», close, read, write, default, status, link, boundary, set-user-boundary, allocate, free, store, load, load-module, no-call, short-start}
 use Rattle.kernel.specs.Definition.Step.{Result, step}
 use Rattle.kernel.specs.declared.Tables.{Tables}
 use Rattle.events.specs.declared.Front.{Front}
@@ -35,7 +35,7 @@ bodyOf xs n = take n (drop 4 xs)
 abbrev pub restOf : (xs : List ℕ) (n : ℕ) → List ℕ
 restOf xs n = drop (4 + n) xs
 
--- 2 CALL: "body short of its fixed fields": these are n bytes, and a name, data or list is the rest of the body
+-- 2 CALL: "body short of its fixed fields": these are n bytes, and a name, data, a list or a stream is the rest of the body
 abbrev pub atLeast : (n : ℕ) (body : List ℕ) → Call → Call
 atLeast n body c = cond (ltb (length body) n) no-call c
 
@@ -103,7 +103,12 @@ storeIn body = atLeast 3 body (store (u8At body 0) (u16At body 1) (drop 3 body))
 unfoldable pub loadIn : List ℕ → Call
 loadIn body = exactly 5 body (load (u8At body 0) (u16At body 1) (u16At body 3))
 
--- the kinds in 01's order; "kind unknown" is no call
+-- order 3: "Kind 30's body is segment u8, start page u8 (0 to 3), start offset u16 (0 to 16,384), then the stream." A page or an offset "past its range" is
+-- the call's own to refuse
+unfoldable pub loadModuleIn : List ℕ → Call
+loadModuleIn body = atLeast 4 body (load-module (u8At body 0) (u8At body 1) (u16At body 2) (drop 4 body))
+
+-- the kinds in 01's order, then order 3's; "kind unknown" is no call
 unfoldable pub callIn : (kind : ℕ) (body : List ℕ) → Call
 callIn kind body =
     cond (eqb kind 256) (startIn body)
@@ -121,7 +126,8 @@ callIn kind body =
     (cond (eqb kind 25) (freeIn body)
     (cond (eqb kind 257) (storeIn body)
     (cond (eqb kind 258) (loadIn body)
-    no-call))))))))))))))
+    (cond (eqb kind 30) (loadModuleIn body)
+    no-call)))))))))))))))
 
 -- what an event record leaves of the tables, the RAM and the lent output
 abbrev pub stepOf : Tables → (ram : List ℕ) (kind : ℕ) (body out : List ℕ) → Result

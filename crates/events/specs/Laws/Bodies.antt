@@ -7,7 +7,7 @@ use borrow.Author.Tests.{ne-eqb}
 use lib.Dec.{ltb, eqb}
 use lib.ListN.{length}
 use Rattle.kernel.specs.Definition.Calls.{Call, isStart}
-use Rattle.events.specs.Definition.Records.{startIn, resetIn, openIn, closeIn, readIn, writeIn, defaultIn, statusIn, linkIn, boundaryIn, setUserBoundaryIn, allocateIn, freeIn, storeIn, loadIn, callIn}
+use Rattle.events.specs.Definition.Records.{startIn, resetIn, openIn, closeIn, readIn, writeIn, defaultIn, statusIn, linkIn, boundaryIn, setUserBoundaryIn, allocateIn, freeIn, storeIn, loadIn, loadModuleIn, callIn}
 
 plain : (b : Bool) (c d : Call) → isStart c ≡ false → isStart d ≡ false → isStart (cond b c d) ≡ false
 plain true c d f g = f
@@ -19,7 +19,7 @@ passed false c d e g = g
 
 -- no other kind is a start
 pub no-start : (kind : ℕ) (body : List ℕ) → (kind ≡ 256 → ⊥) → isStart (callIn kind body) ≡ false
-unfolding callIn startIn resetIn openIn closeIn readIn writeIn defaultIn statusIn linkIn boundaryIn setUserBoundaryIn allocateIn freeIn storeIn loadIn
+unfolding callIn startIn resetIn openIn closeIn readIn writeIn defaultIn statusIn linkIn boundaryIn setUserBoundaryIn allocateIn freeIn storeIn loadIn loadModuleIn
 no-start kind body h =
     passed (eqb kind 256) _ _ (ne-eqb kind 256 h)
     (plain (eqb kind 0) _ _ (plain (eqb (length body) 1) _ _ refl refl)
@@ -36,4 +36,5 @@ no-start kind body h =
     (plain (eqb kind 25) _ _ (plain (eqb (length body) 2) _ _ refl refl)
     (plain (eqb kind 257) _ _ (plain (ltb (length body) 3) _ _ refl refl)
     (plain (eqb kind 258) _ _ (plain (eqb (length body) 5) _ _ refl refl)
-    refl))))))))))))))
+    (plain (eqb kind 30) _ _ (plain (ltb (length body) 4) _ _ refl refl)
+    refl)))))))))))))))
