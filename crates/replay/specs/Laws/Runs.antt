@@ -6,7 +6,7 @@ use mathlib.Core.Logic.{inl, inr}
 use Prim.Native.Nat.{ℕ, _+_, _<_}
 use lib.ListN.{getD}
 use Rattle.kernel.specs.Definition.Answers.{granted}
-use Rattle.kernel.specs.Definition.Calls.{Call, start, reset, «open», close, read, write, default, status, link, boundary, set-user-boundary, allocate, free, store, load, no-call, short-start}
+use Rattle.kernel.specs.Definition.Calls.{Call, start, reset, «open», close, read, write, default, status, link, boundary, set-user-boundary, allocate, free, store, load, load-module, no-call, short-start}
 use Rattle.kernel.specs.Definition.Step.{Result, heard, decided, completed, step}
 use Rattle.history.specs.Definition.Runs.{State, History, after, event, stay, then, Run, LastWritten}
 use Rattle.history.specs.Bytes.BytesRead.{bytes-read}
@@ -34,6 +34,7 @@ start-run s (allocate caller) output e = absurd (false≢true e)
 start-run s (free caller segment) output e = absurd (false≢true e)
 start-run s (store segment offset bytes) output e = absurd (false≢true e)
 start-run s (load segment offset size) output e = absurd (false≢true e)
+start-run s (load-module segment page offset stream) output e = absurd (false≢true e)
 start-run s no-call output e = absurd (false≢true e)
 start-run s short-start output e = absurd (false≢true e)
 
