@@ -1,5 +1,5 @@
 /* The example of the listing, by exos_call: a line for each record, as in logs/example.txt. Then the same records in one
- * replay, which must leave the same RAM and the same last answer. */
+ * replay, which must leave the same RAM and the same last answer. Then a module, whose bytes must stand in the RAM. */
 #include "exos.h"
 
 #include <stdio.h>
@@ -65,5 +65,21 @@ int main(void) {
   if (u16(reply) != EXOS_START) return 8;
   exos_replay(more_ram, sizeof more_ram, out, sizeof out, log_bytes, sizeof log_bytes, reply, sizeof reply);
   if (u16(reply) != EXOS_TABLES) return 9;
+
+  /* A module into page zero, from page 1, offset 200h on: the byte AAh, then the word 1234h + 4201h, and the end. */
+  static uint8_t module[] = {EXOS_KIND_LOAD_MODULE, 0, 252, 1, 0x00, 0x02, 0x55, 0x41, 0x23, 0x4C};
+  static const uint8_t placed[] = {0xAA, 0x35, 0x54};
+  memcpy(ram_again + 0x200, placed, sizeof placed);
+  exos_call(image, sizeof image, ram, sizeof ram, module, sizeof module, out, sizeof out, reply, sizeof reply);
+  if (u16(reply) != EXOS_DONE || u16(reply + 2) != 0 || u16(reply + 4) != 4) return 10;
+  if (memcmp(ram, ram_again, sizeof ram) != 0) return 11;
+
+  /* Without its last byte it has no end; from the page's last byte on its word is outside. Neither stores a byte. */
+  exos_call(image, sizeof image, ram, sizeof ram, module, sizeof module - 1, out, sizeof out, reply, sizeof reply);
+  if (u16(reply) != EXOS_MODULE) return 12;
+  module[4] = 0xFF, module[5] = 0x3F;
+  exos_call(image, sizeof image, ram, sizeof ram, module, sizeof module, out, sizeof out, reply, sizeof reply);
+  if (u16(reply) != EXOS_PAGE) return 13;
+  if (memcmp(ram, ram_again, sizeof ram) != 0) return 14;
   return 0;
 }

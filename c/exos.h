@@ -54,8 +54,22 @@ extern "C" {
 #define EXOS_RECORD_BYTES 4096
 
 /* The kinds of event records, with the body of each, and a and b when it is done. Numbers are one byte, u8, or two, u16.
- * A list, a name or data is the rest of the body: its bytes alone. n is the length of a channel's buffer, m of a device's
- * RAM; flags are bit 4 for channels, 5 for devices too, 6 for user segments. */
+ * A list, a name, data or a stream is the rest of the body: its bytes alone. n is the length of a channel's buffer, m of
+ * a device's RAM; flags are bit 4 for channels, 5 for devices too, 6 for user segments.
+ *
+ * Load module stores the items of a stream at a location counter. page (0 to 3) and offset (0 to 16,384, past the end) are
+ * where the counter starts; its value is page * 16,384 + offset. The stream is read from bit 7 of its first byte on, each
+ * field's highest bit first. Sums drop a carry out of 16 bits.
+ *
+ *   0, 8 bits       stores a byte at the offset, which grows by 1
+ *   100, 16 bits    stores a word, low byte first, with the counter's value added; the offset grows by 2
+ *   10100, 2 bits   sets the page, and leaves the offset
+ *   10101           sets the page back to the one of the body
+ *   1011, 16 bits   is added to the counter's value, which must stay in its page
+ *   110             ends the module, with zeros up to the end of that byte
+ *   111             is illegal
+ *
+ * A module that is refused stores nothing. */
 enum exos_kind {
   EXOS_KIND_START = 256,            /* R u16, list (segments, u8 each)            segments, R */
   EXOS_KIND_RESET = 0,              /* flags u8                                   0, 0 */
@@ -71,15 +85,16 @@ enum exos_kind {
   EXOS_KIND_ALLOCATE = 24,          /* caller u8 (0 user, 1 device)               segment, 16,384 */
   EXOS_KIND_FREE = 25,              /* caller u8, segment u8                      0, 0 */
   EXOS_KIND_USER_STORE = 257,       /* segment u8, offset u16, data               0, length */
-  EXOS_KIND_USER_LOAD = 258         /* segment u8, offset u16, length u16         0, length */
+  EXOS_KIND_USER_LOAD = 258,        /* segment u8, offset u16, length u16         0, length */
+  EXOS_KIND_LOAD_MODULE = 30        /* segment u8, page u8, offset u16, stream    0, bytes used */
 };
 
 /* The answers' numbers. 0 and 17 are grants, the others refusals, with a and b 0 but for EXOS_DRIVER. Where several are
- * due the lowest is given. */
+ * due the lowest is given; of a module's items the first at fault decides, at one item in the order 19, 20, 13, 14. */
 enum exos_answer {
   EXOS_DONE = 0,
   EXOS_TABLES = 1,    /* not for start: tables not good, or RAM length wrong */
-  EXOS_CALL = 2,      /* kind unknown; body too short or too long; caller not 0 or 1 */
+  EXOS_CALL = 2,      /* kind unknown; body too short or too long; caller not 0 or 1; a module's start past its range */
   EXOS_CHANNEL = 3,   /* 255, or not open (open: 255 only) */
   EXOS_EXISTS = 4,    /* open: already open */
   EXOS_NAME = 5,      /* no name by 01's grammar */
@@ -88,13 +103,15 @@ enum exos_answer {
   EXOS_FULL = 8,      /* 32 channels or 16 devices already */
   EXOS_ROOM = 9,      /* no room for the channel or the device */
   EXOS_SEGMENT = 10,  /* nothing to allocate */
-  EXOS_OWNER = 11,    /* segment not the caller's to free, store or load */
+  EXOS_OWNER = 11,    /* segment not the caller's to free, store, load or put a module in */
   EXOS_BOUNDARY = 12, /* nothing shared, or value above the EXOS boundary */
-  EXOS_RANGE = 13,    /* offset + length past the end, or lent output too short */
-  EXOS_GUARD = 14,    /* store touches page zero 30h to 5Bh, save 3Dh and 3Eh */
+  EXOS_RANGE = 13,    /* offset + length past the end, lent output too short, or a module's store above the user boundary */
+  EXOS_GUARD = 14,    /* a store touches page zero 30h to 5Bh, save 3Dh and 3Eh */
   EXOS_FLAGS = 15,    /* a bit other than 4, 5, 6 */
   EXOS_START = 16,    /* list, R or RAM length wrong */
-  EXOS_SHARED = 17    /* allocate gave a shared segment, b is the user boundary */
+  EXOS_SHARED = 17,   /* allocate gave a shared segment, b is the user boundary */
+  EXOS_MODULE = 19,   /* load module: an illegal item, a stream that runs out, or padding not zero */
+  EXOS_PAGE = 20      /* load module: a move or store outside the page */
 };
 
 /* One call, on the image of the tables.
