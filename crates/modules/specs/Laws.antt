@@ -15,3 +15,4 @@ pub mod Turns
 pub mod Unique
 pub mod Moves
 pub mod Examples
+pub mod Clear
