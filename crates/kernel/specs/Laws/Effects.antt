@@ -11,7 +11,7 @@ use lib.ListN.{length}
 use Rattle.line.specs.Definition.Guard.{guarded}
 use Rattle.modules.specs.Definition.Counter.{counter}
 use Rattle.modules.specs.Definition.Judging.{judged, storedBy, refusalOf, usedOf}
-use Rattle.modules.specs.Laws.Stored.{Below, stored-below, none-refuses}
+use Rattle.modules.specs.Laws.Stored.{none-refuses}
 use Rattle.names.specs.Definition.Grammar.{Reading}
 use Rattle.names.specs.Definition.Read.{reading}
 use Rattle.names.specs.Definition.Tests.{linkNameTest, defaultNameTest}
@@ -86,7 +86,7 @@ pub data Effect (t : Tables) : Call → Decision → Type 0 where
   loads : {segment offset size : ℕ} → mayReach t (rowOf t segment) ≡ true → offset + size ≤ reachOf t (rowOf t segment)
       → Effect t (load segment offset size) (gives (Done 0 size) t filling from-segment (rowOf t segment) offset size)
   loads-module : {segment page offset : ℕ} {stream : List ℕ} (b : ℕ) → mayReach t (rowOf t segment) ≡ true
-      → Below (reachOf t (rowOf t segment)) (storedBy (targetOf t (rowOf t segment) page) (counter page offset) stream)
+      → refusalOf (judged (targetOf t (rowOf t segment) page) (counter page offset) stream) ≡ 0
       → Effect t (load-module segment page offset stream)
       (gives (Done 0 b) t changing one-by-one (rowOf t segment) (storedBy (targetOf t (rowOf t segment) page) (counter page offset) stream))
 
@@ -198,7 +198,7 @@ module _ (t : Tables) (ram : ℕ) where
       past (eqb k 19) _ refl (λ bad.
       past (eqb k 20) _ refl (λ out.
       does refl (loads-module (usedOf (judged target (counter page offset) stream)) (not-false _ e)
-      (stored-below target (counter page offset) stream (none-refuses (judged target (counter page offset) stream) range guard bad out)))))))))
+      (none-refuses (judged target (counter page offset) stream) range guard bad out))))))))
   heard-verdict output no-call = refuses _ (plain-is _ refl)
   heard-verdict output short-start = refuses _ (plain-is _ refl)
 
