@@ -10,7 +10,7 @@ use Rattle.kernel.specs.Definition.Tables.{ramSize}
 use Rattle.kernel.specs.Definition.Good.{Sized, Good}
 use Rattle.kernel.specs.Definition.Bytes.{nothing}
 use Rattle.kernel.specs.Definition.Answers.{gives, _changing_}
-use Rattle.kernel.specs.Definition.Calls.{Call, start, reset, «open», close, read, write, default, status, link, boundary, set-user-boundary, allocate, free, store, load, no-call, short-start, isStart, onBoundary}
+use Rattle.kernel.specs.Definition.Calls.{Call, start, reset, «open», close, read, write, default, status, link, boundary, set-user-boundary, allocate, free, store, load, load-module, no-call, short-start, isStart, onBoundary}
 use Rattle.kernel.specs.Definition.Refusals.{Row, tables-bad, ram-wrong, call-unknown, start-short}
 use Rattle.kernel.specs.Definition.Step.{readyTest, heard, decided}
 use Rattle.kernel.specs.Laws.Good.{good-says}
@@ -25,6 +25,7 @@ use Rattle.history.specs.Answers.Rows.Channels.{close-lowest, read-lowes
 use Rattle.history.specs.Answers.Rows.Names.{open-lowest, default-lowest, link-lowest}
 use Rattle.history.specs.Answers.Rows.Segments.{bound-lowest, allocate-lowest, free-lowest}
 use Rattle.history.specs.Answers.Rows.Bytes.{store-lowest, load-lowest}
+use Rattle.history.specs.Answers.Rows.Modules.{load-module-lowest}
 
 -- a start is heard on any tables, and any other call on good ones
 abbrev Heard : Tables → ℕ → Call → Type 0
@@ -77,6 +78,8 @@ module _ (t : Tables) (ram output : ℕ) where
   heard-lowest (free caller segment) h low = free-lowest t (heard-good (free caller segment) refl h) ram output caller segment low
   heard-lowest (store segment offset bytes) h low = store-lowest t (heard-good (store segment offset bytes) refl h) ram output segment offset bytes low
   heard-lowest (load segment offset size) h low = load-lowest t (heard-good (load segment offset size) refl h) ram output segment offset size low
+  heard-lowest (load-module segment page offset stream) h low =
+      load-module-lowest t (heard-good (load-module segment page offset stream) refl h) ram output segment page offset stream low
   heard-lowest no-call h low = unknown-lowest low
   heard-lowest short-start h low = short-lowest low
 

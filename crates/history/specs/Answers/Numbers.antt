@@ -5,8 +5,8 @@ use mathlib.Core.List.{List, [], _∷_}
 use mathlib.Core.Logic.{inl, inr}
 use Prim.Native.Nat.{ℕ}
 use Rattle.kernel.specs.Definition.Answers.{granted, Refusal, unless, Decision}
-use Rattle.kernel.specs.Definition.Calls.{Call, start, reset, «open», close, read, write, default, status, link, boundary, set-user-boundary, allocate, free, store, load, no-call, short-start, isStart}
-use Rattle.kernel.specs.Definition.Refusals.{Row, tables-bad, ram-wrong, call-unknown, start-short, allocate-caller, free-caller, open-channel, close-channel, read-channel, write-channel, open-exists, open-name, link-name, default-name, open-device, open-driver, open-full, link-full, open-room, link-low, link-room, allocate-none, free-owner, store-owner, load-owner, bound-none, bound-above, read-end, read-output, write-end, status-output, store-end, load-end, load-output, store-guard, reset-flags, start-list, start-low, start-high, start-ram}
+use Rattle.kernel.specs.Definition.Calls.{Call, start, reset, «open», close, read, write, default, status, link, boundary, set-user-boundary, allocate, free, store, load, load-module, no-call, short-start, isStart}
+use Rattle.kernel.specs.Definition.Refusals.{Row, tables-bad, ram-wrong, call-unknown, start-short, allocate-caller, free-caller, module-start-page, module-start-offset, open-channel, close-channel, read-channel, write-channel, open-exists, open-name, link-name, default-name, open-device, open-driver, open-full, link-full, open-room, link-low, link-room, allocate-none, free-owner, store-owner, load-owner, module-owner, bound-none, bound-above, read-end, read-output, write-end, status-output, store-end, load-end, load-output, module-range, module-guard, store-guard, reset-flags, start-list, start-low, start-high, start-ram, module-bad, module-page}
 use Rattle.kernel.specs.declared.Tables.{Tables}
 use Rattle.history.specs.Answers.Lowest.{Among, clear, over, Below, Lowest, Rising, unless-lowest, none-holds}
 
@@ -27,6 +27,7 @@ later (allocate caller) = (2 ∷ 10 ∷ [], refl)
 later (free caller segment) = (2 ∷ 11 ∷ [], refl)
 later (store segment offset bytes) = (11 ∷ 13 ∷ 14 ∷ [], refl)
 later (load segment offset size) = (11 ∷ 13 ∷ [], refl)
+later (load-module segment page offset stream) = (2 ∷ 11 ∷ 13 ∷ 14 ∷ 19 ∷ 20 ∷ [], refl)
 later no-call = (2 ∷ [], refl)
 later short-start = (2 ∷ [], refl)
 
@@ -55,6 +56,8 @@ module _ {t : Tables} {ram output : ℕ} where
   row-number c k start-short = inl refl
   row-number c k (allocate-caller h) = inr (inl refl)
   row-number c k (free-caller h) = inr (inl refl)
+  row-number c k (module-start-page h) = inr (inl refl)
+  row-number c k (module-start-offset h) = inr (inl refl)
   row-number c k (open-channel h) = inr (inl refl)
   row-number c k (close-channel h) = inr (inl refl)
   row-number c k (read-channel h) = inr (inl refl)
@@ -74,6 +77,7 @@ module _ {t : Tables} {ram output : ℕ} where
   row-number c k (free-owner h) = inr (inr (inl refl))
   row-number c k (store-owner h) = inr (inl refl)
   row-number c k (load-owner h) = inr (inl refl)
+  row-number c k (module-owner h) = inr (inr (inl refl))
   row-number c k (bound-none h) = inr (inl refl)
   row-number c k (bound-above h) = inr (inl refl)
   row-number c k (read-end o h) = inr (inr (inl refl))
@@ -83,12 +87,16 @@ module _ {t : Tables} {ram output : ℕ} where
   row-number c k (store-end o h) = inr (inr (inl refl))
   row-number c k (load-end o h) = inr (inr (inl refl))
   row-number c k (load-output h) = inr (inr (inl refl))
+  row-number c k (module-range o h) = inr (inr (inr (inl refl)))
+  row-number c k (module-guard o h) = inr (inr (inr (inr (inl refl))))
   row-number c k (store-guard o a b h) = inr (inr (inr (inl refl)))
   row-number c k (reset-flags h) = inr (inl refl)
   row-number c k (start-list h) = inl refl
   row-number c k (start-low h) = inl refl
   row-number c k (start-high h) = inl refl
   row-number c k (start-ram h) = inl refl
+  row-number c k (module-bad o h) = inr (inr (inr (inr (inr (inl refl)))))
+  row-number c k (module-page o h) = inr (inr (inr (inr (inr (inr (inl refl))))))
 
 -- the laws of Lowest.antt for the rows of a call
 module _ {t : Tables} {ram output : ℕ} (c : Call) where

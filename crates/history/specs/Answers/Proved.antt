@@ -1,7 +1,7 @@
 -- The statements of Definition/ExactlyOne.antt, proved.
 use mathlib.Core.Path.{_≡_, refl, sym, ap, _∙_}
 use mathlib.Core.List.{List}
-use mathlib.Core.Logic.{_⊎_, inl, inr}
+use mathlib.Core.Logic.{_≢_, _⊎_, inl, inr}
 use mathlib.Core.Option.{Option, none, some}
 use Prim.Native.Nat.{ℕ, _≤_, _<_}
 use native.Mathlib.Decide.{decLt}
@@ -15,7 +15,7 @@ use Rattle.kernel.specs.Definition.Refusals.{Row}
 use Rattle.kernel.specs.Definition.Step.{decided, step}
 use Rattle.kernel.specs.declared.Tables.{Tables}
 use Rattle.kernel.specs.declared.Answer.{Answer}
-use Rattle.kernel.specs.declared.Answer.the-variants.{Done, BadTables, BadCall, NoChannel, Exists, BadName, NoDevice, Driver, Full, NoRoom, NoSegment, NotOwner, BadBoundary, BadRange, Guarded, BadFlags, BadStart, Shared}
+use Rattle.kernel.specs.declared.Answer.the-variants.{Done, BadTables, BadCall, NoChannel, Exists, BadName, NoDevice, Driver, Full, NoRoom, NoSegment, NotOwner, BadBoundary, BadRange, Guarded, BadFlags, BadStart, Shared, BadModule, BadPage}
 use Rattle.history.specs.Definition.ExactlyOne.{IsAnswer, refused, passed, refusal, AnswersLowest, RefusesLowest, GrantsRest, OneAnswer, AtMostOne, ExactlyOne, OneResult, ReadsAs, named, unnamed, OneReading, OneName}
 use Rattle.history.specs.Answers.Lowest.{clear-none}
 use Rattle.history.specs.Answers.Numbers.{numbers, numbers-some, row-number}
@@ -36,10 +36,10 @@ answer-one C k l (refused {k = i} a b) (passed n) = absurd (n i a)
 answer-one C k l (passed n) (refused {k = j} c d) = absurd (n j c)
 answer-one C k l (passed n) (passed m) = refl
 
--- an answer is a grant, 0 or 17, or a refusal, 1 to 16
+-- an answer is a grant, 0 or 17, or a refusal, any other number
 abbrev Kinds : Answer → Type 0
 Kinds a =
-    (((numberOf a ≡ 0) ⊎ (numberOf a ≡ 17)) × (refusal a ≡ 0)) ⊎ ((1 ≤ numberOf a) × (numberOf a ≤ 16) × (refusal a ≡ numberOf a))
+    (((numberOf a ≡ 0) ⊎ (numberOf a ≡ 17)) × (refusal a ≡ 0)) ⊎ ((1 ≤ numberOf a) × (numberOf a ≢ 17) × (refusal a ≡ numberOf a))
 
 kinds : (a : Answer) → Kinds a
 kinds (Done a b) = inl (inl refl, refl)
@@ -60,6 +60,8 @@ kinds Guarded = inr (omega arith, omega arith, refl)
 kinds BadFlags = inr (omega arith, omega arith, refl)
 kinds BadStart = inr (omega arith, omega arith, refl)
 kinds (Shared a b) = inl (inr refl, refl)
+kinds BadModule = inr (omega arith, omega arith, refl)
+kinds BadPage = inr (omega arith, omega arith, refl)
 
 lowest-of : {C : ℕ → Type 0} {k : ℕ} → IsAnswer C k → 1 ≤ k → C k × ((j : ℕ) → j < k → ¬ C j)
 lowest-of (refused c low) h = (c, low)
@@ -73,7 +75,7 @@ none-of (refused r low) e = absurd (row-0 r e)
     row-0 {c = c} {k = k} r e = clear-none 0 1 (numbers c) (numbers-some c) k (omega arith) (omega arith) (row-number c k r)
 
 pub refuses-lowest : RefusesLowest
-refuses-lowest t ram output c s k one most =
+refuses-lowest t ram output c s k one other =
     let a = decided t ram output c .answer in
     let is = answers-lowest t ram output c s in (
       λ e. elim (kinds a) [

@@ -6,3 +6,4 @@ pub mod Room
 pub mod Names
 pub mod Segments
 pub mod Bytes
+pub mod Modules

@@ -2,7 +2,7 @@
 use mathlib.Core.Path.{_≡_}
 use mathlib.Core.Bool.{cond}
 use mathlib.Core.List.{List}
-use mathlib.Core.Logic.{_⊎_, _↔_}
+use mathlib.Core.Logic.{_≢_, _⊎_, _↔_}
 use mathlib.Core.Option.{Option, none, some}
 use Prim.Native.Nat.{ℕ, _≤_, _<_}
 use Rattle.names.specs.Definition.Grammar.{Reading, Reads}
@@ -30,10 +30,10 @@ abbrev pub AnswersLowest : Type 0
 AnswersLowest =
     (t : Tables) (ram output : ℕ) (c : Call) → Sized t → IsAnswer (Row t ram output c) (refusal (decided t ram output c .answer))
 
--- The same by the numbers: 1 to 16 is given exactly where that row holds and no lower one does
+-- The same by the numbers: any but 0 and 17 is given exactly where that row holds and no lower one does
 abbrev pub RefusesLowest : Type 0
 RefusesLowest =
-    (t : Tables) (ram output : ℕ) (c : Call) → Sized t → (k : ℕ) → 1 ≤ k → k ≤ 16
+    (t : Tables) (ram output : ℕ) (c : Call) → Sized t → (k : ℕ) → 1 ≤ k → k ≢ 17
     → (numberOf (decided t ram output c .answer) ≡ k) ↔ (Row t ram output c k × ((j : ℕ) → j < k → ¬ Row t ram output c j))
 
 -- and 0 or 17 exactly where no row holds

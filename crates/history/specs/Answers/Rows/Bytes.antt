@@ -1,13 +1,13 @@
 -- Store and load.
-use mathlib.Core.Path.{_≡_, refl}
+use mathlib.Core.Path.{refl}
 use mathlib.Core.List.{List}
 use mathlib.Core.Logic.{_⊎_, inl, inr, ⊎-elim}
-use Prim.Native.Nat.{ℕ, _+_, _≤_, _<_}
-use native.Mathlib.Decide.{decLe, decLt}
+use Prim.Native.Nat.{ℕ, _+_, _<_}
 use native.Mathlib.Omega.{arith}
 use lib.Dec.{ltb}
 use lib.ListN.{length}
-use Rattle.line.specs.Definition.Guard.{GuardedByte, guarded}
+use Rattle.line.specs.Definition.Guard.{guarded}
+use Rattle.modules.specs.Laws.Tests.{Guarded as Touching, guarded-decides}
 use Rattle.rows.specs.Definition.Classes.{USER, SHARED}
 use Rattle.rows.specs.Laws.Says.{Says, says-lt, says-eq, says-and, says-or, says-not, says-as}
 use Rattle.kernel.specs.Definition.Tables.{classAt, rowOf}
@@ -18,21 +18,17 @@ use Rattle.kernel.specs.Definition.Refusals.{Row, InList, Reached, store-owner,
 use Rattle.kernel.specs.declared.Tables.{Tables}
 use Rattle.kernel.specs.declared.Answer.the-variants.{NotOwner, BadRange, Guarded}
 use Rattle.history.specs.Answers.Lowest.{Below, Lowest, end, rule}
-use Rattle.history.specs.Answers.Tests.{says-either}
+use Rattle.history.specs.Answers.Tests.{says-either, says-decided}
 use Rattle.history.specs.Answers.Numbers.{by-rows, by-none}
 use Rattle.history.specs.Answers.Found.{in-list, list-one}
 
 -- the segment is in the list, and the user reaches it
-abbrev Reaches : Tables → (segment : ℕ) → Type 0
+abbrev pub Reaches : Tables → (segment : ℕ) → Type 0
 Reaches t segment = (row : ℕ) × InList t segment row × Reached t row
 
 -- the segment is in the list, and what is reached of it ends before an offset
 abbrev Past : Tables → (segment stop : ℕ) → Type 0
 Past t segment stop = (row : ℕ) × InList t segment row × (reachOf t row < stop)
-
--- one of n bytes from an offset is guarded
-abbrev Touches : (offset n : ℕ) → Type 0
-Touches offset n = (k : ℕ) × (offset ≤ k) × (k < offset + n) × GuardedByte k
 
 module _ {t : Tables} {ram output : ℕ} where
   store-11 : {segment offset : ℕ} {bytes : List ℕ} → Row t ram output (store segment offset bytes) 11 → ¬ Reaches t segment
@@ -54,39 +50,12 @@ module _ {t : Tables} {ram output : ℕ} where
   load-13 (load-end {row = i} o h) = inl (i, o, h)
   load-13 (load-output h) = inr h
 
-  store-14 : {segment offset : ℕ} {bytes : List ℕ} → Row t ram output (store segment offset bytes) 14 → InList t segment 0 × Touches offset (length bytes)
+  store-14 : {segment offset : ℕ} {bytes : List ℕ} → Row t ram output (store segment offset bytes) 14 → InList t segment 0 × Touching offset (length bytes)
   store-14 (store-guard {k = k} o a b h) = (o, (k, a, b, h))
-
--- n bytes from an offset meet the bytes from `low` on and below `high`
-meet : (offset n low high : ℕ) → 0 < n → low < high → offset < high → low < offset + n → (k : ℕ) × (offset ≤ k) × (k < offset + n) × (low ≤ k) × (k < high)
-meet offset n low high some h a b =
-    elim (decLe offset low) [
-      | yes q ↦ (low, q, b, omega arith, h)
-      | no q ↦ (offset, omega arith, omega arith, omega arith, a)
-    ]
-
--- 14 GUARD: "30h to 5Bh, save 3Dh and 3Eh"
-touches : (offset n : ℕ) → 0 < n → ((offset < 61) × (48 < offset + n)) ⊎ ((offset < 92) × (63 < offset + n)) → Touches offset n
-touches offset n some (inl (a, b)) =
-    let (k, p, q, l, h) = meet offset n 48 61 some (omega arith) a b in
-    (k, p, q, record { from = l; to = omega arith; save = (λ e. omega arith, λ e. omega arith) })
-touches offset n some (inr (a, b)) =
-    let (k, p, q, l, h) = meet offset n 63 92 some (omega arith) a b in
-    (k, p, q, record { from = omega arith; to = omega arith; save = (λ e. omega arith, λ e. omega arith) })
-
-touched : (offset n : ℕ) → Touches offset n → ((offset < 61) × (48 < offset + n)) ⊎ ((offset < 92) × (63 < offset + n))
-touched offset n (k, p, q, h) =
-    elim (decLt k 61) [
-      | yes a ↦ inl (omega arith, omega (arith, h .from))
-      | no a ↦
-          let x : k ≡ 61 → ⊥ = h .save .0 in
-          let y : k ≡ 62 → ⊥ = h .save .1 in
-          inr (omega (arith, h .to), omega arith)
-    ]
 
 module _ (t : Tables) (g : Good t) (ram output : ℕ) where
   -- 11 OWNER: "segment not the caller's to free, store or load"
-  reach-says : (segment : ℕ) → Says (mayReach t (rowOf t segment)) (Reaches t segment)
+  pub reach-says : (segment : ℕ) → Says (mayReach t (rowOf t segment)) (Reaches t segment)
   reach-says segment =
       let class = classAt t (rowOf t segment) in
       says-as (says-and (says-lt (rowOf t segment) (t .segments)) (says-or (says-or (says-eq (rowOf t segment) 0) (says-eq class USER)) (says-eq class SHARED)))
@@ -101,16 +70,15 @@ module _ (t : Tables) (g : Good t) (ram output : ℕ) where
       (λ h. (rowOf t segment, in-list t g segment (rw e (o .within)), h))
       (λ (j, p, h). rw (list-one t g segment j p) h)
 
-  reached : (segment : ℕ) → ¬ (Reaches t segment → ⊥) → Reaches t segment
+  pub reached : (segment : ℕ) → ¬ (Reaches t segment → ⊥) → Reaches t segment
   reached segment n = ⊎-elim (λ r. r) (λ m. absurd (n m)) (says-either (reach-says segment))
 
-  guard-says : (segment offset n : ℕ) → Reaches t segment → Says (guarded (rowOf t segment) offset n) (InList t segment 0 × Touches offset n)
+  -- 14 GUARD, of a segment that is reached
+  guard-says : (segment offset n : ℕ) → Reaches t segment → Says (guarded (rowOf t segment) offset n) (InList t segment 0 × Touching offset n)
   guard-says segment offset n (i, o, r) =
-      let e = list-one t g segment i o in
-      says-as (says-and (says-and (says-eq (rowOf t segment) 0) (says-lt 0 n))
-      (says-or (says-and (says-lt offset 61) (says-lt 48 (offset + n))) (says-and (says-lt offset 92) (says-lt 63 (offset + n)))))
-      (λ ((z, some), m). (rw z at (in-list t g segment (rw e (o .within))), touches offset n some m))
-      (λ (p, (k, a, b, h)). ((list-one t g segment 0 p, omega arith), touched offset n (k, a, b, h)))
+      says-as (says-decided (guarded-decides (rowOf t segment) offset n))
+      (λ (z, touched). (rw z at (in-list t g segment (rw (list-one t g segment i o) (o .within))), touched))
+      (λ (p, touched). (list-one t g segment 0 p, touched))
 
   pub store-lowest : (segment offset : ℕ) (bytes : List ℕ) → Below (Row t ram output (store segment offset bytes)) 2
       → Lowest (Row t ram output (store segment offset bytes)) (onStore t segment offset bytes)
