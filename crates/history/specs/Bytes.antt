@@ -1,6 +1,7 @@
 -- A byte read or lent on is the one last written through that channel, and a user's byte changes only by the user's store.
 pub mod Places
 pub mod Patched
+pub mod Each
 pub mod Words
 pub mod Buffers
 pub mod Steps

@@ -24,6 +24,8 @@ use Rattle.line.specs.Laws.Held.{held-at}
 use Rattle.line.specs.Laws.PointsOpened.{opened-points}
 use Rattle.line.specs.Laws.PointsClosed.{closed-points}
 use Rattle.line.specs.Laws.PointsLinked.{linked-points}
+use Rattle.modules.specs.Definition.Counter.{Put, putEach}
+use Rattle.modules.specs.Laws.Stored.{Below}
 use Rattle.kernel.specs.Definition.Tables.{channelAt}
 use Rattle.kernel.specs.Definition.Line.{totalOf, recordAt, sizeAt, bufferAt}
 use Rattle.kernel.specs.Definition.Segments.{mayReach, reachOf}
@@ -38,7 +40,7 @@ use Rattle.kernel.specs.Laws.Ready.{Ready}
 use Rattle.kernel.specs.declared.Tables.{Tables}
 use Rattle.history.specs.Answers.Found.{open-at}
 use Rattle.history.specs.Bytes.Patched.{patched, patched-not, patched-by, put-at-is}
-use Rattle.history.specs.Bytes.Steps.{store-fits}
+use Rattle.history.specs.Bytes.Steps.{store-fits, byte-ready}
 use Rattle.history.specs.Bytes.Places.{place-same, index-short, reach-users, off-line}
 
 -- the number of the channel in row i, and byte k of its buffer where it lies
@@ -261,3 +263,10 @@ module _ (t : Tables) (ram : List ℕ) (r : Ready t (length ram)) (f : ℕ → �
   pub reset-law : (flags : ℕ) → Holds f (resetting t flags) (ramReset t ram flags)
   unfolding resetting
   reset-law flags = flags-law (bit4 flags) (bit5 flags) (bit6 flags)
+
+-- nor does a load of a module
+pub load-law : (t : Tables) (ram : List ℕ) → Ready t (length ram) → (f : ℕ → ℕ → ℕ) → Holds f t ram → (row : ℕ) (puts : List Put) → mayReach t row ≡ true
+    → Below (reachOf t row) puts → Holds f t (putEach (segmentAt row) ram puts)
+load-law t ram r f holds row [] m h = holds
+load-law t ram r f holds row (p ∷ puts) m (l, h) =
+    load-law t _ (byte-ready t row m ram p r l) f (store-law t ram r f holds row (p .offset) (p .byte ∷ []) m (omega arith)) row puts m h

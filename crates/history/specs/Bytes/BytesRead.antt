@@ -13,6 +13,7 @@ use Rattle.rows.specs.Definition.Classes.{SHARED}
 use Rattle.line.specs.Definition.Line.{placeOf, lineFrom}
 use Rattle.line.specs.Definition.Ram.{filled}
 use Rattle.line.specs.Laws.Walks.{length-bytes, bytes-at}
+use Rattle.modules.specs.Laws.Stored.{stored-below}
 use Rattle.kernel.specs.Definition.Tables.{classAt, rowOf, channelAt}
 use Rattle.kernel.specs.Definition.Line.{sizeAt, bufferAt, opening, closing}
 use Rattle.kernel.specs.Definition.Segments.{granting, sharingLast, freeing, bounding}
@@ -23,14 +24,14 @@ use Rattle.kernel.specs.Definition.Calls.{Call, read}
 use Rattle.kernel.specs.Definition.Bytes.{from-buffer, ramOpened, ramAfter, outputAfter}
 use Rattle.kernel.specs.Definition.Step.{completed, step}
 use Rattle.kernel.specs.Laws.Keeps.{start-passed, start-is}
-use Rattle.kernel.specs.Laws.Effects.{Effect, resets, opens, closes, reads, writes, names, counts, links, tells, bounds, grants, shares, frees, stores, loads, effect}
+use Rattle.kernel.specs.Laws.Effects.{Effect, resets, opens, closes, reads, writes, names, counts, links, tells, bounds, grants, shares, frees, stores, loads, loads-module, effect}
 use Rattle.kernel.specs.Laws.Changes.{opening-opens, closing-closes, linking-links}
 use Rattle.kernel.specs.Laws.Ready.{Ready}
 use Rattle.kernel.specs.declared.Tables.{Tables}
-use Rattle.history.specs.Definition.Runs.{State, History, after, event, Started, NotAccepted, Runs, stay, then, Run, LastWritten, ReadsRight}
+use Rattle.history.specs.Definition.Runs.{State, History, after, event, Started, NotAccepted, Runs, stay, then, Run, putsIn, LastWritten, ReadsRight}
 use Rattle.history.specs.Bytes.Words.{written, lastWritten, last-written}
 use Rattle.history.specs.Answers.Found.{open-at}
-use Rattle.history.specs.Bytes.Buffers.{Holds, write-law, open-law, close-law, link-law, store-law, reset-law}
+use Rattle.history.specs.Bytes.Buffers.{Holds, write-law, open-law, close-law, link-law, store-law, reset-law, load-law}
 use Rattle.history.specs.Bytes.Steps.{Sound, done-length, Stepped, refused, done, stepped, step-sound, start-sound}
 
 freeing-law : (t : Tables) (row : ℕ) (ram : List ℕ) (f : ℕ → ℕ → ℕ) → Holds f t ram → Holds f (freeing t row) ram
@@ -60,6 +61,7 @@ done-holds {t} ram f r s holds (shares a) = holds
 done-holds {t} ram f r s holds (frees {caller} {segment} h o) = freeing-law t (rowOf t segment) ram f holds
 done-holds {t} ram f r s holds (stores {segment} {offset} {bytes} m h) = store-law t ram r f holds (rowOf t segment) offset bytes m h
 done-holds {t} ram f r s holds (loads m h) = holds
+done-holds {t} ram f r s holds (loads-module {segment} {page} {offset} {stream} b m h) = load-law t ram r f holds (rowOf t segment) (putsIn page offset stream) m (stored-below _ _ _ h)
 
 -- after a start no channel is open
 start-none : (s : State) → Started s → s .tables .opened ≡ 0

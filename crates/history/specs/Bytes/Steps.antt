@@ -1,7 +1,7 @@
 -- One step: a done call is known by its kind, the RAM keeps its length, and good tables with RAM of their size stay so.
 use mathlib.Core.Path.{_≡_, refl, sym, ap, subst, _∙_}
 use mathlib.Core.Bool.{Bool, true, false, cond, _&&_, _||_, false≢true}
-use mathlib.Core.List.{List, _++_}
+use mathlib.Core.List.{List, [], _∷_, _++_}
 use Prim.Native.Nat.{ℕ, _+_, _-_, _≤_, _<_}
 use native.Mathlib.Omega.{arith}
 use borrow.Author.Tests.{ltb-true}
@@ -11,6 +11,8 @@ use Rattle.rows.specs.Laws.Lists.{and-left}
 use Rattle.line.specs.Definition.Line.{placeOf, putLine, afterOpen, afterClose, afterLink}
 use Rattle.line.specs.Definition.Ram.{putAt}
 use Rattle.line.specs.Laws.Walks.{length-put}
+use Rattle.modules.specs.Definition.Counter.{Put, putEach}
+use Rattle.modules.specs.Laws.Stored.{Below, stored-below}
 use Rattle.kernel.specs.Definition.Tables.{rowOf}
 use Rattle.kernel.specs.Definition.Line.{totalOf}
 use Rattle.kernel.specs.Definition.Reset.{bit4, bit5}
@@ -19,12 +21,12 @@ use Rattle.kernel.specs.Definition.Answers.{granted, Decision}
 use Rattle.kernel.specs.Definition.Calls.{Call, isStart}
 use Rattle.kernel.specs.Definition.Bytes.{segmentAt, ramAfter}
 use Rattle.kernel.specs.Definition.Step.{Result, completed, step}
-use Rattle.kernel.specs.Laws.Effects.{Effect, resets, opens, closes, reads, writes, names, counts, links, tells, bounds, grants, shares, frees, stores, loads, effect}
+use Rattle.kernel.specs.Laws.Effects.{Effect, resets, opens, closes, reads, writes, names, counts, links, tells, bounds, grants, shares, frees, stores, loads, loads-module, effect}
 use Rattle.kernel.specs.Laws.Keeps.{start-passed, start-is}
 use Rattle.kernel.specs.Laws.Facts.{reach-small}
 use Rattle.kernel.specs.Laws.Ready.{Ready, decided-ready, start-ready}
 use Rattle.kernel.specs.declared.Tables.{Tables}
-use Rattle.history.specs.Definition.Runs.{State, after, event, Started, NotAccepted}
+use Rattle.history.specs.Definition.Runs.{State, after, event, Started, NotAccepted, putsIn}
 use Rattle.history.specs.Answers.Refused.{refused-changes-nothing}
 
 -- a state with good tables, and RAM of their size
@@ -48,6 +50,20 @@ length-put-at ram here xs h =
       length-take here ram,
       length-drop (here + length xs) ram,
     )
+
+-- bytes put one by one where the user may store
+module _ (t : Tables) (row : ℕ) (m : mayReach t row ≡ true) where
+  byte-length : (ram : List ℕ) (p : Put) → Ready t (length ram) → p .offset < reachOf t row
+      → length (putAt ram (segmentAt row + p .offset) (p .byte ∷ [])) ≡ length ram
+  byte-length ram p r h = length-put-at ram (segmentAt row + p .offset) (p .byte ∷ []) (store-fits t ram row (p .offset) 1 r m (omega arith))
+
+  pub byte-ready : (ram : List ℕ) (p : Put) → Ready t (length ram) → p .offset < reachOf t row
+      → Ready t (length (putAt ram (segmentAt row + p .offset) (p .byte ∷ [])))
+  byte-ready ram p r h = rw (byte-length ram p r h) r
+
+  length-each : (ram : List ℕ) (puts : List Put) → Ready t (length ram) → Below (reachOf t row) puts → length (putEach (segmentAt row) ram puts) ≡ length ram
+  length-each ram [] r h = refl
+  length-each ram (p ∷ puts) r (l, h) = length-each _ puts (byte-ready ram p r l) h ∙ byte-length ram p r l
 
 length-reset : (t : Tables) (ram : List ℕ) (four five : Bool)
     → length (let emptied = cond (four || five) (putLine (t .chain) (t .room) ram 0 (replicate (totalOf t) 0)) ram in
@@ -76,6 +92,7 @@ done-length ram r (frees h o) = refl
 done-length {t} ram r (stores {segment} {offset} {bytes} m h) =
     length-put-at ram (segmentAt (rowOf t segment) + offset) bytes (store-fits t ram (rowOf t segment) offset (length bytes) r m h)
 done-length ram r (loads m h) = refl
+done-length {t} ram r (loads-module {segment} {page} {offset} {stream} b m h) = length-each t (rowOf t segment) m ram (putsIn page offset stream) r (stored-below _ _ _ h)
 
 tables-ready : (s : State) (c : Call) (output : List ℕ) → Sound s → Ready (after s c output .tables) (length (s .ram))
 unfolding step completed

@@ -1,7 +1,7 @@
 -- What each done call makes of a byte whose place is the user's before and after it.
 use mathlib.Core.Path.{_≡_, refl, sym, ap, _∙_}
 use mathlib.Core.Bool.{Bool, true, false, cond, _||_}
-use mathlib.Core.List.{List, _++_}
+use mathlib.Core.List.{List, [], _∷_, _++_}
 use Prim.Native.Nat.{ℕ, _+_, _-_, _≤_, _<_}
 use native.Mathlib.Decide.{ℕ-discrete}
 use native.Mathlib.Omega.{arith}
@@ -19,6 +19,8 @@ use Rattle.line.specs.Laws.Makes.{length-heading}
 use Rattle.line.specs.Laws.Places.{place-low}
 use Rattle.line.specs.Laws.PointsClosed.{closed-points}
 use Rattle.line.specs.Laws.PointsLinked.{linked-points}
+use Rattle.modules.specs.Definition.Counter.{Put, putEach}
+use Rattle.modules.specs.Laws.Stored.{Below, stored-below}
 use Rattle.kernel.specs.Definition.Tables.{rowOf, channelAt}
 use Rattle.kernel.specs.Definition.Line.{totalOf, recordAt, sizeAt, bufferAt, opening}
 use Rattle.kernel.specs.Definition.Segments.{mayReach, reachOf}
@@ -29,18 +31,20 @@ use Rattle.kernel.specs.Definition.Answers.{Decision}
 use Rattle.kernel.specs.Definition.Calls.{Call}
 use Rattle.kernel.specs.Definition.Bytes.{ramOpened, ramClosed, segmentAt, ramAfter}
 use Rattle.kernel.specs.Laws.Chains.{good-chain, chain-shift}
-use Rattle.kernel.specs.Laws.Effects.{Effect, resets, opens, closes, reads, writes, names, counts, links, tells, bounds, grants, shares, frees, stores, loads}
+use Rattle.kernel.specs.Laws.Effects.{Effect, resets, opens, closes, reads, writes, names, counts, links, tells, bounds, grants, shares, frees, stores, loads, loads-module}
 use Rattle.kernel.specs.Laws.Changes.{Opened, opens-total, opening-opens, Linked, linking-links}
 use Rattle.kernel.specs.Laws.Facts.{reach-small}
 use Rattle.kernel.specs.Laws.Records.{record-within}
 use Rattle.kernel.specs.Laws.Ready.{Ready}
 use Rattle.kernel.specs.declared.Tables.{Tables}
+use Rattle.history.specs.Definition.Runs.{putsIn}
 use Rattle.history.specs.Bytes.Words.{stored}
 use Rattle.history.specs.Definition.Users.{Users}
 use Rattle.history.specs.Answers.Found.{in-list}
 use Rattle.history.specs.Bytes.Places.{off-line, off-room, users-small}
 use Rattle.history.specs.Bytes.Patched.{patched, patched-in, patched-not, patched-by, put-at-is}
-use Rattle.history.specs.Bytes.Steps.{store-fits}
+use Rattle.history.specs.Bytes.Each.{patchedEach}
+use Rattle.history.specs.Bytes.Steps.{store-fits, byte-ready}
 
 -- the offset taken with the segment's start or without
 patched-shift : (start offset : ℕ) (bytes : List ℕ) (k old : ℕ) → patched (start + offset) bytes (start + k) old ≡ patched offset bytes k old
@@ -131,6 +135,27 @@ store-user t ram r a segment o offset bytes user m h =
           rw (ne-eqb a segment q) (patched-not y bytes x (getD ram x 0) (λ low high. apart (omega arith)))
     ]
 
+-- one byte put there or elsewhere, and then the others
+byte-then : (b : Bool) (puts : List Put) (k here new old : ℕ) → here ≡ cond b new old
+    → cond b (patchedEach puts k here) here ≡ cond b (patchedEach puts k new) old
+byte-then true puts k here new old e = ap (patchedEach puts k) e
+byte-then false puts k here new old e = e
+
+-- a load of a module puts its bytes there one by one, or elsewhere
+load-user : (t : Tables) (ram : List ℕ) → Ready t (length ram) → (a segment offset : ℕ) (puts : List Put)
+    → Users t (rowOf t segment) offset → mayReach t (rowOf t a) ≡ true → Below (reachOf t (rowOf t a)) puts
+    → getD (putEach (segmentAt (rowOf t a)) ram puts) (segmentAt (rowOf t segment) + offset) 0
+    ≡ cond (eqb a segment) (patchedEach puts offset (getD ram (segmentAt (rowOf t segment) + offset) 0)) (getD ram (segmentAt (rowOf t segment) + offset) 0)
+unfolding patchedEach
+load-user t ram r a segment offset [] user m h = same (eqb a segment) _
+  where
+    same : (b : Bool) (x : ℕ) → x ≡ cond b x x
+    same true x = refl
+    same false x = refl
+load-user t ram r a segment offset (p ∷ puts) user m (l, h) =
+    load-user t _ (byte-ready t (rowOf t a) m ram p r l) a segment offset puts user m h
+    ∙ byte-then (eqb a segment) puts offset _ _ _ (store-user t ram r a segment (p .offset) offset (p .byte ∷ []) user m (omega arith))
+
 -- every done call makes of the byte what `stored` says
 pub done-user : {t : Tables} {c : Call} {d : Decision} (ram : List ℕ) → Ready t (length ram) → Ready (d .tables) (length ram) → (segment offset : ℕ)
     → Users t (rowOf t segment) offset → Users (d .tables) (rowOf t segment) offset → Effect t c d
@@ -153,3 +178,4 @@ done-user ram r s segment offset b l (shares a) = refl
 done-user ram r s segment offset b l (frees h o) = refl
 done-user {t} ram r s segment offset b l (stores {segment = a} {offset = o} {bytes} m h) = store-user t ram r a segment o offset bytes b m h
 done-user ram r s segment offset b l (loads m h) = refl
+done-user {t} ram r s segment offset b l (loads-module {segment = a} {page} {offset = o} {stream} _ m h) = load-user t ram r a segment offset (putsIn page o stream) b m (stored-below _ _ _ h)

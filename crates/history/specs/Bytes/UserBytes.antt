@@ -19,7 +19,7 @@ use Rattle.kernel.specs.Laws.Ready.{Ready}
 use Rattle.kernel.specs.declared.Tables.{Tables}
 use Rattle.history.specs.Definition.Runs.{State, History, after, event, NotAccepted, Runs, stay, then, Run, LastStored}
 use Rattle.history.specs.Bytes.Words.{stored, lastStored, last-stored}
-use Rattle.history.specs.Definition.Users.{Users, UsersIn, userByte}
+use Rattle.history.specs.Definition.Users.{UsersIn, userByte}
 use Rattle.history.specs.Bytes.Places.{reach-users}
 use Rattle.history.specs.Bytes.Steps.{Sound, store-fits, done-length, Stepped, refused, done, stepped, step-sound}
 use Rattle.history.specs.Bytes.BytesRead.{run-holds}
@@ -51,7 +51,7 @@ module _ (segment offset : ℕ) where
       (step-sound t c output (b .0) n, u, step-user t c output h (userByte s segment offset) (b .0) n (b .1) u (b .2))
 
 -- From any state s of a sequence of calls since an accepted start, over any further calls with no second start through which the place stays the user's:
--- the byte there is the one that the user last stored there since, or the one that it was.
+-- the byte there is the one that the user last stored there since, by a store or a load of a module, or the one that it was.
 pub user-bytes : {h : History} {s : State} → Run h s → (segment offset : ℕ) {j : History} {t : State} → Runs (UsersIn segment offset) s j t
     → LastStored segment offset (userByte s segment offset) j (userByte t segment offset)
 user-bytes r segment offset w = rw (user-runs segment offset (run-holds (r .started) (r .runs) .0) w .2) (last-stored segment offset _ _)

@@ -10,9 +10,10 @@ use borrow.Author.Tests.{eq-eqb, ne-eqb}
 use lib.Dec.{eqb}
 use lib.ListN.{length, getD}
 use Rattle.kernel.specs.Definition.Answers.{granted}
-use Rattle.kernel.specs.Definition.Calls.{Call, start, reset, «open», close, read, write, default, status, link, boundary, set-user-boundary, allocate, free, store, load, no-call, short-start}
-use Rattle.history.specs.Definition.Runs.{Event, History, Last, never, now, before, Writes, opened, wrote, LastWritten, Stores, put, LastStored}
+use Rattle.kernel.specs.Definition.Calls.{Call, start, reset, «open», close, read, write, default, status, link, boundary, set-user-boundary, allocate, free, store, load, load-module, no-call, short-start}
+use Rattle.history.specs.Definition.Runs.{Event, History, Last, never, now, before, Writes, opened, wrote, LastWritten, putsIn, Stores, put, loaded, LastStored}
 use Rattle.history.specs.Bytes.Patched.{patched, patched-in, patched-not}
+use Rattle.history.specs.Bytes.Each.{patchedEach, each-none, each-last, each-kinds}
 
 -- one byte is the last
 pub last-one : {Makes : Event → ℕ → Type 0} {first : ℕ} → ((e : Event) (x y : ℕ) → Makes e x → Makes e y → x ≡ y) → {h : History} {x y : ℕ}
@@ -23,12 +24,13 @@ last-one one (now m) (before none l) = absurd (none _ m)
 last-one one (before none l) (now m) = absurd (none _ m)
 last-one one (before none l) (before none' l') = last-one one l l'
 
--- ---- what of a call counts for the bytes: an open, a write, a store, or nothing that does
+-- ---- what of a call counts for the bytes: an open, a write, a store, a load of a module, or nothing that does
 
 pub data Deed : Call → Type 0 where
   opens : (channel driver n : ℕ) (name : List ℕ) → Deed («open» channel driver n name)
   writes : (channel offset : ℕ) (bytes : List ℕ) → Deed (write channel offset bytes)
   stores : (segment offset : ℕ) (bytes : List ℕ) → Deed (store segment offset bytes)
+  loads : (segment page offset : ℕ) (stream : List ℕ) → Deed (load-module segment page offset stream)
   other : (c : Call) → Deed c
 
 abbrev pub deed : (c : Call) → Deed c
@@ -47,6 +49,7 @@ deed (allocate caller) = other (allocate caller)
 deed (free caller segment) = other (free caller segment)
 deed (store segment offset bytes) = stores segment offset bytes
 deed (load segment offset size) = other (load segment offset size)
+deed (load-module segment page offset stream) = loads segment page offset stream
 deed no-call = other no-call
 deed short-start = other short-start
 
@@ -98,6 +101,7 @@ abbrev writtenBy : (channel k : ℕ) (c : Call) → Deed c → (old : ℕ) → �
 writtenBy channel k c (opens d driver n name) old = cond (eqb d channel) 0 old
 writtenBy channel k c (writes d offset bytes) old = cond (eqb d channel) (patched offset bytes k old) old
 writtenBy channel k c (stores segment offset bytes) old = old
+writtenBy channel k c (loads segment page offset stream) old = old
 writtenBy channel k c (other _) old = old
 
 unfoldable pub written : Call → (channel k old : ℕ) → ℕ
@@ -131,6 +135,7 @@ module _ (channel k : ℕ) where
         | no q ↦ inr (λ old. rw (ne-eqb d channel q))
       ]
   write-kinds _ (stores segment offset bytes) = inr (λ old. refl)
+  write-kinds _ (loads segment page offset stream) = inr (λ old. refl)
   write-kinds _ (other c) = inr (λ old. refl)
 
   pub last-written : (h : History) → LastWritten channel k h (lastWritten h channel k)
@@ -143,15 +148,17 @@ module _ (channel k : ℕ) where
 
 -- ---- a user's byte
 
--- what a done call makes of the byte at an offset of a segment, which was `old`, while that place stays the user's: a store there puts its byte
+-- what a done call makes of the byte at an offset of a segment, which was `old`, while that place stays the user's: a store there puts its byte, a
+-- load of a module the last of its bytes there
 abbrev storedBy : (segment k : ℕ) (c : Call) → Deed c → (old : ℕ) → ℕ
 storedBy segment k c (opens channel driver n name) old = old
 storedBy segment k c (writes channel offset bytes) old = old
 storedBy segment k c (stores d offset bytes) old = cond (eqb d segment) (patched offset bytes k old) old
+storedBy segment k c (loads d page offset stream) old = cond (eqb d segment) (patchedEach (putsIn page offset stream) k old) old
 storedBy segment k c (other _) old = old
 
 unfoldable pub stored : Call → (segment k old : ℕ) → ℕ
-unfolding patched
+unfolding patched patchedEach
 stored c segment k old = storedBy segment k c (deed c) old
 
 -- the byte last stored, computed
@@ -164,6 +171,7 @@ lastStored (e ∷ h) segment k first =
 module _ (segment k : ℕ) where
   stores-it : (e : Event) (x : ℕ) → Stores segment k e x → (granted (e .answer) ≡ true) × ((old : ℕ) → storedBy segment k (e .call) (deed (e .call)) old ≡ x)
   stores-it e x (put {offset} {bytes} g c a b) = (g, λ old. rw (c, eq-eqb segment segment refl) (patched-in offset bytes k old a b))
+  stores-it e x (loaded g c l) = (g, λ old. rw (c, eq-eqb segment segment refl) (each-last l old))
 
   store-kinds : (c : Call) (d : Deed c)
       → ((e : Event) → e .call ≡ c → granted (e .answer) ≡ true → (x : ℕ) × Stores segment k e x) ⊎ ((old : ℕ) → storedBy segment k c d old ≡ old)
@@ -174,6 +182,14 @@ module _ (segment k : ℕ) where
         | yes q ↦ elim (reached offset bytes k) [
           | inl (a, b) ↦ inl (λ e c g. (getD bytes (k - offset) 0, put g (c ∙ ap (λ (x : ℕ). store x offset bytes) q) a b))
           | inr p ↦ inr (λ old. rw (eq-eqb d segment q) (p old))
+        ]
+        | no q ↦ inr (λ old. rw (ne-eqb d segment q))
+      ]
+  store-kinds _ (loads d page offset stream) =
+      elim (ℕ-discrete d segment) [
+        | yes q ↦ elim (each-kinds k (putsIn page offset stream)) [
+          | inl (x, l) ↦ inl (λ e c g. (x, loaded g (c ∙ ap (λ (y : ℕ). load-module y page offset stream) q) l))
+          | inr n ↦ inr (λ old. rw (eq-eqb d segment q) (each-none k (putsIn page offset stream) n old))
         ]
         | no q ↦ inr (λ old. rw (ne-eqb d segment q))
       ]

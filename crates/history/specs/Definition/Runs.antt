@@ -1,11 +1,14 @@
 -- Sequences of calls since an accepted start, each made on the tables and RAM the last one left, and what their own calls and answers say of a byte.
 use mathlib.Core.Path.{_≡_}
 use mathlib.Core.Bool.{true, false, _&&_}
+use mathlib.Core.Logic.{_≢_}
 use mathlib.Core.List.{List, [], _∷_}
 use Prim.Native.Nat.{ℕ, _+_, _-_, _≤_, _<_}
 use lib.ListN.{length, getD}
+use Rattle.modules.specs.Definition.Reading.{takenOf}
+use Rattle.modules.specs.Definition.Counter.{counter, Put, putsOf}
 use Rattle.kernel.specs.Definition.Answers.{granted}
-use Rattle.kernel.specs.Definition.Calls.{Call, start, «open», read, write, store, isStart}
+use Rattle.kernel.specs.Definition.Calls.{Call, start, «open», read, write, store, load-module, isStart}
 use Rattle.kernel.specs.Definition.Step.{step}
 use Rattle.kernel.specs.declared.Tables.{Tables}
 use Rattle.kernel.specs.declared.Answer.{Answer}
@@ -80,10 +83,27 @@ pub data Writes (channel k : ℕ) (e : Event) : ℕ → Type 0 where
 abbrev pub LastWritten : (channel k : ℕ) → History → ℕ → Type 0
 LastWritten channel k = Last (Writes channel k) 0
 
--- byte k of a segment: a done store there makes it what is stored
+-- the bytes that a load of a module puts, in their order, each at an offset of the segment
+abbrev pub putsIn : (page offset : ℕ) (stream : List ℕ) → List Put
+putsIn page offset stream = putsOf page (counter page offset) (takenOf stream .items)
+
+-- none of them is put at offset k
+abbrev pub NonePut : (k : ℕ) → List Put → Type 0
+NonePut k [] = Unit {0}
+NonePut k (p ∷ puts) = (p .offset ≢ k) × NonePut k puts
+
+-- the last of them that is put at offset k is x
+pub data LastPut (k : ℕ) : List Put → ℕ → Type 0 where
+  last : {p : Put} {puts : List Put} → p .offset ≡ k → NonePut k puts → LastPut k (p ∷ puts) (p .byte)
+  later : {p : Put} {puts : List Put} {x : ℕ} → LastPut k puts x → LastPut k (p ∷ puts) x
+
+-- byte k of a segment: a done store there makes it what is stored. "Condition 3 reads a load as one user store per byte" (order 3): a done load of a
+-- module that puts bytes there makes it the last of them
 pub data Stores (segment k : ℕ) (e : Event) : ℕ → Type 0 where
   put : {offset : ℕ} {bytes : List ℕ} → granted (e .answer) ≡ true → e .call ≡ store segment offset bytes → offset ≤ k → k < offset + length bytes
       → Stores segment k e (getD bytes (k - offset) 0)
+  loaded : {page offset x : ℕ} {stream : List ℕ} → granted (e .answer) ≡ true → e .call ≡ load-module segment page offset stream
+      → LastPut k (putsIn page offset stream) x → Stores segment k e x
 
 -- the byte last stored there, or `first` if none was
 abbrev pub LastStored : (segment k first : ℕ) → History → ℕ → Type 0
