@@ -9,3 +9,4 @@ pub mod BytesRead
 pub mod LentOn
 pub mod Stores
 pub mod UserBytes
+pub mod Loads

@@ -1,5 +1,6 @@
 -- The words of condition 3, and what is said of the definition.
 pub mod Runs
+pub mod Loads
 pub mod Users
 pub mod Lent
 pub mod Reachable
