@@ -1,4 +1,4 @@
--- A sequence worked out: a start, two opens, a write, a close, a link, a segment shared, a store. Its states meet all that the theorems ask.
+-- A sequence worked out: a start, two opens, a write, a close, a link, a segment shared, a store, a module loaded. Its states meet all that the theorems ask.
 use mathlib.Core.Path.{_≡_, refl, sym, ap, subst, _∙_}
 use mathlib.Core.Bool.{Bool, true, false, _&&_}
 use mathlib.Core.List.{List, [], _∷_}
@@ -12,6 +12,8 @@ use Rattle.names.specs.Definition.Tests.{lettersTest}
 use Rattle.line.specs.Definition.Line.{chainIndexOf, offsetOf, placeOf}
 use Rattle.line.specs.Definition.Lent.{lentAt}
 use Rattle.line.specs.declared.Lent.the-variants.{Part}
+use Rattle.modules.specs.Definition.Bits.{bitsIn}
+use Rattle.modules.specs.Definition.Reading.{takenIn}
 use Rattle.rows.specs.Definition.Lists.{upTo}
 use Rattle.rows.specs.Laws.Lists.{and-left, and-right}
 use Rattle.rows.specs.Definition.Classes.{SHARED}
@@ -21,7 +23,7 @@ use Rattle.kernel.specs.Definition.Tables.{ramSize, classAt, rowOf}
 use Rattle.kernel.specs.Definition.Line.{grown, shrunk}
 use Rattle.kernel.specs.Definition.Start.{noTables}
 use Rattle.kernel.specs.Definition.Answers.{numberOf, granted, Decision}
-use Rattle.kernel.specs.Definition.Calls.{Call, start, close, read, write, link, set-user-boundary, allocate, store, isStart}
+use Rattle.kernel.specs.Definition.Calls.{Call, start, close, read, write, link, set-user-boundary, allocate, store, load-module, isStart}
 use Rattle.kernel.specs.Definition.Step.{decided, completed, step}
 use Rattle.kernel.specs.Definition.Lend.{lentOnGood, lentOn, partOn}
 use Rattle.kernel.specs.Laws.Ready.{Ready, decided-ready, start-ready}
@@ -168,9 +170,10 @@ abbrev calls : List Call
 calls =
     opens 1 3 ∷ opens 2 4 ∷ write 2 1 (7 ∷ []) ∷ close 1 ∷ link 100 (65 ∷ []) ∷ allocate 0 ∷ allocate 0 ∷ allocate 0 ∷ set-user-boundary 1000 ∷ []
 
--- The user's byte in 255 stays through an open that fills the room above it, and a close.
+-- The module is the word 1234h, loaded at offset 6 in page 1, whose value is 4006h. The user's bytes in 255 stay through an open that fills the room
+-- above them, and a close.
 abbrev more : List Call
-more = store 255 5 (9 ∷ []) ∷ opens 3 9938 ∷ close 2 ∷ []
+more = store 255 5 (9 ∷ []) ∷ load-module 255 1 6 (0x82 ∷ 0x46 ∷ 0x98 ∷ []) ∷ opens 3 9938 ∷ close 2 ∷ []
 
 abbrev t₀ : Tables
 t₀ = answered noTables begin .tables
@@ -189,17 +192,9 @@ pub answers : numbers t₀ calls ≡ 0 ∷ 0 ∷ 0 ∷ 0 ∷ 0 ∷ 0 ∷ 0 ∷ 1
 unfolding decided noTables lettersTest upTo chainLength boundaryAt grown shrunk
 answers = refl
 
-pub answers-more : numbers t₁ more ≡ 0 ∷ 0 ∷ 0 ∷ []
-unfolding decided noTables lettersTest upTo chainLength boundaryAt grown shrunk
+pub answers-more : numbers t₁ more ≡ 0 ∷ 0 ∷ 0 ∷ 0 ∷ []
+unfolding decided noTables lettersTest upTo chainLength boundaryAt grown shrunk takenIn bitsIn
 answers-more = refl
-
-shared-here : sharedTest 255 5 t₁ ≡ true
-unfolding decided noTables lettersTest upTo chainLength boundaryAt grown shrunk
-shared-here = refl
-
-shared-all : sharedAll 255 5 t₁ more ≡ true
-unfolding decided noTables lettersTest upTo chainLength boundaryAt grown shrunk
-shared-all = refl
 
 -- channel 2's buffer, on positions 16 to 19 of the line, where R is 10,974
 computed : Part 60106 ≡ lentOn t₁ 65536 2
@@ -256,13 +251,21 @@ module _ (ram : List ℕ) (four : length ram ≡ 65536) where
   unfolding lastWritten written patched decided noTables lettersTest upTo chainLength boundaryAt grown shrunk
   byte-one = written-one 2 1 (bytes-read sequence 2 0 3 lent gave 1 (omega arith)) (last-written 2 1 _) ∙ last 1
 
-  -- 2: byte 5 of the shared segment is the 9 that was stored
+  -- 2: byte 5 of the shared segment is the 9 that was stored, and byte 7 the high byte of 1234h + 4006h, which was loaded
+  byte-last : (k : ℕ) → sharedTest 255 k t₁ ≡ true → sharedAll 255 k t₁ more ≡ true
+      → userByte (leads s₁ more) 255 k ≡ lastStored (plain [] t₁ more) 255 k (userByte s₁ 255 k)
+  byte-last k here all =
+      stored-one 255 k (user-bytes sequence 255 k (runs [] s₁ more fit-more (users-all 255 k k₁ more fit-more all) (stay (users 255 k k₁ here))))
+      (last-stored 255 k _ _)
+      ∙ alike-stored (alike none k₁ more fit-more) 255 k _
+
   pub byte-stored : userByte (leads s₁ more) 255 5 ≡ 9
-  unfolding lastStored stored patched decided noTables lettersTest upTo chainLength boundaryAt grown shrunk
-  byte-stored =
-      stored-one 255 5 (user-bytes sequence 255 5 (runs [] s₁ more fit-more (users-all 255 5 k₁ more fit-more shared-all) (stay (users 255 5 k₁ shared-here))))
-      (last-stored 255 5 _ _)
-      ∙ alike-stored (alike none k₁ more fit-more) 255 5 _
+  unfolding lastStored stored patched decided noTables lettersTest upTo chainLength boundaryAt grown shrunk takenIn bitsIn
+  byte-stored = byte-last 5 refl refl
+
+  pub byte-loaded : userByte (leads s₁ more) 255 7 ≡ 0x52
+  unfolding lastStored stored patched decided noTables lettersTest upTo chainLength boundaryAt grown shrunk takenIn bitsIn
+  byte-loaded = byte-last 7 refl refl
 
   -- 3: the one channel's record lies in one segment
   pub one-segment : countIn (s₁ .tables .segments) (inSystem (s₁ .tables)) ≡ 1
