@@ -145,7 +145,7 @@ pub struct Ran {
     /// The last answer.
     pub last: Reply,
     /// The answers by number.
-    pub answers: [usize; 18],
+    pub answers: [usize; 21],
 }
 
 /// Runs a log through the Rust kernel, whose calls test their tables.
@@ -157,7 +157,7 @@ pub fn run(ram: &mut [u8], out: &mut [u8], log: &[u8]) -> Ran {
             a: 0,
             b: 0,
         },
-        answers: [0; 18],
+        answers: [0; 21],
     };
     let mut rest = log;
     while let [l0, l1, k0, k1, later @ ..] = rest {

@@ -3,7 +3,7 @@
 /// The answer to a call.
 #[derive(Clone, Copy, Debug, PartialEq, Eq)]
 pub struct Reply {
-    /// 0 done, 1 to 16 refused, 17 a grant.
+    /// 0 done, 17 a grant, any other refused.
     pub number: u8,
     /// The first value.
     pub a: u8,
@@ -58,6 +58,10 @@ pub enum Refusal {
     Flags,
     /// "List, R or RAM length wrong."
     Start,
+    /// "An illegal item, input that runs out or bad padding."
+    Module,
+    /// "A move or store outside the page."
+    Page,
 }
 
 impl Refusal {
@@ -80,6 +84,8 @@ impl Refusal {
             Refusal::Guard => 14,
             Refusal::Flags => 15,
             Refusal::Start => 16,
+            Refusal::Module => 19,
+            Refusal::Page => 20,
         }
     }
 }

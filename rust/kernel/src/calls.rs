@@ -3,7 +3,7 @@
 use crate::answers::{Refusal, Reply};
 use crate::good::is_usable;
 use crate::tables::Tables;
-use crate::{channels, devices, reset, segments, user};
+use crate::{channels, devices, modules, reset, segments, user};
 
 /// A call with its arguments, in the order of the table of bodies.
 #[derive(Clone, Copy, Debug, PartialEq, Eq)]
@@ -89,6 +89,17 @@ pub enum Call<'a> {
         /// The segment number.
         segment: u8,
     },
+    /// 30
+    LoadModule {
+        /// The segment number.
+        segment: u8,
+        /// The start page.
+        page: u8,
+        /// The start offset.
+        offset: u16,
+        /// The module, and whatever follows it.
+        stream: &'a [u8],
+    },
     /// 257
     Store {
         /// The segment number.
@@ -133,7 +144,8 @@ pub fn call(tables: &mut Tables, ram: &mut [u8], call: Call, output: &mut [u8]) 
 }
 
 /// "Several at once: the lowest number wins": each call below checks in rising
-/// order of the numbers.
+/// order of the numbers, but for the items of a module, which have an order of
+/// their own.
 fn perform(
     tables: &mut Tables,
     ram: &mut [u8],
@@ -170,6 +182,12 @@ fn perform(
         Call::SetUserBoundary { value } => segments::set_user_boundary(tables, value),
         Call::Allocate { caller } => segments::allocate(tables, caller),
         Call::Free { caller, segment } => segments::free(tables, caller, segment),
+        Call::LoadModule {
+            segment,
+            page,
+            offset,
+            stream,
+        } => modules::load(tables, ram, segment, page, offset, stream),
         Call::Store {
             segment,
             offset,

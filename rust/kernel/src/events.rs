@@ -46,6 +46,12 @@ pub fn decode(kind: u16, body: &[u8]) -> Call<'_> {
         },
         (24, &[caller]) => Call::Allocate { caller },
         (25, &[caller, segment]) => Call::Free { caller, segment },
+        (30, &[segment, page, o0, o1, ref stream @ ..]) => Call::LoadModule {
+            segment,
+            page,
+            offset: word(o0, o1),
+            stream,
+        },
         (257, &[segment, o0, o1, ref data @ ..]) => Call::Store {
             segment,
             offset: word(o0, o1),

@@ -1,9 +1,10 @@
 //! An independent reference kernel: segments, boundaries, channels and their
-//! RAM, device names and reset flags of EXOS 2.1.
+//! RAM, device names, reset flags and relocatable modules of EXOS 2.1.
 //!
-//! Sentences in quotation marks are those of the definition (document 01)
-//! that the code beside them follows. [`call`] makes one call on [`Tables`]
-//! and the lent RAM; a refused call changes nothing.
+//! Sentences in quotation marks are those of the definition (document 01) and
+//! of the orders (document 02) that the code beside them follows. [`call`]
+//! makes one call on [`Tables`] and the lent RAM; a refused call changes
+//! nothing.
 
 mod answers;
 mod calls;
@@ -11,9 +12,11 @@ mod channels;
 mod devices;
 mod events;
 mod good;
+mod items;
 mod line;
 mod listing;
 mod machine;
+mod modules;
 mod names;
 mod reset;
 mod segments;

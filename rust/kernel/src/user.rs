@@ -22,34 +22,55 @@ fn reach(tables: &Tables, row: usize) -> Option<usize> {
     }
 }
 
-/// The row of the segment and the offsets asked for, where they are the
-/// user's.
-fn find(
-    tables: &Tables,
-    segment: u8,
-    offset: u16,
-    length: usize,
-) -> Result<(usize, Range<usize>), Refusal> {
-    let row = segments::row_of(tables, segment).ok_or(Refusal::Owner)?;
-    let end = reach(tables, row).ok_or(Refusal::Owner)?;
-    let offset = usize::from(offset);
-    if length > end || offset > end - length {
-        return Err(Refusal::Range);
+/// The user's part of a segment.
+pub(crate) struct UserPart {
+    row: usize,
+    end: usize,
+}
+
+impl UserPart {
+    /// "OWNER: segment not the caller's to free, store or load."
+    pub(crate) fn of(tables: &Tables, segment: u8) -> Result<UserPart, Refusal> {
+        let row = segments::row_of(tables, segment).ok_or(Refusal::Owner)?;
+        let end = reach(tables, row).ok_or(Refusal::Owner)?;
+        Ok(UserPart { row, end })
     }
-    Ok((row, offset..offset + length))
+
+    /// "RANGE: offset + length past the end."
+    fn check_range(&self, offsets: &Range<usize>) -> Result<(), Refusal> {
+        if offsets.end > self.end {
+            return Err(Refusal::Range);
+        }
+        Ok(())
+    }
+
+    /// RANGE, and "GUARD: store touches page zero 30h to 5Bh, save 3Dh and
+    /// 3Eh".
+    pub(crate) fn check_store(&self, offsets: &Range<usize>) -> Result<(), Refusal> {
+        self.check_range(offsets)?;
+        if self.row == PAGE_ZERO && is_guarded(offsets) {
+            return Err(Refusal::Guard);
+        }
+        Ok(())
+    }
+
+    /// Where in the RAM the offsets are.
+    pub(crate) fn place(&self, offsets: Range<usize>) -> Range<usize> {
+        let base = self.row * SEGMENT;
+        base + offsets.start..base + offsets.end
+    }
 }
 
-fn part(row: usize, offsets: Range<usize>) -> Range<usize> {
-    row * SEGMENT + offsets.start..row * SEGMENT + offsets.end
-}
-
-/// "GUARD: store touches page zero 30h to 5Bh, save 3Dh and 3Eh."
-fn is_guarded(row: usize, offsets: &Range<usize>) -> bool {
-    row == PAGE_ZERO
-        && !offsets.is_empty()
+fn is_guarded(offsets: &Range<usize>) -> bool {
+    !offsets.is_empty()
         && GUARDED
             .iter()
             .any(|guarded| offsets.start < guarded.end && guarded.start < offsets.end)
+}
+
+fn offsets(offset: u16, length: usize) -> Range<usize> {
+    let start = usize::from(offset);
+    start..start + length
 }
 
 pub(crate) fn store(
@@ -59,11 +80,10 @@ pub(crate) fn store(
     offset: u16,
     data: &[u8],
 ) -> Result<Reply, Refusal> {
-    let (row, offsets) = find(tables, segment, offset, data.len())?;
-    if is_guarded(row, &offsets) {
-        return Err(Refusal::Guard);
-    }
-    ram[part(row, offsets)].copy_from_slice(data);
+    let part = UserPart::of(tables, segment)?;
+    let offsets = offsets(offset, data.len());
+    part.check_store(&offsets)?;
+    ram[part.place(offsets)].copy_from_slice(data);
     Ok(Reply::done(0, data.len() as u16))
 }
 
@@ -75,10 +95,12 @@ pub(crate) fn load(
     length: u16,
     output: &mut [u8],
 ) -> Result<Reply, Refusal> {
-    let (row, offsets) = find(tables, segment, offset, usize::from(length))?;
+    let part = UserPart::of(tables, segment)?;
+    let offsets = offsets(offset, usize::from(length));
+    part.check_range(&offsets)?;
     output
         .get_mut(..usize::from(length))
         .ok_or(Refusal::Range)?
-        .copy_from_slice(&ram[part(row, offsets)]);
+        .copy_from_slice(&ram[part.place(offsets)]);
     Ok(Reply::done(0, length))
 }

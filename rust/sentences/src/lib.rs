@@ -21,7 +21,7 @@ pub fn changed(change: &Change) -> Tables {
 
 /// A call of each kind but start, and of one unknown kind: kind and body. On
 /// [`tables`] each known one is done.
-pub const CALLS: [(u16, &[u8]); 15] = [
+pub const CALLS: [(u16, &[u8]); 16] = [
     (0, &[0]),
     (1, b"\x09\x00\x00\x00NET:"),
     (3, &[1]),
@@ -34,6 +34,7 @@ pub const CALLS: [(u16, &[u8]); 15] = [
     (23, &[0, 0]),
     (24, &[0]),
     (25, &[0, 252]),
+    (30, &[250, 0, 0, 0, 0x00, 0xE0]),
     (257, &[250, 0, 0, 1]),
     (258, &[250, 0, 0, 1, 0]),
     (999, &[]),

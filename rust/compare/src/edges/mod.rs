@@ -143,7 +143,10 @@ impl<Met: FnMut(Edge)> Meeting<'_, Met> {
                 offset,
                 length,
             } => self.load(segment, usize::from(offset), usize::from(length)),
-            Call::Start { .. } | Call::Boundary | Call::Unknown { .. } => {}
+            Call::Start { .. }
+            | Call::Boundary
+            | Call::LoadModule { .. }
+            | Call::Unknown { .. } => {}
         }
     }
 }

@@ -3,7 +3,7 @@
 use exos_kernel::{decode, Call};
 
 /// Kind, the length of its fixed fields, and whether more may follow.
-const BODIES: [(u16, usize, bool); 15] = [
+const BODIES: [(u16, usize, bool); 16] = [
     (256, 2, true),
     (0, 1, false),
     (1, 4, true),
@@ -17,6 +17,7 @@ const BODIES: [(u16, usize, bool); 15] = [
     (23, 2, false),
     (24, 1, false),
     (25, 2, false),
+    (30, 4, true),
     (257, 3, true),
     (258, 5, false),
 ];
@@ -81,6 +82,13 @@ fn fields_in_their_order() {
         data,
     };
     assert_eq!(decode(257, &body), store);
+    let load_module = Call::LoadModule {
+        segment: 1,
+        page: 2,
+        offset: 0x0403,
+        stream: &[5],
+    };
+    assert_eq!(decode(30, &body), load_module);
     let (unit, name) = (1, &body[1..]);
     assert_eq!(decode(19, &body), Call::Default { unit, name });
     let (m, name) = (0x0201, &body[2..]);

@@ -34,13 +34,13 @@ fn the_example_to_the_letter() {
 #[test]
 fn before_an_accepted_start_every_other_kind_answers_1() {
     let mut input = Vec::new();
-    for kind in [0, 1, 2, 3, 20, 22, 255, 257, 258, 259, 65_535] {
+    for kind in [0, 1, 2, 3, 20, 22, 30, 255, 257, 258, 259, 65_535] {
         input.extend(record(kind, &[]));
     }
     input.extend(record(256, &[0x42]));
     input.extend(record(256, &[0x42, 0x2B]));
     input.extend(record(20, &[]));
-    let expected = "0 1 0 0\n1 1 0 0\n2 1 0 0\n3 1 0 0\n20 1 0 0\n22 1 0 0\n255 1 0 0\n257 1 0 0\n258 1 0 0\n259 1 0 0\n65535 1 0 0\n256 2 0 0\n256 16 0 0\n20 1 0 0\n";
+    let expected = "0 1 0 0\n1 1 0 0\n2 1 0 0\n3 1 0 0\n20 1 0 0\n22 1 0 0\n30 1 0 0\n255 1 0 0\n257 1 0 0\n258 1 0 0\n259 1 0 0\n65535 1 0 0\n256 2 0 0\n256 16 0 0\n20 1 0 0\n";
     assert_eq!(list(&input), expected);
 }
 
@@ -73,9 +73,10 @@ fn the_fifth_field_needs_bytes() {
     input.extend(record(258, &[252, 0, 0, 0, 0]));
     input.extend(record(20, &[]));
     input.extend(record(24, &[0]));
+    input.extend(record(30, &[253, 0, 0, 0, 0x00, 0xE0]));
     assert_eq!(
         list(&input),
-        "256 0 4 11074\n258 0 0 0\n20 0 0 5 0200010000\n24 0 253 16384\n"
+        "256 0 4 11074\n258 0 0 0\n20 0 0 5 0200010000\n24 0 253 16384\n30 0 0 2\n"
     );
 }
 

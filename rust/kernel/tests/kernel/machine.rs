@@ -1,7 +1,7 @@
 //! A started machine for the tests. Each call is watched: a refusal must
 //! change nothing, and good tables must stay good.
 
-use exos_kernel::{call, good, Call, Reply, Tables, SEGMENT};
+use exos_kernel::{call, good, Call, Reply, Tables, SEGMENT, SHARED_GRANT};
 
 /// The three numbers of an answer.
 pub type Answer = (u8, u8, u16);
@@ -35,7 +35,7 @@ impl Machine {
         let before = self.clone();
         let Reply { number, a, b } =
             call(&mut self.tables, &mut self.ram, request, &mut self.output);
-        if (1..=16).contains(&number) {
+        if !matches!(number, 0 | SHARED_GRANT) {
             assert_eq!(self.tables, before.tables, "{request:?}");
             assert!(self.ram == before.ram, "{request:?}");
             assert!(self.output == before.output, "{request:?}");
@@ -108,6 +108,15 @@ impl Machine {
             segment,
             offset,
             length,
+        })
+    }
+
+    pub fn load_module(&mut self, segment: u8, page: u8, offset: u16, stream: &[u8]) -> Answer {
+        self.call(Call::LoadModule {
+            segment,
+            page,
+            offset,
+            stream,
         })
     }
 

@@ -1,4 +1,4 @@
-//! Tests taken from the text of the definition (document 01).
+//! Tests taken from the text of the definition (documents 01 and 02).
 
 mod bodies;
 mod cases;
@@ -8,9 +8,13 @@ mod lending;
 mod listing;
 mod machine;
 mod model;
+mod module_refusals;
+mod module_streams;
+mod modules;
 mod moves;
 mod names;
 mod plain_good;
+mod plain_modules;
 mod random_calls;
 mod random_tables;
 mod refusals;

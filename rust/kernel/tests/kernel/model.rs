@@ -275,6 +275,10 @@ impl Model {
         }
     }
 
+    pub fn is_guarded(&self, segment: u8, at: usize) -> bool {
+        segment == self.list[0] && (0x30..=0x5B).contains(&at) && at != 0x3D && at != 0x3E
+    }
+
     pub fn store(&mut self, segment: u8, offset: usize, data: &[u8]) -> Answer {
         let Some(end) = self.users(segment) else {
             return (11, 0, 0);
@@ -282,8 +286,7 @@ impl Model {
         if offset + data.len() > end {
             return (13, 0, 0);
         }
-        let guarded = |at: usize| (0x30..=0x5B).contains(&at) && at != 0x3D && at != 0x3E;
-        if segment == self.list[0] && (offset..offset + data.len()).any(guarded) {
+        if (offset..offset + data.len()).any(|at| self.is_guarded(segment, at)) {
             return (14, 0, 0);
         }
         for (at, &byte) in (offset..).zip(data) {

@@ -2,6 +2,7 @@
 
 use crate::machine::{Answer, Machine};
 use crate::model::{Model, Spelling};
+use crate::plain_modules::some_stream;
 use exos_kernel::Call;
 use exos_random::Random;
 
@@ -99,7 +100,7 @@ fn step_segment(random: &mut Random, model: &mut Model, machine: &mut Machine) {
     let segment = some_segment(random, model);
     let end = model.users(segment).unwrap_or(100);
     let offset = some_offset(random, end);
-    match random.below(8) {
+    match random.below(10) {
         0 | 1 => assert_eq!(machine.allocate(caller), model.allocate(caller)),
         2 => {
             let answer = machine.free(caller, segment);
@@ -115,6 +116,12 @@ fn step_segment(random: &mut Random, model: &mut Model, machine: &mut Machine) {
             let data = random.bytes(length);
             let answer = machine.store(segment, offset as u16, &data);
             assert_eq!(answer, model.store(segment, offset, &data));
+        }
+        7 | 8 => {
+            let page = random.below(33) / 8;
+            let stream = some_stream(random, offset);
+            let answer = machine.load_module(segment, page as u8, offset as u16, &stream);
+            assert_eq!(answer, model.load_module(segment, page, offset, &stream));
         }
         _ => {
             let length = random.pick(&[0, 1, 12, end, end.saturating_sub(offset)]);

@@ -6,8 +6,8 @@ use crate::plain_good::plain_good;
 use exos_kernel::{decode, good, lend, Lent, Tables};
 use exos_random::Random;
 
-const KINDS: [u16; 16] = [
-    256, 0, 1, 3, 6, 8, 19, 20, 21, 22, 23, 24, 25, 257, 258, 999,
+const KINDS: [u16; 17] = [
+    256, 0, 1, 3, 6, 8, 19, 20, 21, 22, 23, 24, 25, 30, 257, 258, 999,
 ];
 
 /// A body that is often whole, with bytes that often mean something.
@@ -22,6 +22,7 @@ fn some_body(random: &mut Random, kind: u16) -> Vec<u8> {
         let tail: &[u8] = match kind {
             1 => b"NET1:",
             19 | 21 => b"DISK",
+            30 => &[0x00, 0xE0],
             256 => &[250, 251, 252, 255],
             _ => &[],
         };

@@ -385,7 +385,8 @@ fn numbers_of_the_refusals() {
         Refusal::Flags,
         Refusal::Start,
     ];
-    for (number, refusal) in (1..).zip(in_order) {
+    let modules = [(19, Refusal::Module), (20, Refusal::Page)];
+    for (number, refusal) in (1..).zip(in_order).chain(modules) {
         let a = if number == 7 { 9 } else { 0 };
         assert_eq!(Reply::from(refusal), Reply { number, a, b: 0 });
     }
