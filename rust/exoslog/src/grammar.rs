@@ -1,4 +1,5 @@
-//! The table "Calls and their bodies", from which words are read and written.
+//! The table "Calls and their bodies" with the rows that orders add, from which
+//! words are read and written.
 
 /// A field of a body. A number has the words that a message calls it by.
 #[derive(Clone, Copy, Debug, PartialEq, Eq)]
@@ -17,6 +18,8 @@ pub enum Field {
     Name,
     /// The rest of the body: data.
     Data,
+    /// The rest of the body: the stream of a module.
+    Stream,
 }
 
 impl Field {
@@ -25,7 +28,7 @@ impl Field {
         match self {
             Field::Byte(_) | Field::Flags | Field::Caller => Some(1),
             Field::Word(_) => Some(2),
-            Field::List | Field::Name | Field::Data => None,
+            Field::List | Field::Name | Field::Data | Field::Stream => None,
         }
     }
 }
@@ -51,8 +54,8 @@ const SEGMENT: Field = Field::Byte("a segment number");
 const OFFSET: Field = Field::Word("an offset");
 const LENGTH: Field = Field::Word("a length");
 
-/// The rows of the table in its order.
-pub const FORMS: [Form; 15] = [
+/// The rows of the table in its order, and those of orders among them by kind.
+pub const FORMS: [Form; 16] = [
     Form {
         kind: 256,
         words: "start",
@@ -148,6 +151,18 @@ pub const FORMS: [Form; 15] = [
         fields: &[Field::Caller, SEGMENT],
         a: None,
         b: None,
+    },
+    Form {
+        kind: 30,
+        words: "load module",
+        fields: &[
+            SEGMENT,
+            Field::Byte("a start page"),
+            Field::Word("a start offset"),
+            Field::Stream,
+        ],
+        a: None,
+        b: Some("bytes used"),
     },
     Form {
         kind: 257,

@@ -4,13 +4,15 @@
 //! A log is event records: "length in 2 bytes counting kind and body (2 to
 //! 4,096), kind in 2 bytes, body". [`decode`] gives any bytes in words, one
 //! record a line, and [`encode`] gives exactly these bytes back. Sentences in
-//! quotation marks are those of the definition (document 01).
+//! quotation marks are those of the definition (document 01) and of the orders
+//! (document 02).
 
 mod answers;
 mod diff;
 mod grammar;
 mod map;
 mod mistakes;
+mod module;
 mod parse;
 mod records;
 mod replay;
@@ -32,7 +34,7 @@ pub use terminal::terminal;
 pub use words::{counted, decode, quoted, words};
 
 /// Whether a log is in words: it has no control byte but tab, newline and
-/// carriage return. A record of a kind of 01 has one, since the high byte of
+/// carriage return. A record of a known kind has one, since the high byte of
 /// its kind is 0 or 1.
 pub fn is_in_words(log: &[u8]) -> bool {
     !log.iter()

@@ -1,6 +1,7 @@
 //! Records in words.
 
 use crate::grammar::{form_of, Field, Form, Misfit};
+use crate::module::stream_words;
 use crate::records::{records, Record, LONGEST};
 use exos_kernel::hex;
 
@@ -47,7 +48,8 @@ fn call(form: &Form, parts: &[(Field, &[u8])]) -> String {
     text
 }
 
-/// A field's bytes in words; a list has a word for each of its numbers.
+/// A field's bytes in words; a list has a word for each of its numbers, a
+/// stream for each of its items.
 fn field_words(field: Field, bytes: &[u8]) -> Vec<String> {
     match (field, bytes) {
         (Field::Word(_), &[low, high]) => vec![u16::from_le_bytes([low, high]).to_string()],
@@ -56,6 +58,7 @@ fn field_words(field: Field, bytes: &[u8]) -> Vec<String> {
         (Field::Caller, [1]) => vec!["device".to_string()],
         (Field::Name, name) => vec![quoted(name)],
         (Field::Data, bytes) => vec![data(bytes)],
+        (Field::Stream, stream) => stream_words(stream),
         (_, numbers) => numbers.iter().map(u8::to_string).collect(),
     }
 }
@@ -70,7 +73,7 @@ fn flag_bits(flags: u8) -> String {
 }
 
 /// Data in lower-case hex, or an empty string.
-fn data(bytes: &[u8]) -> String {
+pub(crate) fn data(bytes: &[u8]) -> String {
     if bytes.is_empty() {
         return "\"\"".to_string();
     }
@@ -131,7 +134,7 @@ mod tests {
     }
 
     #[test]
-    fn every_kind_in_01s_words() {
+    fn every_kind_in_its_words() {
         assert_eq!(
             of(256, &[0x42, 0x2B, 252, 253, 255]),
             "start 11074 252 253 255"
@@ -151,6 +154,10 @@ mod tests {
         assert_eq!(of(24, &[1]), "allocate device");
         assert_eq!(of(24, &[2]), "allocate 2");
         assert_eq!(of(25, &[1, 253]), "free device 253");
+        assert_eq!(
+            of(30, &[253, 3, 0, 1, 0x00, 0xE0]),
+            "load module 253 3 256 bytes 01 end"
+        );
         assert_eq!(of(257, &[252, 0, 1, 0x5A]), "user store 252 256 5a");
         assert_eq!(of(258, &[252, 0, 1, 1, 0]), "user load 252 256 1");
     }
@@ -182,6 +189,10 @@ mod tests {
         assert_eq!(
             of(20, &[0]),
             "kind 20 00 # status: body longer than its fields"
+        );
+        assert_eq!(
+            of(30, &[253, 3, 0]),
+            "kind 30 fd0300 # load module: body short of its fixed fields"
         );
         assert_eq!(bad(&[1]), "raw 01 # cut in its length");
         assert_eq!(bad(&[1, 7]), "raw 0107 # cut: length 1793, bytes 0");

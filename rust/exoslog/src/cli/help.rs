@@ -37,11 +37,16 @@ decimal, or hex with 0x.
   read CHANNEL OFFSET LENGTH         default UNIT NAME
   write CHANNEL OFFSET DATA          link M NAME
   status                             set user boundary OFFSET
-  boundary
+  boundary                           load module SEGMENT PAGE OFFSET ITEM...
 
   CALLER  user, device, or a number
   NAME    in double quotes; \\\\ and \\\" and \\xHH for any byte
   DATA    pairs of hex digits, blanks between pairs or none; or as a NAME
+  ITEM    bytes DATA, word HHHH, page P, restore, move HHHH and, last, end;
+          HHHH is four hex digits, P 0 to 3. rest DATA behind end is what
+          follows. A module that is not whole has illegal or nothing in the
+          place of end, and rest DATA is what follows: where the items end
+          within a byte, the first byte of DATA has the bits left of it.
   reset also takes the flags as one number: reset 0x50 is reset bits 4 6
 
   kind K DATA   a record of any kind and body

@@ -69,7 +69,7 @@ impl Input {
         encode(&self.bytes).map_err(|mistakes| self.mistakes(&mistakes))
     }
 
-    /// Whether a whole record of a kind of 01 comes first.
+    /// Whether a whole record of a known kind comes first.
     fn begins_with_a_record(&self) -> bool {
         match records(&self.bytes).next() {
             Some(Record::Whole { kind, .. }) => form_of(kind).is_some(),

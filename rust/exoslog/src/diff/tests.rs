@@ -127,6 +127,10 @@ fn fields_are_named_by_what_they_are() {
         reasons("22 0 255 10958", "22 0 255 10752"),
         "  b (EXOS boundary): 10958, 10752\n"
     );
+    assert_eq!(
+        reasons("30 0 0 9", "30 20 0 0"),
+        "  answer: 0 done, 20 PAGE\n  b (bytes used): 9, 0\n"
+    );
     assert_eq!(reasons("1 7 3 0", "1 7 4 0"), "  a: 3, 4\n");
     assert_eq!(
         reasons("22 0 255 10958", "77 0 255 0"),

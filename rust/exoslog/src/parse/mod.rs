@@ -1,5 +1,6 @@
 //! Words to event records.
 
+mod module;
 mod reader;
 #[cfg(test)]
 mod tests;
@@ -38,7 +39,7 @@ impl Reader<'_> {
             b"" => return Ok(()),
             b"raw" => {
                 self.take(b"raw".len());
-                log.extend(self.hex("bytes as pairs of hex digits")?);
+                log.extend(self.hex("bytes as pairs of hex digits", &[])?);
             }
             b"kind" => {
                 self.take(b"kind".len());
@@ -93,6 +94,7 @@ impl Reader<'_> {
             Field::List => self.rest(body, "segment numbers", Self::list)?,
             Field::Name => self.rest(body, "bytes of name", Self::name)?,
             Field::Data => self.rest(body, "bytes of data", Self::data)?,
+            Field::Stream => self.rest(body, "bytes of module", Self::module)?,
         }
         Ok(())
     }
@@ -158,10 +160,15 @@ impl Reader<'_> {
     }
 
     fn data(&mut self) -> Result<Vec<u8>, Mistake> {
+        self.data_before(&[])
+    }
+
+    /// Reads data up to one of these words or the line's end.
+    fn data_before(&mut self, words: &[&str]) -> Result<Vec<u8>, Mistake> {
         if self.peek().first() == Some(&b'"') {
             self.string()
         } else {
-            self.hex("data as pairs of hex digits or in double quotes")
+            self.hex("data as pairs of hex digits or in double quotes", words)
         }
     }
 }

@@ -31,19 +31,30 @@ impl<'a> Reader<'a> {
         Ok(self.number(what, u8::MAX.into())? as u8)
     }
 
-    /// Reads pairs of hex digits, with blanks between pairs or none.
-    pub(super) fn hex(&mut self, what: &str) -> Result<Vec<u8>, Mistake> {
-        let first = self.peek().first();
-        if !first.is_some_and(u8::is_ascii_hexdigit) {
+    /// Reads pairs of hex digits, with blanks between pairs or none, up to one of
+    /// these words or the line's end.
+    pub(super) fn hex(&mut self, what: &str, ends: &[&str]) -> Result<Vec<u8>, Mistake> {
+        let is_end = |word: &[u8]| word.is_empty() || ends.iter().any(|end| end.as_bytes() == word);
+        let first = self.peek();
+        if is_end(first) || !first[0].is_ascii_hexdigit() {
             return Err(self.mistake(what.to_string()));
         }
         let mut bytes = Vec::new();
-        while !self.is_at_end() {
-            let high = self.digit("a hex digit")?;
-            let low = self.digit("the second hex digit of a byte")?;
-            bytes.push(high << 4 | low);
+        loop {
+            let word = self.peek();
+            if is_end(word) {
+                return Ok(bytes);
+            }
+            for _ in 0..word.len().div_ceil(2) {
+                bytes.push(self.pair()?);
+            }
         }
-        Ok(bytes)
+    }
+
+    pub(super) fn pair(&mut self) -> Result<u8, Mistake> {
+        let high = self.digit("a hex digit")?;
+        let low = self.digit("the second hex digit of a byte")?;
+        Ok(high << 4 | low)
     }
 
     fn digit(&mut self, what: &str) -> Result<u8, Mistake> {
@@ -87,9 +98,7 @@ impl<'a> Reader<'a> {
             }
             Some(b'x') => {
                 self.take(2);
-                let high = self.digit("a hex digit")?;
-                let low = self.digit("the second hex digit of a byte")?;
-                Ok(high << 4 | low)
+                self.pair()
             }
             _ => Err(self.mistake_in_word("\\\\, \\\" or \\x and two hex digits", 2)),
         }

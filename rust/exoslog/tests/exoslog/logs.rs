@@ -1,7 +1,7 @@
 //! Random logs.
 
 use crate::random::Random;
-use exoslog::encode;
+use exoslog::{encode, hex};
 
 /// A log of calls that mostly succeed.
 pub fn random_log(random: &mut Random) -> Vec<u8> {
@@ -19,7 +19,7 @@ pub fn random_log(random: &mut Random) -> Vec<u8> {
         };
         let channel = random.below(12);
         let segment = random.pick(&[253, 254, 255, 200, 101, 102]);
-        text.push_str(&match random.below(16) {
+        text.push_str(&match random.below(17) {
             0..=5 => format!(
                 "open {channel} 0 {n} \"{}\"\n",
                 random.pick(&["video:", "NET-7:f", "DISK:"])
@@ -31,6 +31,7 @@ pub fn random_log(random: &mut Random) -> Vec<u8> {
             12 => "allocate user\n".to_string(),
             13 => format!("set user boundary {n}\n"),
             14 => format!("free {} {segment}\n", random.pick(&["user", "device"])),
+            15 => format!("load module {segment} 0 {n} {}end\n", random_items(random)),
             _ => format!(
                 "reset bits {}\n",
                 random.pick(&["4", "5", "6", "4 6", "5 6"])
@@ -38,6 +39,26 @@ pub fn random_log(random: &mut Random) -> Vec<u8> {
         });
     }
     encode(text.as_bytes()).unwrap()
+}
+
+/// Items of a module in words, a blank behind each. Runs of bytes stand apart.
+pub fn random_items(random: &mut Random) -> String {
+    let mut text = String::new();
+    for _ in 0..random.below(6) {
+        if random.one_in(2) {
+            let length = 1 + random.below(4);
+            text.push_str(&format!("bytes {} ", hex(&random.bytes(length))));
+        }
+        let most = random.pick(&[64, 64, 65_536]);
+        let value = random.below(most);
+        text.push_str(&match random.below(4) {
+            0 => format!("word {value:04x} "),
+            1 => format!("page {} ", value % 4),
+            2 => "restore ".to_string(),
+            _ => format!("move {value:04x} "),
+        });
+    }
+    text
 }
 
 /// Now and then changes a byte, cuts the log or puts bytes behind it.

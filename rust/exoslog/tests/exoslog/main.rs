@@ -3,6 +3,7 @@
 mod audits;
 mod command;
 mod logs;
+mod modules;
 mod pictures;
 mod replays;
 mod round_trips;

@@ -7,7 +7,7 @@ use exoslog::{decode, encode, records, Record, FORMS};
 const LOGS: usize = 100_000;
 
 /// The bytes come back, and their words are what they are again.
-fn check(log: &[u8]) {
+pub fn check(log: &[u8]) {
     let text = decode(log);
     assert_eq!(encode(text.as_bytes()).as_deref(), Ok(log), "{text}");
     assert_eq!(text.lines().count(), records(log).count());
@@ -80,6 +80,14 @@ fn one_form_for_the_same_records() {
         ("allocate 0", "allocate user"),
         ("kind 3 05", "close 5"),
         ("raw 0200 1400", "status"),
+        (
+            "load module 253 0 0x100 bytes 3E 01 bytes \"A\" page 0x3 word ABCD end",
+            "load module 253 0 256 bytes 3e0141 page 3 word abcd end",
+        ),
+        (
+            "load module 253 0 256 bytes 01 rest 70",
+            "load module 253 0 256 bytes 01 illegal",
+        ),
         ("open 5 0 1 \"\\x41\\\\\"", "open 5 0 1 \"A\\\\\""),
     ];
     for (spelling, form) in spellings {
@@ -88,7 +96,7 @@ fn one_form_for_the_same_records() {
     }
 }
 
-/// Puts a record, mostly of a kind of 01 with a body of about its length.
+/// Puts a record, mostly of a known kind with a body of about its length.
 fn put_record(random: &mut Random, log: &mut Vec<u8>) {
     let kind = if random.one_in(8) {
         random.word()
