@@ -71,3 +71,8 @@ fn the_audit_of_the_readme() {
 fn the_example_of_a_listing() {
     holds(&transcript("docs/LOGS.md", "A listing"), "logs");
 }
+
+#[test]
+fn the_example_of_a_module() {
+    holds(&transcript("docs/LOGS.md", "A module"), "module");
+}
