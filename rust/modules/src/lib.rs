@@ -1,144 +1,11 @@
 //! Relocatable modules (section 10.3) as items and as bytes, written and read
 //! bit by bit, apart from the kernel that they are for.
 
-/// What an item does.
-#[derive(Clone, Copy, Debug, PartialEq, Eq, PartialOrd, Ord)]
-pub enum What {
-    /// Stores a byte.
-    Byte,
-    /// Stores a word.
-    Word,
-    /// Sets the run page.
-    SetPage,
-    /// Restores the run page.
-    Restore,
-    /// Moves the counter.
-    Move,
-    /// Ends the module.
-    End,
-    /// Nothing: it is illegal.
-    Illegal,
-}
+mod ends;
+mod items;
 
-impl What {
-    /// What each item does.
-    pub const ALL: [What; 7] = [
-        What::Byte,
-        What::Word,
-        What::SetPage,
-        What::Restore,
-        What::Move,
-        What::End,
-        What::Illegal,
-    ];
-
-    /// The bits that an item begins with, and how many follow.
-    fn form(self) -> (&'static str, usize) {
-        match self {
-            What::Byte => ("0", 8),
-            What::Word => ("100", 16),
-            What::SetPage => ("10100", 2),
-            What::Restore => ("10101", 0),
-            What::Move => ("1011", 16),
-            What::End => ("110", 0),
-            What::Illegal => ("111", 0),
-        }
-    }
-
-    /// How many bits tell it.
-    pub fn begins(self) -> usize {
-        self.form().0.len()
-    }
-
-    /// How many bits it has in all.
-    pub fn length(self) -> usize {
-        self.begins() + self.form().1
-    }
-
-    /// Whether it breaks off the reading.
-    pub fn is_last(self) -> bool {
-        matches!(self, What::End | What::Illegal)
-    }
-}
-
-/// An item.
-#[derive(Clone, Copy, Debug, PartialEq, Eq)]
-pub struct Item {
-    /// What it does.
-    pub what: What,
-    /// The number that its last bits are, 0 where it has none.
-    pub value: u16,
-}
-
-/// An item that stores a byte.
-pub fn byte(value: u8) -> Item {
-    Item {
-        what: What::Byte,
-        value: value.into(),
-    }
-}
-
-/// An item that stores a word, the counter added.
-pub fn word(value: u16) -> Item {
-    Item {
-        what: What::Word,
-        value,
-    }
-}
-
-/// An item that sets the run page.
-pub fn set_page(page: u8) -> Item {
-    Item {
-        what: What::SetPage,
-        value: page.into(),
-    }
-}
-
-/// An item that adds to the counter.
-pub fn move_by(value: u16) -> Item {
-    Item {
-        what: What::Move,
-        value,
-    }
-}
-
-/// An item that restores the run page.
-pub const RESTORE: Item = Item {
-    what: What::Restore,
-    value: 0,
-};
-
-/// The end item.
-pub const END: Item = Item {
-    what: What::End,
-    value: 0,
-};
-
-/// An illegal item.
-pub const ILLEGAL: Item = Item {
-    what: What::Illegal,
-    value: 0,
-};
-
-impl Item {
-    fn bits(self) -> impl Iterator<Item = bool> {
-        let (begins, follow) = self.what.form();
-        let begins = begins.bytes().map(|bit| bit == b'1');
-        begins.chain((0..follow).rev().map(move |at| self.value >> at & 1 == 1))
-    }
-
-    /// The item that some bits begin with, if it is whole.
-    fn first(bits: &[bool]) -> Option<Item> {
-        let whole = |&what: &What| {
-            let begins = Item { what, value: 0 }.bits().take(what.begins());
-            bits.len() >= what.length() && begins.eq(bits[..what.begins()].iter().copied())
-        };
-        let what = What::ALL.into_iter().find(whole)?;
-        let follow = bits[what.begins()..what.length()].iter();
-        let value = follow.fold(0, |value, &bit| value << 1 | u16::from(bit));
-        Some(Item { what, value })
-    }
-}
+pub use ends::{cut, padded};
+pub use items::{byte, move_by, set_page, word, Item, What, END, ILLEGAL, RESTORE};
 
 /// A stream taken apart.
 #[derive(Clone, Debug, PartialEq, Eq)]
@@ -153,8 +20,13 @@ pub struct Module {
 impl Module {
     /// The items of a stream, whose first bit is bit 7 of its first byte.
     pub fn of(stream: &[u8]) -> Module {
-        let bits = |byte: &u8| (0..8).rev().map(|at| byte >> at & 1 == 1).collect();
-        let bits: Vec<bool> = stream.iter().flat_map::<Vec<_>, _>(bits).collect();
+        let bit = |at: usize| stream[at / 8] >> (7 - at % 8) & 1 == 1;
+        let bits: Vec<bool> = (0..8 * stream.len()).map(bit).collect();
+        Module::of_bits(&bits)
+    }
+
+    /// The items of some bits.
+    pub fn of_bits(bits: &[bool]) -> Module {
         let (mut items, mut at) = (Vec::new(), 0);
         while let Some(item) = Item::first(&bits[at..]) {
             items.push(item);
@@ -169,7 +41,7 @@ impl Module {
 
     /// How many bits the items have.
     pub fn length(&self) -> usize {
-        self.items.iter().map(|item| item.what.length()).sum()
+        ends::length(&self.items)
     }
 
     /// How many bits pad the byte that the last item ends in.
@@ -236,5 +108,29 @@ mod tests {
         assert_eq!(padded.rest.len(), 13);
         let cut = Module::of(&[0x00, 0x40]);
         assert_eq!((cut.items, cut.rest.len()), (vec![byte(0)], 7));
+        let begun = |bits: &[bool]| What::ALL.map(|what| what.may_begin(bits));
+        assert_eq!(
+            begun(&cut.rest),
+            [false, true, false, false, false, false, false]
+        );
+        assert_eq!(begun(&[true]), [false, true, true, true, true, true, true]);
+        assert_eq!(begun(&[]), [true; 7]);
+    }
+
+    #[test]
+    fn streams_that_end_otherwise() {
+        for what in What::ALL {
+            for bits in 0..what.length() {
+                let cut = Module::of(&cut(&[byte(1)], Item { what, value: 0 }, bits));
+                assert_eq!(cut.items[0], byte(1));
+                assert!(cut.items[1..].iter().all(|&item| item == RESTORE));
+                assert!(cut.rest.len() == bits && what.may_begin(&cut.rest));
+            }
+        }
+        for length in 0..8 {
+            let ended = Module::of(&padded(&[byte(1)], &vec![true; length]));
+            assert_eq!(ended.items.last(), Some(&END));
+            assert_eq!((ended.padding(), ended.rest), (length, vec![true; length]));
+        }
     }
 }

@@ -2,19 +2,15 @@
 
 use crate::machine::Answer;
 use crate::modules::with_user_segment;
-use exos_modules::{byte, move_by, set_page, stream, word, Item, Module, END, ILLEGAL, RESTORE};
+use exos_modules::{byte, cut, move_by, padded, set_page, stream, word, END, ILLEGAL, RESTORE};
 
 const MODULE: Answer = (19, 0, 0);
-
-/// Restores of 5 bits each, so that what follows begins at any bit of a byte.
-fn restores() -> impl Iterator<Item = Vec<Item>> {
-    (0..8).map(|count| vec![RESTORE; count])
-}
 
 #[test]
 fn an_illegal_item() {
     let mut machine = with_user_segment();
-    for mut items in restores() {
+    for restores in 0..8 {
+        let mut items = vec![RESTORE; restores];
         items.extend([ILLEGAL, END]);
         let stream = stream(&items);
         assert_eq!(machine.load_module(253, 0, 0, &stream), MODULE);
@@ -35,48 +31,36 @@ fn no_end_item() {
 #[test]
 fn cut_after_each_bit_of_each_item() {
     let mut machine = with_user_segment();
-    for item in [
+    let items = [
         byte(0xA5),
         word(0xC3A5),
         set_page(3),
         RESTORE,
         move_by(0),
         END,
-    ] {
-        for bits in 1..item.what.length() {
-            let aligned = |before: &Vec<Item>| (5 * before.len() + bits) % 8 == 0;
-            let before = restores().find(aligned).unwrap();
-            let length = (5 * before.len() + bits) / 8;
-            let mut items = [&before[..], &[item]].concat();
-            if item != END {
-                items.push(END);
-            }
-            let whole = stream(&items);
-            assert_eq!(machine.load_module(253, 0, 0, &whole[..length]), MODULE);
-            assert_eq!(machine.load_module(253, 0, 0, &whole).0, 0);
+    ];
+    for item in items {
+        for bits in 0..item.what.length() {
+            let stream = cut(&[byte(1)], item, bits);
+            assert_eq!(machine.load_module(253, 0, 0, &stream), MODULE);
         }
     }
+    let whole = stream(&items);
+    let done = (0, 0, whole.len() as u16);
+    assert_eq!(machine.load_module(253, 0, 0, &whole), done);
 }
 
 #[test]
 fn each_bit_of_the_padding() {
     let mut machine = with_user_segment();
-    let mut lengths = vec![];
-    for mut items in restores() {
-        items.push(END);
-        let rest = vec![];
-        let mut module = Module { items, rest };
-        lengths.push(module.padding());
-        for wrong in 0..module.padding() {
-            module.rest = (0..module.padding()).map(|bit| bit == wrong).collect();
-            let answer = machine.load_module(253, 0, 0, &module.stream());
-            assert_eq!(answer, MODULE);
+    for length in 0..8 {
+        for wrong in 0..length {
+            let padding: Vec<bool> = (0..length).map(|bit| bit == wrong).collect();
+            let stream = padded(&[byte(1)], &padding);
+            assert_eq!(machine.load_module(253, 0, 0, &stream), MODULE);
         }
-        module.rest = vec![false; module.padding()];
-        let stream = module.stream();
+        let stream = padded(&[byte(1)], &vec![false; length]);
         let done = (0, 0, stream.len() as u16);
         assert_eq!(machine.load_module(253, 0, 0, &stream), done);
     }
-    lengths.sort_unstable();
-    assert_eq!(lengths, [0, 1, 2, 3, 4, 5, 6, 7]);
 }
