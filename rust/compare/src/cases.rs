@@ -1,8 +1,9 @@
-//! The cases of a seed: tables by sentences, logs steered to the edges, damaged
-//! logs, damaged tables, RAM of a wrong length.
+//! The cases of a seed: tables by sentences, modules, logs steered to the
+//! edges, damaged logs, damaged tables, RAM of a wrong length.
 
 use crate::damage::damage;
 use crate::edges::ram_length_for;
+use crate::modules::modules;
 use crate::plan::{plan, Plan};
 use crate::player::{Played, Player};
 use crate::protocol::{image_of, Case, Request, IMAGE, MOST_RAM};
@@ -16,6 +17,7 @@ use exos_sentences::{changed, Change, CALLS};
 pub fn played(seed: u64, number: u64) -> Played {
     match plan(number) {
         Plan::Sentence(change) => Player::of(about(change)).played,
+        Plan::Modules => Player::of(modules()).played,
         plan => steered(&mut Random::new(seed, number), plan),
     }
 }

@@ -6,12 +6,12 @@ use exoslog::{counted, FORMS};
 use std::collections::BTreeMap;
 use std::fmt::{self, Display, Formatter};
 
-/// The answers 0 to 17.
+/// The answers 0 to 20.
 const ANSWERS: usize = exoslog::ANSWERS.len();
 /// The rows: the kinds in the order of the table of bodies, and unknown ones.
 const ROWS: usize = FORMS.len() + 1;
 
-/// The answers that document 01 allows for a kind. Every kind but start may
+/// The answers that documents 01 and 02 allow for a kind. Every kind but start may
 /// answer TABLES, and every kind CALL: "body short of its fixed fields, or
 /// longer without name, data or list".
 fn allowed(kind: Option<u16>) -> &'static [u16] {
@@ -39,6 +39,9 @@ fn allowed(kind: Option<u16>) -> &'static [u16] {
         Some(24) => &[0, 1, 2, 10, 17],
         // OWNER: "segment not the caller's to free, store or load"
         Some(25) => &[0, 1, 2, 11],
+        // "CALL also for a start page or offset past its range; OWNER for the segment;
+        // 19 MODULE [...]; 20 PAGE [...]; then RANGE above the user boundary; GUARD"
+        Some(30) => &[0, 1, 2, 11, 13, 14, 19, 20],
         // OWNER, RANGE, GUARD
         Some(257) => &[0, 1, 2, 11, 13, 14],
         // OWNER, RANGE
@@ -68,7 +71,7 @@ fn name_of(row: usize) -> String {
 #[derive(Clone)]
 pub struct Counts {
     pairs: [[u64; ANSWERS]; ROWS],
-    /// A kind with an answer above 17, which no call may give.
+    /// A kind with an answer above 20, which no call may give.
     strange: u64,
     edges: BTreeMap<Edge, u64>,
 }
@@ -110,17 +113,17 @@ impl Counts {
         self.pairs.iter().flatten().sum::<u64>() + self.strange
     }
 
-    /// The pairs of kind and answer that 01 allows and that were not met.
+    /// The pairs of kind and answer that are allowed and were not met.
     pub fn missing(&self) -> Vec<String> {
         self.those(|row, answer, count| allows(row, answer) && count == 0)
     }
 
-    /// The pairs of kind and answer that were met and that 01 does not allow.
+    /// The pairs of kind and answer that were met and are not allowed.
     pub fn forbidden(&self) -> Vec<String> {
         let mut those = self.those(|row, answer, count| !allows(row, answer) && count > 0);
         if self.strange > 0 {
             let answers = counted(self.strange as usize, "answer");
-            those.push(format!("{answers} above 17"));
+            those.push(format!("{answers} above 20"));
         }
         those
     }
@@ -208,16 +211,16 @@ mod tests {
         assert_eq!(counts.missing().len(), missing - 2);
         assert!(counts.forbidden().is_empty());
         add(&mut counts, 256, 1);
-        add(&mut counts, 256, 18);
+        add(&mut counts, 256, 21);
         assert_eq!(
             counts.forbidden(),
-            ["256 start: answer 1", "1 answer above 17"]
+            ["256 start: answer 1", "1 answer above 20"]
         );
     }
 
     #[test]
-    fn the_allowed_pairs_are_74() {
-        assert_eq!(Counts::new().missing().len(), 74);
+    fn the_allowed_pairs_are_82() {
+        assert_eq!(Counts::new().missing().len(), 82);
     }
 
     #[test]

@@ -5,11 +5,13 @@
 //! `exoslog encode` reads back.
 
 pub mod cases;
+mod counter;
 pub mod counts;
 mod damage;
 mod edges;
 pub mod judge;
 pub mod machine;
+mod modules;
 mod plan;
 pub mod player;
 pub mod program;

@@ -40,7 +40,7 @@ fn compare(run: &Run, table: bool) -> io::Result<ExitCode> {
             if table {
                 print_table(&counts);
             }
-            print_each("NOT ALLOWED by 01", &counts.forbidden());
+            print_each("NOT ALLOWED by 01 and 02", &counts.forbidden());
             let (calls, seconds) = (counts.calls(), progress.began.elapsed().as_secs_f64());
             let rate = calls as f64 / seconds;
             println!("{calls} calls, no difference, {seconds:.0} s, {rate:.0} a second");

@@ -10,6 +10,8 @@ use exos_sentences::{Change, BROKEN, KEPT};
 pub enum Plan {
     /// Every kind of call on tables that keep or break one sentence.
     Sentence(&'static Change),
+    /// Modules that leave nothing to chance.
+    Modules,
     /// A log of so many segments, whose line comes to fill them.
     LongLine(usize),
     /// A log that comes to use every row of channels.
@@ -30,17 +32,16 @@ const FIRST_SENTENCE: u64 = 100;
 
 /// What the case of a number is about. Of a hundred cases most are damaged
 /// tables, which take few calls each, so that most calls are those of logs;
-/// after the first hundred come the sentences.
+/// after the first hundred come the sentences and the modules.
 pub fn plan(number: u64) -> Plan {
-    match sentence(number) {
-        Some(change) => Plan::Sentence(change),
-        None => plan_in_hundred(number),
-    }
+    planned(number).unwrap_or_else(|| plan_in_hundred(number))
 }
 
-fn sentence(number: u64) -> Option<&'static Change> {
+/// The cases in which nothing is left to chance.
+fn planned(number: u64) -> Option<Plan> {
     let row = number.checked_sub(FIRST_SENTENCE)?;
-    BROKEN.iter().chain(KEPT).nth(row as usize)
+    let sentences = BROKEN.iter().chain(KEPT).map(Plan::Sentence);
+    sentences.chain([Plan::Modules]).nth(row as usize)
 }
 
 fn plan_in_hundred(number: u64) -> Plan {
@@ -129,7 +130,7 @@ mod tests {
 
     #[test]
     fn every_sentence_comes() {
-        let count = (0..5_000).filter_map(sentence).count();
-        assert_eq!(count, BROKEN.len() + KEPT.len());
+        let count = (0..5_000).filter_map(planned).count();
+        assert_eq!(count, BROKEN.len() + KEPT.len() + 1);
     }
 }

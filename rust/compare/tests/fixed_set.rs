@@ -17,8 +17,8 @@ fn the_proved_program_and_the_kernel_agree() {
             let text = format!("\n{counts}{calls} calls, {edges} edges, {took:.0?}\n");
             io::stdout().write_all(text.as_bytes()).unwrap();
             assert!(counts.calls() > 100_000);
-            assert_eq!(counts.missing(), [""; 0], "pairs that 01 allows");
-            assert_eq!(counts.forbidden(), [""; 0], "pairs that 01 does not allow");
+            assert_eq!(counts.missing(), [""; 0], "pairs that are allowed");
+            assert_eq!(counts.forbidden(), [""; 0], "pairs that are not allowed");
             assert_eq!(counts.unmet(), [""; 0], "edges");
         }
         Ok(Outcome::Differs(text)) => panic!("{text}"),

@@ -22,6 +22,16 @@ pub enum What {
 }
 
 impl What {
+    /// What each legal item does.
+    pub const LEGAL: [What; 6] = [
+        What::Byte,
+        What::Word,
+        What::SetPage,
+        What::Restore,
+        What::Move,
+        What::End,
+    ];
+
     /// What each item does.
     pub const ALL: [What; 7] = [
         What::Byte,

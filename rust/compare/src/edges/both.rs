@@ -8,7 +8,8 @@ use exos_kernel::{HEADING, LEAST_R, NAME, ROWS_OF_CHANNELS, ROWS_OF_DEVICES};
 /// The pairs that can be had, but for those with TABLES: a kind, the refusal
 /// that wins and the other. A channel that is open is not 255, a string
 /// against the rules names no device, and only the page zero segment, which
-/// is the user's, has a guard.
+/// is the user's, has a guard. At an item of a module MODULE wins over PAGE,
+/// and these over RANGE and GUARD.
 pub(super) const BOTH: &[(u16, u16, u16)] = &[
     (1, 3, 5),
     (1, 3, 6),
@@ -35,6 +36,13 @@ pub(super) const BOTH: &[(u16, u16, u16)] = &[
     (21, 8, 9),
     (24, 2, 10),
     (25, 2, 11),
+    (30, 2, 11),
+    (30, 2, 19),
+    (30, 11, 19),
+    (30, 19, 13),
+    (30, 19, 14),
+    (30, 19, 20),
+    (30, 20, 13),
     (257, 11, 13),
     (257, 13, 14),
     (258, 11, 13),

@@ -1,10 +1,12 @@
-//! The edges of document 01, each on both sides: which of them a call met.
+//! The edges of documents 01 and 02, each on both sides: which of them a call met.
 
 mod both;
 mod channels;
 mod devices;
 mod lent;
+mod modules;
 mod names;
+mod naming;
 mod reset;
 mod segments;
 mod sentences;
@@ -73,6 +75,7 @@ pub fn edges(made: &Made, request: &Request, reply: &Reply, met: impl FnMut(Edge
         meeting.sentences(ram_length);
         if usable && right_length {
             meeting.call(call);
+            meeting.short_module(request);
         }
     }
 }
@@ -133,6 +136,12 @@ impl<Met: FnMut(Edge)> Meeting<'_, Met> {
             Call::SetUserBoundary { value } => self.set_user_boundary(usize::from(value)),
             Call::Allocate { caller } => self.allocate(caller),
             Call::Free { segment, .. } => self.free(segment),
+            Call::LoadModule {
+                segment,
+                page,
+                offset,
+                stream,
+            } => self.load_module(segment, usize::from(page), usize::from(offset), stream),
             Call::Store {
                 segment,
                 offset,
@@ -143,10 +152,7 @@ impl<Met: FnMut(Edge)> Meeting<'_, Met> {
                 offset,
                 length,
             } => self.load(segment, usize::from(offset), usize::from(length)),
-            Call::Start { .. }
-            | Call::Boundary
-            | Call::LoadModule { .. }
-            | Call::Unknown { .. } => {}
+            Call::Start { .. } | Call::Boundary | Call::Unknown { .. } => {}
         }
     }
 }

@@ -1,48 +1,12 @@
-//! The edges of document 01 in words.
+//! The edges of documents 01 and 02 in words.
 
 use super::both::BOTH;
+use super::modules::{all_module_edges, ModuleEdge};
+use super::naming::name_edges;
 use exos_kernel::ROWS_OF_SEGMENTS;
 use exos_sentences::{BROKEN, KEPT};
 use exoslog::form_of;
 use std::fmt::{self, Display, Formatter};
-
-macro_rules! name_edges {
-    ($($edge:ident $name:literal)*) => {
-        /// An edge that a call can meet.
-        #[derive(Clone, Copy, Debug, PartialEq, Eq, PartialOrd, Ord)]
-        pub enum Edge {
-            $(#[doc = $name] $edge,)*
-            /// A start of so many segments, done.
-            StartOf(u8),
-            /// A call on tables of so many segments, done.
-            CallOn(u8),
-            /// A kind, a refusal that was given, and another that held too.
-            Both(u16, u16, u16),
-            /// A call on the tables of a row of [`KEPT`], done.
-            Kept(usize),
-            /// A call on the tables of a row of [`BROKEN`], answered TABLES.
-            Broken(usize),
-        }
-
-        const NAMED: &[Edge] = &[$(Edge::$edge,)*];
-
-        impl Display for Edge {
-            fn fmt(&self, to: &mut Formatter<'_>) -> fmt::Result {
-                match *self {
-                    $(Edge::$edge => to.write_str($name),)*
-                    Edge::StartOf(segments) => write!(to, "start: {segments} segments"),
-                    Edge::CallOn(segments) => write!(to, "a call on {segments} segments"),
-                    Edge::Both(kind, given, other) => {
-                        let words = form_of(kind).map_or("", |form| form.words);
-                        write!(to, "{words}: {given} and {other} at once: {given}")
-                    }
-                    Edge::Kept(row) => write!(to, "good: {}", KEPT[row].0),
-                    Edge::Broken(row) => write!(to, "not good: {}: 1", BROKEN[row].0),
-                }
-            }
-        }
-    };
-}
 
 /// Every edge.
 pub fn all_edges() -> impl Iterator<Item = Edge> {
@@ -54,11 +18,31 @@ pub fn all_edges() -> impl Iterator<Item = Edge> {
         .chain(segments.clone().map(Edge::StartOf))
         .chain(segments.map(Edge::CallOn))
         .chain(both.map(|&(kind, given, other)| Edge::Both(kind, given, other)))
+        .chain(all_module_edges().map(Edge::Module))
         .chain((0..KEPT.len()).map(Edge::Kept))
         .chain((0..BROKEN.len()).map(Edge::Broken))
 }
 
 name_edges! {
+    /// An edge that a call can meet.
+    Edge {
+        /// A start of so many segments, done.
+        StartOf(segments: u8) format!("start: {segments} segments");
+        /// A call on tables of so many segments, done.
+        CallOn(segments: u8) format!("a call on {segments} segments");
+        /// A kind, a refusal that was given, and another that held too.
+        Both(kind: u16, given: u16, other: u16) {
+            let words = form_of(kind).map_or("", |form| form.words);
+            format!("{words}: {given} and {other} at once: {given}")
+        };
+        /// An edge of load module.
+        Module(edge: ModuleEdge) format!("load module: {edge}");
+        /// A call on the tables of a row of [`KEPT`], done.
+        Kept(row: usize) format!("good: {}", KEPT[row].0);
+        /// A call on the tables of a row of [`BROKEN`], answered TABLES.
+        Broken(row: usize) format!("not good: {}: 1", BROKEN[row].0);
+    }
+
     LongestRecord "a record of 65,535 bytes"
     LongestOutput "an output of 65,535 bytes"
     BadTables "tables not good, RAM length right: 1"

@@ -1,4 +1,4 @@
-//! Smaller numbers, plainer and shorter names and data.
+//! Smaller numbers, plainer and shorter names, data and modules.
 
 use super::parts::{change, parts, Part};
 use super::Shrinker;
@@ -64,7 +64,7 @@ impl<Differs: FnMut(&Case) -> Option<usize>> Shrinker<Differs> {
         }
     }
 
-    /// Tries a plain name or zero data, then a shorter one.
+    /// Tries a plain name, zero data or a plain module, then a shorter one.
     fn simplify_rest(&mut self, row: usize) {
         let last = self.parts(row).and_then(|mut parts| parts.pop());
         match last.map(|last| last.field) {
@@ -81,12 +81,14 @@ impl<Differs: FnMut(&Case) -> Option<usize>> Shrinker<Differs> {
                     self.try_rest(row, zero);
                 }
             }
+            Some(Field::Stream) => self.simplify_stream(row),
             _ => return,
         }
         self.shorten_rest(row);
     }
 
-    /// Leaves out runs of a name's or data's bytes: all of them at first.
+    /// Leaves out runs of a name's, data's or stream's bytes: all of them at
+    /// first.
     fn shorten_rest(&mut self, row: usize) {
         let length = |shrinker: &Self| shrinker.rest(row).len();
         self.leave_out(length(self), length, |shrinker, run| {
@@ -101,12 +103,12 @@ impl<Differs: FnMut(&Case) -> Option<usize>> Shrinker<Differs> {
     }
 
     /// The bytes of the last field of a request.
-    fn rest(&self, row: usize) -> Vec<u8> {
+    pub(super) fn rest(&self, row: usize) -> Vec<u8> {
         let last = self.parts(row).and_then(|mut parts| parts.pop());
         last.map_or(Vec::new(), |last| last.bytes)
     }
 
-    fn try_rest(&mut self, row: usize, rest: Vec<u8>) -> bool {
+    pub(super) fn try_rest(&mut self, row: usize, rest: Vec<u8>) -> bool {
         let mut case = self.case.clone();
         let request = case.requests.get_mut(row);
         let put = |parts: &mut [Part]| {

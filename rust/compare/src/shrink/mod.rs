@@ -1,7 +1,8 @@
 //! Makes a case that shows a difference as small as it can: fewer records,
-//! then smaller numbers, shorter names and data, plainer tables.
+//! then smaller numbers, shorter names, data and modules, plainer tables.
 
 mod bodies;
+mod modules;
 mod parts;
 mod requests;
 mod runs;

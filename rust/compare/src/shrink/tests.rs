@@ -6,6 +6,7 @@ use crate::judge::Difference;
 use crate::machine;
 use crate::protocol::{tables_of, Reply};
 use crate::report::words;
+use exos_modules::{Module, What};
 
 /// A side that writes a buffer's byte wrong from the second channel on,
 /// for writes of two bytes or more.
@@ -48,6 +49,41 @@ fn a_fault_is_shrunk_to_its_least_records() {
         assert_eq!(opens[1], format!("open {written} 0 2 \"VIDEO:\""));
         assert_eq!(case.ram_length, 32_768);
     }
+}
+
+#[test]
+fn a_fault_in_modules_is_shrunk_to_its_least_items() {
+    // a side that loads two words or more wrong
+    let mut faulty = |case: &Case| {
+        let mut replies = machine::replies(case);
+        for (request, reply) in case.requests.iter().zip(&mut replies) {
+            let module = request.body().get(4..).map(Module::of);
+            let items = module.map_or(vec![], |module| module.items);
+            let words = items.iter().filter(|item| item.what == What::Word);
+            if request.kind() == 30 && reply.number == 0 && words.count() >= 2 {
+                reply.ram ^= 1;
+            }
+        }
+        replies
+    };
+    let mut differs = |case: &Case| {
+        let found = Difference::between(&mut faulty, case).unwrap();
+        found.map(|found| found.request)
+    };
+    let found = (0..).map(|number| played(1, number).case);
+    let mut found = found.filter(|case| differs(case).is_some_and(|at| at > 10));
+    let case = found.next().unwrap();
+    drop(found);
+    let case = shrink(case, differs);
+    let said: Vec<_> = case.requests.iter().map(words).collect();
+    let first = case.requests[0].record[4];
+    assert_eq!(
+        said,
+        [
+            format!("start 256 {first} 255"),
+            format!("load module {first} 0 0 word 0000 word 0000 end")
+        ]
+    );
 }
 
 #[test]

@@ -10,7 +10,7 @@ impl Steer<'_> {
             0 => self.random.word(),
             1 => self
                 .random
-                .pick(&[2, 4, 5, 7, 9, 18, 26, 255, 259, 512, 65_535]),
+                .pick(&[2, 4, 5, 7, 9, 18, 26, 29, 31, 255, 259, 512, 65_535]),
             2 => self.random.pick(&FORMS.map(|form| form.kind)) ^ 256,
             _ => self.random.pick(&FORMS.map(|form| form.kind)) ^ 512,
         };

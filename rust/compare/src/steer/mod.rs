@@ -4,6 +4,7 @@
 mod channels;
 mod devices;
 mod ill_formed;
+mod modules;
 mod mood;
 mod names;
 mod reset;
@@ -97,6 +98,7 @@ impl<'a> Steer<'a> {
             23 => self.set_user_boundary(),
             24 => self.allocate(),
             25 => self.free(),
+            30 => self.load_module(),
             257 => self.store(),
             258 => self.load(),
             _ => self.unknown(),
