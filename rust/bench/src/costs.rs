@@ -1,13 +1,16 @@
-//! (d): the cost of a small read by open channels, of a boundary by segments, and of a read by bytes moved.
+//! (d): the cost of a small read by open channels, of a boundary by segments, of a read by bytes moved, and of load module
+//! by bytes of its stream.
 
 use crate::measure::cost;
 use crate::plot::Curve;
-use exos_bench::Log;
+use exos_bench::{modules, Log};
 
 /// How many calls a cost is taken from.
 const CALLS: usize = 2_000;
+/// How many modules a cost is taken from.
+const MODULES: usize = 200;
 
-/// The curves of all three.
+/// The curves of all four.
 pub fn curves(rounds: usize) -> Vec<Curve> {
     vec![
         Curve {
@@ -29,6 +32,13 @@ pub fn curves(rounds: usize) -> Vec<Curve> {
             unit: "bytes",
             points: [16, 64, 256, 1_024, 4_096]
                 .map(|count| by_bytes(rounds, count))
+                .to_vec(),
+        },
+        Curve {
+            name: "load module, by bytes of stream",
+            unit: "bytes",
+            points: [16, 64, 256, 1_024, 4_090]
+                .map(|count| by_stream(rounds, count))
                 .to_vec(),
         },
     ]
@@ -64,4 +74,10 @@ fn by_bytes(rounds: usize, count: u16) -> (usize, [f64; 3]) {
     (0..CALLS).for_each(|_| after.read(1, 0, count));
     let costs = cost(rounds, 8, [&opened(), &after], || ());
     (count.into(), costs.sides)
+}
+
+fn by_stream(rounds: usize, count: usize) -> (usize, [f64; 3]) {
+    let logs = [modules(0, count), modules(MODULES, count)];
+    let costs = cost(rounds, 8, logs.each_ref(), || ());
+    (count, costs.sides)
 }

@@ -1,6 +1,10 @@
 //! The logs that are measured, and the Rust kernel's side of a run.
 
+mod modules;
+
 use exos_kernel::{call, decode, Reply, Tables};
+
+pub use modules::modules;
 
 /// Event records, one after the other.
 #[derive(Default)]
@@ -90,8 +94,8 @@ impl Numbers {
     }
 }
 
-/// A log of all kinds: most of it reads and writes of open channels. On eight segments about one record in four is
-/// refused.
+/// A log of all kinds but load module: most of it reads and writes of open channels. On eight segments about one record
+/// in four is refused.
 pub fn mixed(records: usize, segments: u8) -> Log {
     let mut numbers = Numbers(7);
     let mut log = Log::started(11_074, segments);

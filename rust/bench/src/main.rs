@@ -47,7 +47,7 @@ fn main() {
     machine(rounds);
     moves::print(rounds);
     mixed::print(200_000, fewer(rounds));
-    println!("## (d) Cost by channels, segments and bytes moved\n\n![costs](benchmark.svg)\n");
+    println!("## (d) Cost by channels, segments, bytes moved and bytes of a module\n\n![costs](benchmark.svg)\n");
     let curves = costs::curves(rounds);
     curves.iter().for_each(plot::Curve::print);
     stack::print();

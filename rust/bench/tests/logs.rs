@@ -1,6 +1,6 @@
 //! The measured logs ask what their names say.
 
-use exos_bench::{mixed, run, Log};
+use exos_bench::{mixed, modules, run, Log};
 
 #[test]
 fn the_mixed_log_is_mostly_done() {
@@ -20,4 +20,14 @@ fn a_close_before_a_long_record_is_done() {
     log.close(1);
     let ran = run(&mut vec![0; 8 * 16_384], &mut [], &log.bytes);
     assert_eq!(ran.answers[0], 4);
+}
+
+#[test]
+fn every_module_is_loaded_and_used_whole() {
+    for bytes in [16, 17, 18, 19, 20, 4_090] {
+        let log = modules(3, bytes);
+        let ran = run(&mut vec![0; 8 * 16_384], &mut [], &log.bytes);
+        assert_eq!(ran.answers[0], 5);
+        assert_eq!(usize::from(ran.last.b), bytes);
+    }
 }
