@@ -10,7 +10,6 @@ use exos_sentences::tables;
 
 /// Segments of [`tables`].
 const PAGE_ZERO: u8 = 250;
-const USER: u8 = 252;
 const SHARED: u8 = 254;
 
 /// Where every module starts.
@@ -21,7 +20,7 @@ const START_OFFSET: u16 = 512;
 pub fn modules() -> Case {
     let tables = tables();
     let ends = cuts().chain(paddings()).chain([long()]);
-    let ends = ends.map(|stream| load(USER, &stream));
+    let ends = ends.map(|stream| load(PAGE_ZERO, &stream));
     let guarded = two_faults(PAGE_ZERO, 0x30);
     let bounded = two_faults(SHARED, tables.user_boundary);
     Case {
