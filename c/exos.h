@@ -106,7 +106,7 @@ enum exos_answer {
   EXOS_OWNER = 11,    /* segment not the caller's to free, store, load or put a module in */
   EXOS_BOUNDARY = 12, /* nothing shared, or value above the EXOS boundary */
   EXOS_RANGE = 13,    /* offset + length past the end, lent output too short, or a module's store above the user boundary */
-  EXOS_GUARD = 14,    /* a store touches page zero 30h to 5Bh, save 3Dh and 3Eh */
+  EXOS_GUARD = 14,    /* store touches page zero 30h to 5Bh, save 3Dh and 3Eh */
   EXOS_FLAGS = 15,    /* a bit other than 4, 5, 6 */
   EXOS_START = 16,    /* list, R or RAM length wrong */
   EXOS_SHARED = 17,   /* allocate gave a shared segment, b is the user boundary */
