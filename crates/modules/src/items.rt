@@ -18,7 +18,6 @@ use line::guard::guards;
 
 // The item of all its bits, behind a leading 1; neither the end item nor an illegal one.
 pub fn item_of(code: usize) -> Item
-    requires { ⌜ code < 2097152 ⌝ }
     ensures { λ r. ⌜ r ≡ itemOf code ⌝ }
 {
     if code == 53 {

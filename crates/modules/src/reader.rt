@@ -3,7 +3,7 @@ ghost use mathlib.Core.Path.{_≡_};
 ghost use Prim.Native.Nat.{_+_, _*_, _%_, _≤_, _<_};
 ghost use lib.ListN.{length, take, drop};
 ghost use Rattle.modules.specs.Definition.Reading.{lookedAt, streamBits};
-ghost use Rattle.modules.specs.Definition.Judging.{judged, zeros};
+ghost use Rattle.modules.specs.Definition.Judging.{judged};
 ghost use Rattle.modules.specs.Within.Codes.{itemOf};
 ghost use Rattle.modules.specs.Within.Acts.{Counts, Counting, actOf, actPuts, putWhere, settled};
 ghost use Rattle.modules.specs.Within.Scan.{storedBefore};
@@ -12,7 +12,7 @@ use super::Counter;
 use super::Judged;
 use super::Stop;
 use super::Target;
-use super::bits::bit;
+use super::bits::bits;
 use super::bits::wanted;
 use super::items::item_of;
 use super::items::judge_item;
@@ -20,7 +20,7 @@ use super::items::store_where;
 
 // What comes of an item once all its bits are there, and its bytes stored where the reading stores.
 fn perform(code: usize, c: Counter, target: Target, storing: bool, ram: &mut [u8]) -> Act
-    requires { ⌜ (code < 2097152) × Counts c × (target .page ≤ 3) × (16384 * target .row + 16384 ≤ length (now ram)) ⌝ }
+    requires { ⌜ Counts c × (target .page ≤ 3) × (16384 * target .row + 16384 ≤ length (now ram)) ⌝ }
     ensures acts { λ r. ⌜ r ≡ actOf target c code ⌝ }
     ensures counts { λ r. ⌜ Counting r ⌝ }
     ensures stores { λ r. ⌜ now (ram .exit) ≡ putWhere storing (16384 * target .row) (now (ram .entry)) (actPuts r c (itemOf code)) ⌝ }
@@ -53,20 +53,6 @@ fn looked(stream: &[u8]) -> usize
     }
 }
 
-// The bits from a position to the end of its byte are zero.
-fn padded(stream: &[u8], at: usize) -> bool
-    requires { ⌜ at ≤ 8 * length (lookedAt (now stream)) ⌝ }
-    ensures { λ r. ⌜ r ≡ zeros (take (length (drop at (streamBits (now (stream .entry)))) % 8) (drop at (streamBits (now (stream .entry))))) ⌝ }
-{
-    let mut i = at;
-    let mut zero = true;
-    while 0 < i % 8 {
-        zero = zero & (bit(stream, i) == 0);
-        i = i + 1;
-    }
-    zero
-}
-
 // What the stop that the reading yields is judged to be.
 fn settle(stream: &[u8], at: usize, stop: Stop) -> Judged
     requires { ⌜ at ≤ 8 * length (lookedAt (now stream)) ⌝ }
@@ -74,7 +60,8 @@ fn settle(stream: &[u8], at: usize, stop: Stop) -> Judged
 {
     match stop {
         Stop::End => {
-            if padded(stream, at) {
+            let left = (8 - at % 8) % 8;
+            if bits(stream, at, left) == 0 {
                 Judged::Whole(((at + 7) / 8) as u16)
             } else {
                 Judged::Module
@@ -101,12 +88,12 @@ pub fn read(stream: &[u8], start: Counter, target: Target, storing: bool, ram: &
         let mut code: usize = 1;
         let mut left: usize = 1;
         while 0 < left {
-            if end <= at {
+            if end < at + left {
                 break 'reader Stop::Exhausted;
             }
-            code = 2 * code + bit(stream, at);
-            at = at + 1;
-            left = wanted(code, left - 1);
+            code = (code << left) + bits(stream, at, left);
+            at = at + left;
+            left = wanted(code);
         }
         let act = perform(code, c, target, storing, ram);
         match act {

@@ -1,12 +1,11 @@
 -- How many bits a code wants, and the item it is.
 use mathlib.Core.Path.{_≡_, refl}
 use mathlib.Core.Bool.{Bool, true, false}
-use Prim.Native.Nat.{ℕ, suc, _+_, _-_, _*_, _/_, _%_, _^_, _≤_, _<_}
-use native.Mathlib.Nat.{lt-of-lt-of-le, pow-suc}
-use native.Mathlib.Decide.{decLt}
+use Prim.Native.Nat.{ℕ, _*_, _%_, _^_, _≤_, _<_}
+use native.Mathlib.Nat.{mul-le-mul-right}
 use native.Mathlib.Omega.{arith}
 use borrow.Author.Tests.{lt-ltb, le-ltb, eq-eqb, ne-eqb, eqb-true}
-use lib.Dec.{eqb, ltb}
+use lib.Dec.{eqb}
 use lib.Pow.{pow-mono}
 use Rattle.modules.specs.Within.Codes.{wants, itemOf, Coded}
 use Rattle.modules.specs.declared.Item.{Item}
@@ -57,37 +56,35 @@ module _ (code : ℕ) where
         let k : 768 ≤ code = omega arith in
         rw (ne-eqb code 53 a, le-ltb code 256 j, le-ltb code 768 k, le-ltb code 851968 l)
 
-pub coded-fits : (code left : ℕ) → Coded code left → code < 2097152
-coded-fits code left h = lt-of-lt-of-le (h .1) (pow-mono {i = 21 - left} {j = 21} (omega arith))
-
--- what the first bits of an item want
-small-by : (code : ℕ) (a b c d e f g : Bool) → eqb code 2 ≡ a → eqb code 3 ≡ b → eqb code 12 ≡ c → eqb code 13 ≡ d → eqb code 26 ≡ e → eqb code 27 ≡ f
-    → eqb code 52 ≡ g → code < 2097152 → Coded code (wants code 0)
+-- a code that wants bits is low
+low-by : (code : ℕ) (a b c d e f g : Bool) → eqb code 2 ≡ a → eqb code 3 ≡ b → eqb code 12 ≡ c → eqb code 13 ≡ d → eqb code 26 ≡ e → eqb code 27 ≡ f
+    → eqb code 52 ≡ g → Coded code (wants code 0)
 unfolding wants
-small-by code true b c d e f g p q r s t u v h = rw (eqb-true code 2 p) (omega arith)
-small-by code false true c d e f g p q r s t u v h = rw (eqb-true code 3 q) (omega arith)
-small-by code false false true d e f g p q r s t u v h = rw (eqb-true code 12 r) (omega arith)
-small-by code false false false true e f g p q r s t u v h = rw (eqb-true code 13 s) (omega arith)
-small-by code false false false false true f g p q r s t u v h = rw (eqb-true code 26 t) (omega arith)
-small-by code false false false false false true g p q r s t u v h = rw (eqb-true code 27 u) (omega arith)
-small-by code false false false false false false true p q r s t u v h = rw (eqb-true code 52 v) (omega arith)
-small-by code false false false false false false false p q r s t u v h = rw (p, q, r, s, t, u, v) (omega arith, h)
+low-by code true b c d e f g p q r s t u v = rw (eqb-true code 2 p) (omega arith)
+low-by code false true c d e f g p q r s t u v = rw (eqb-true code 3 q) (omega arith)
+low-by code false false true d e f g p q r s t u v = rw (eqb-true code 12 r) (omega arith)
+low-by code false false false true e f g p q r s t u v = rw (eqb-true code 13 s) (omega arith)
+low-by code false false false false true f g p q r s t u v = rw (eqb-true code 26 t) (omega arith)
+low-by code false false false false false true g p q r s t u v = rw (eqb-true code 27 u) (omega arith)
+low-by code false false false false false false true p q r s t u v = rw (eqb-true code 52 v) (omega arith)
+low-by code false false false false false false false p q r s t u v = rw (p, q, r, s, t, u, v) (omega arith, λ h. omega arith)
 
-wants-small : (code : ℕ) → code < 2097152 → Coded code (wants code 0)
-wants-small code h = small-by code (eqb code 2) (eqb code 3) (eqb code 12) (eqb code 13) (eqb code 26) (eqb code 27) (eqb code 52) refl refl refl refl refl refl refl h
+pub wants-coded : (code left : ℕ) → left ≡ wants code 0 → Coded code left
+wants-coded code left e = rw e (low-by code (eqb code 2) (eqb code 3) (eqb code 12) (eqb code 13) (eqb code 26) (eqb code 27) (eqb code 52) refl refl refl refl refl refl refl)
 
--- one bit more
-pub coded-more : (code left b : ℕ) → Coded code left → 0 < left → b < 2 → Coded (2 * code + b) (wants (2 * code + b) (left - 1))
-coded-more code left b h p q =
-    elim (decLt 1 left) [
-      | yes l ↦
-          let k = 21 - left in
-          let e : 21 - (left - 1) ≡ suc k = omega arith in
-          let f : 2 ^ suc k ≡ 2 ^ k * 2 = pow-suc 2 k in
-          rw (← wants-left (2 * code + b) (left - 1) (omega arith)) (omega arith, rw (e, f) (omega arith))
-      | no l ↦
-          let e : left ≡ 1 = omega arith in
-          let z : left - 1 ≡ 0 = omega arith in
-          let c : code < 2 ^ (21 - 1) = rw e at (h .1) in
-          rw z (wants-small (2 * code + b) (omega arith))
-    ]
+-- and the bits it wants fit behind it
+pub coded-fits : (code left : ℕ) → Coded code left → 0 < left → code * 2 ^ left ≤ 3407872
+coded-fits code left h p =
+    let q = pow-mono {i = left} {j = 16} (h .0) in
+    let m : code * 2 ^ left ≤ 52 * 2 ^ left = mul-le-mul-right (2 ^ left) (h .1 p) in
+    omega arith
+
+pub coded-shifted : (code left : ℕ) → Coded code left → 0 < left → code * 2 ^ left % 18446744073709551616 ≡ code * 2 ^ left
+coded-shifted code left h p = let m = coded-fits code left h p in omega arith
+
+-- a power of at most 16 bits in 64
+pub power : (k : ℕ) → k ≤ 16 → (1 * 2 ^ k % 18446744073709551616 ≡ 2 ^ k) × (0 < 2 ^ k) × (2 ^ k ≤ 65536)
+power k h =
+    let p = pow-mono {i = k} {j = 16} h in
+    let q = pow-mono {i = 0} {j = k} (omega arith) in
+    (omega arith, omega arith, omega arith)

@@ -1,76 +1,106 @@
--- The bit at a position of a stream.
+-- The bits from a position of a stream on, out of three bytes.
 use mathlib.Core.Path.{_≡_, refl, sym, ap, _∙_}
-use mathlib.Core.Bool.{cond}
-use mathlib.Core.List.{List, [], _∷_, _++_}
+use mathlib.Core.List.{List, [], _∷_, _++_, append-assoc}
 use Prim.Native.Nat.{ℕ, zero, suc, _+_, _-_, _*_, _/_, _%_, _^_, _≤_, _<_}
-use native.Mathlib.Decide.{ℕ-discrete}
+use native.Mathlib.Nat.{mod-lt}
 use native.Mathlib.Omega.{arith}
-use borrow.Author.Tests.{eq-eqb, ne-eqb}
-use lib.Dec.{eqb}
-use lib.ListN.{length, getD, take, drop, length-take, List·getD-append, drop-of-length-le}
-use lib.Seq.{drop-cons, getD-drop, getD-take, take-all, length-take-le}
-use Rattle.modules.specs.Definition.Bits.{Bit, O, I, bitOf, bitsOf, bitsIn}
+use lib.ListN.{length, getD, take, drop, length-take, length-drop, length-append, take-append-drop}
+use lib.Pow.{shr-shr}
+use lib.Seq.{getD-drop, drop-drop, drop-append-le, take-append-le, take-at, take-all, length-take-le}
+use Rattle.modules.specs.Definition.Bits.{Bit, bitOf, bitsOf, bitsIn, numberOf}
 use Rattle.modules.specs.Definition.Reading.{lookedAt, streamBits}
-use Rattle.modules.specs.Within.Codes.{bitAt, withBit}
-use Rattle.modules.specs.Laws.Numbers.{bits-length, bytes-cons, bytes-length, bytes-drop}
+use Rattle.modules.specs.Laws.Numbers.{bits-length, number-bits, bits-back, bytes-cons, bytes-length, bytes-append, bytes-take, bytes-drop}
 
-get-bits : (n x k m : ℕ) → m + suc k ≡ n → getD (bitsOf n x) k O ≡ bitOf m x
+-- ---- the bits of a number, in parts
+
+bits-more : (m n x : ℕ) → bitsOf (m + n) x ≡ bitsOf m (x / 2 ^ n) ++ bitsOf n x
 unfolding bitsOf
-get-bits zero x k m e = absurd (omega arith)
-get-bits (suc n) x zero m e = let q : n ≡ m = omega arith in rw q
-get-bits (suc n) x (suc k) m e = get-bits n x k m (omega arith)
+bits-more zero n x = let z : 0 + n ≡ n = omega arith in rw z
+bits-more (suc m) n x =
+    let s : suc m + n ≡ suc (m + n) = omega arith in
+    let p : n + m ≡ m + n = omega arith in
+    rw (s, bits-more m n x, shr-shr x n m, p)
 
-get-first : (x : ℕ) (bytes : List ℕ) (r : ℕ) → r < 8 → getD (bitsIn (x ∷ bytes)) r O ≡ bitOf (7 - r) x
-get-first x bytes r h =
-    let l : r < length (bitsOf 8 x) = rw (bits-length 8 x) h in
-    rw (bytes-cons x bytes, List·getD-append (bitsOf 8 x) (bitsIn bytes) O r l) (get-bits 8 x r (7 - r) (omega arith))
+bits-rest : (x n : ℕ) → bitsOf n (x % 2 ^ n) ≡ bitsOf n x
+bits-rest x n = ap (λ (y : ℕ). bitsOf n y) (sym (number-bits n x 0 ∙ omega arith)) ∙ bits-back n (bitsOf n x) (bits-length n x)
 
-get-bit : (s : List ℕ) (at : ℕ) → at < 8 * length s → getD (bitsIn s) at O ≡ bitOf (7 - at % 8) (getD s (at / 8) 0)
-get-bit s at h =
-    let q = at / 8 in
-    let r = at % 8 in
-    let e : at ≡ 8 * q + r = omega arith in
-    let l : q < length s = omega arith in
-    let d : getD (bitsIn s) (8 * q + r) O ≡ getD (bitsIn (drop q s)) r O = sym (getD-drop (8 * q) (bitsIn s) r O) ∙ ap (λ (bits : List Bit). getD bits r O) (sym (bytes-drop q s)) in
-    let f : getD (bitsIn (drop q s)) r O ≡ bitOf (7 - r) (getD s q 0) = rw (drop-cons s q 0 l) (get-first (getD s q 0) (drop (suc q) s) r (omega arith)) in
-    ap (λ (i : ℕ). getD (bitsIn s) i O) e ∙ d ∙ f
+drop-bits : (r m x : ℕ) → drop r (bitsOf (r + m) x) ≡ bitsOf m x
+unfolding bitsOf
+drop-bits zero m x = let z : 0 + m ≡ m = omega arith in rw z
+drop-bits (suc r) m x = let s : suc r + m ≡ suc (r + m) = omega arith in rw s (drop-bits r m x)
 
-with-bit : (code k x : ℕ) → withBit code (bitOf k x) ≡ 2 * code + x / 2 ^ k % 2
-with-bit code k x =
-    let y = x / 2 ^ k in
-    elim (ℕ-discrete (y % 2) 0) [
-      | yes e ↦ rw (eq-eqb (y % 2) 0 e, e) (omega arith)
-      | no n ↦ let one : y % 2 ≡ 1 = omega arith in rw (ne-eqb (y % 2) 0 n, one)
-    ]
+-- k bits behind r, with `low` behind them
+bits-within : (r k low n x : ℕ) → n ≡ r + (k + low) → numberOf 0 (take k (drop r (bitsOf n x))) ≡ x / 2 ^ low % 2 ^ k
+bits-within r k low n x e =
+    rw (e, drop-bits r (k + low) x, bits-more k low x, take-at (bitsOf k (x / 2 ^ low)) (bitsOf low x) k (bits-length k (x / 2 ^ low)), number-bits k (x / 2 ^ low) 0) (omega arith)
 
--- one bit stands at a position, with the number that the code makes of it
-pub record OneBit (stream : List ℕ) (at code b : ℕ) : Type 0 where
-  pub bit : Bit
-  pub here : drop at (streamBits stream) ≡ bit ∷ drop (at + 1) (streamBits stream)
-  pub code-is : withBit code bit ≡ 2 * code + b
+three-bytes : (a b c : ℕ) → b < 256 → c < 256 → bitsOf 24 (65536 * a + 256 * b + c) ≡ bitsOf 8 a ++ (bitsOf 8 b ++ bitsOf 8 c)
+three-bytes a b c h k =
+    let x = 65536 * a + 256 * b + c in
+    let high : x / 65536 ≡ a = omega arith in
+    let middle : x / 256 % 256 ≡ b = omega arith in
+    let low : x % 256 ≡ c = omega arith in
+    let second : bitsOf 8 (x / 256) ≡ bitsOf 8 b = sym (bits-rest (x / 256) 8) ∙ ap (λ (y : ℕ). bitsOf 8 y) middle in
+    let third : bitsOf 8 x ≡ bitsOf 8 c = sym (bits-rest x 8) ∙ ap (λ (y : ℕ). bitsOf 8 y) low in
+    bits-more 8 16 x ∙ rw (high, bits-more 8 8 x, second, third)
 
-looked-byte : (stream : List ℕ) (i : ℕ) → i < length (lookedAt stream) → getD (lookedAt stream) i 0 ≡ getD stream i 0
-looked-byte stream i h = let n = length-take 65535 stream in getD-take 65535 stream i 0 (omega arith)
+-- ---- of a stream
 
-pub one-bit : (stream : List ℕ) (at code b : ℕ) → at < 8 * length (lookedAt stream) → b ≡ bitAt stream at → OneBit stream at code b
-unfolding bitAt
-one-bit stream at code b h e =
-    let s = lookedAt stream in
-    let n = bytes-length s in
-    let l : at < length (bitsIn s) = omega arith in
-    let byte : getD s (at / 8) 0 ≡ getD stream (at / 8) 0 = looked-byte stream (at / 8) (omega arith) in
-    let next : suc at ≡ at + 1 = omega arith in
-    record {
-      bit = bitOf (7 - at % 8) (getD s (at / 8) 0);
-      here = drop-cons (bitsIn s) at O l ∙ rw (get-bit s at h, next);
-      code-is = rw (with-bit code (7 - at % 8) (getD s (at / 8) 0), byte, e);
-    }
+-- the first three bytes of some, zero where there are none
+first-three : (s : List ℕ) → (more : List Bit) × (bitsIn (s ++ (0 ∷ 0 ∷ 0 ∷ [])) ≡ bitsOf 8 (getD s 0 0) ++ (bitsOf 8 (getD s 1 0) ++ (bitsOf 8 (getD s 2 0) ++ more)))
+first-three [] = (bitsIn [], rw (bytes-cons, bytes-cons, bytes-cons))
+first-three (a ∷ []) = (bitsIn (0 ∷ []), rw (bytes-cons, bytes-cons, bytes-cons))
+first-three (a ∷ b ∷ []) = (bitsIn (0 ∷ 0 ∷ []), rw (bytes-cons, bytes-cons, bytes-cons))
+first-three (a ∷ b ∷ c ∷ s) = (bitsIn (s ++ (0 ∷ 0 ∷ 0 ∷ [])), rw (bytes-cons, bytes-cons, bytes-cons))
 
--- at the end no bit stands
-pub no-bit : (stream : List ℕ) (at : ℕ) → 8 * length (lookedAt stream) ≤ at → drop at (streamBits stream) ≡ []
-no-bit stream at h = drop-of-length-le (streamBits stream) {i = at} (rw (bytes-length (lookedAt stream)) h)
+-- what stands behind changes nothing
+part-append : (r k : ℕ) (xs ys : List Bit) → r + k ≤ length xs → take k (drop r (xs ++ ys)) ≡ take k (drop r xs)
+part-append r k xs ys h =
+    let n = length-drop r xs in
+    rw (drop-append-le r xs ys (omega arith)) (take-append-le k (drop r xs) ys (omega arith))
 
--- how many bytes are looked at
+module _ (s : List ℕ) (at k : ℕ) (h : at + k ≤ 8 * length s) (few : at % 8 + k ≤ 24) where
+  abbrev first : ℕ
+  first = at / 8
+
+  part-from : take k (drop at (bitsIn s)) ≡ take k (drop (at % 8) (bitsIn (drop first s)))
+  part-from =
+      let e : 8 * first + at % 8 ≡ at = omega arith in
+      rw (bytes-drop first s, drop-drop (at % 8) (8 * first) (bitsIn s), e)
+
+  bits-window : (a b c : ℕ) → a ≡ getD s first 0 → b ≡ getD s (first + 1) 0 → c ≡ getD s (first + 2) 0 → b < 256 → c < 256
+      → take k (drop at (bitsIn s)) ≡ take k (drop (at % 8) (bitsOf 24 (65536 * a + 256 * b + c)))
+  bits-window a b c p q r l m =
+      let d = drop first s in
+      let t = first-three d in
+      let w = bitsOf 8 a ++ (bitsOf 8 b ++ bitsOf 8 c) in
+      let z : first + 0 ≡ first = omega arith in
+      let a′ : getD d 0 0 ≡ a = getD-drop first s 0 0 ∙ rw (z, p) in
+      let b′ : getD d 1 0 ≡ b = getD-drop first s 1 0 ∙ sym q in
+      let c′ : getD d 2 0 ≡ c = getD-drop first s 2 0 ∙ sym r in
+      let all : bitsIn d ++ bitsIn (0 ∷ 0 ∷ 0 ∷ []) ≡ w ++ t .0 = sym (bytes-append d (0 ∷ 0 ∷ 0 ∷ [])) ∙ t .1 ∙ rw (a′, b′, c′, append-assoc, append-assoc) in
+      let n : length (bitsIn d) ≡ 8 * (length s - first) = bytes-length d ∙ rw (length-drop first s) in
+      let m′ : length w ≡ 24 = rw (length-append, length-append, bits-length 8 a, bits-length 8 b, bits-length 8 c) in
+      part-from ∙ sym (part-append (at % 8) k (bitsIn d) (bitsIn (0 ∷ 0 ∷ 0 ∷ [])) (omega arith)) ∙ ap (λ (bits : List Bit). take k (drop (at % 8) bits)) all
+      ∙ part-append (at % 8) k w (t .0) (omega arith) ∙ ap (λ (bits : List Bit). take k (drop (at % 8) bits)) (sym (three-bytes a b c l m))
+
+  -- the number of k bits
+  pub number-at : (a b c low : ℕ) → a ≡ getD s first 0 → b ≡ getD s (first + 1) 0 → c ≡ getD s (first + 2) 0 → b < 256 → c < 256 → low ≡ 24 - at % 8 - k
+      → (65536 * a + 256 * b + c) / 2 ^ low % 2 ^ k ≡ numberOf 0 (take k (drop at (bitsIn s)))
+  number-at a b c low p q r l m e =
+      sym (ap (λ (bits : List Bit). numberOf 0 bits) (bits-window a b c p q r l m) ∙ bits-within (at % 8) k low 24 (65536 * a + 256 * b + c) (omega arith))
+
+-- as the code computes it, with the power in 64 bits
+pub number-held : (s : List ℕ) (at k : ℕ) → k ≤ 16 → at + k ≤ 8 * length s → (a b c : ℕ) → a ≡ getD s (at / 8) 0 → b ≡ getD s (at / 8 + 1) 0 → c ≡ getD s (at / 8 + 2) 0
+    → b < 256 → c < 256 → (power : ℕ) → power ≡ 2 ^ k → 0 < power → power ≤ 65536
+    → ((65536 * a + 256 * b + c) / 2 ^ (24 - at % 8 - k) % power ≡ numberOf 0 (take k (drop at (bitsIn s)))) × ((65536 * a + 256 * b + c) / 2 ^ (24 - at % 8 - k) % power < 65536)
+number-held s at k few h a b c p q r l m power e some most =
+    let x = (65536 * a + 256 * b + c) / 2 ^ (24 - at % 8 - k) in
+    let low = mod-lt x some in
+    (rw e (number-at s at k h (omega arith) a b c (24 - at % 8 - k) p q r l m refl), omega arith)
+
+-- ---- of the bytes that are looked at
+
 pub looked-within : (stream : List ℕ) → (length (lookedAt stream) ≤ length stream) × (length (lookedAt stream) ≤ 65535)
 looked-within stream = let n = length-take 65535 stream in (omega arith, omega arith)
 
@@ -79,3 +109,10 @@ looked-short stream h = rw (take-all 65535 stream (omega arith))
 
 pub looked-long : (stream : List ℕ) → 65535 ≤ length stream → 65535 ≡ length (lookedAt stream)
 looked-long stream h = sym (length-take-le 65535 stream h)
+
+pub looked-bits : (stream : List ℕ) (at k : ℕ) → at + k ≤ 8 * length (lookedAt stream) → take k (drop at (bitsIn stream)) ≡ take k (drop at (streamBits stream))
+looked-bits stream at k h =
+    let n = bytes-length (lookedAt stream) in
+    let s = bitsIn stream in
+    let e : streamBits stream ++ drop (8 * 65535) s ≡ s = rw (bytes-take 65535 stream) (take-append-drop (8 * 65535) s) in
+    ap (λ (bits : List Bit). take k (drop at bits)) (sym e) ∙ part-append at k (streamBits stream) (drop (8 * 65535) s) (omega arith)

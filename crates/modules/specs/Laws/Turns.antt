@@ -2,21 +2,23 @@
 use mathlib.Core.Path.{_≡_, refl, sym, ap, _∙_}
 use mathlib.Core.Bool.{Bool, true, false, cond}
 use mathlib.Core.List.{List, [], _∷_, _++_}
-use Prim.Native.Nat.{ℕ, _+_, _-_, _*_, _≤_, _<_}
+use Prim.Native.Nat.{ℕ, _+_, _-_, _*_, _^_, _≤_, _<_}
 use native.Mathlib.Omega.{arith}
 use borrow.Author.Tests.{eq-eqb, ne-eqb}
 use lib.Dec.{eqb}
-use lib.ListN.{length, drop}
+use lib.ListN.{length, take, drop, length-drop}
+use lib.Seq.{drop-drop, length-take-le}
 use Rattle.line.specs.Definition.Ram.{putAt}
-use Rattle.modules.specs.Definition.Bits.{Bit}
+use Rattle.modules.specs.Definition.Bits.{Bit, bitsIn, numberOf}
 use Rattle.modules.specs.Definition.Reading.{lookedAt, streamBits, end-of-input}
 use Rattle.modules.specs.Definition.Counter.{after, Put, putsAt, putEach}
 use Rattle.modules.specs.Definition.Judging.{outside, above, touches, judgedAt, judged}
-use Rattle.modules.specs.Within.Codes.{bitAt, wants, itemOf, Coded}
+use Rattle.modules.specs.Within.Codes.{wants, itemOf}
 use Rattle.modules.specs.Within.Acts.{itemAct, actOf, actPuts, putWhere, Counts, Counting, settled}
 use Rattle.modules.specs.Within.Scan.{Scan, stops, withItem, whole, scan, scanned, storedBefore}
-use Rattle.modules.specs.Laws.Codes.{coded-more}
-use Rattle.modules.specs.Laws.Positions.{one-bit, no-bit}
+use Rattle.modules.specs.Laws.Numbers.{number-from, bytes-length}
+use Rattle.modules.specs.Laws.Positions.{looked-bits}
+use Rattle.modules.specs.Laws.Scan.{scan-short, scan-take}
 use Rattle.modules.specs.Laws.Taken.{scan-stream}
 use Rattle.modules.specs.declared.Item.{Item}
 use Rattle.modules.specs.declared.Counter.{Counter}
@@ -70,22 +72,28 @@ whole-act n g c code left rest act h e =
 abbrev pub Comes : (storing : Bool) (base : ℕ) (ram : List ℕ) → Scan → Judged → List ℕ → Type 0
 Comes storing base ram s j end = (s .judged ≡ j) × (putWhere storing base ram (s .puts) ≡ end)
 
-module _ (stream : List ℕ) (n : ℕ) (g : Target) (c : Counter) (code left : ℕ) where
+module _ (stream : List ℕ) (n : ℕ) (g : Target) (c : Counter) (code left at : ℕ) (some : 0 < left) where
+  abbrev rest : List Bit
+  rest = drop at (streamBits stream)
+
+  rest-length : length rest ≡ 8 * length (lookedAt stream) - at
+  rest-length = rw (length-drop at (streamBits stream), bytes-length (lookedAt stream))
+
+  scanned-some : scanned n g c code left rest ≡ scan n g c code left rest
+  scanned-some = rw (ne-eqb left 0 (omega arith))
+
   -- a turn of the bit fetch
-  pub turn : (at b w : ℕ) (all : Scan) → at < 8 * length (lookedAt stream) → 0 < left → b ≡ bitAt stream at → b < 2 → w ≡ wants (2 * code + b) (left - 1) → Coded code left
-      → scanned n g c code left (drop at (streamBits stream)) ≡ all
-      → Coded (2 * code + b) w × (scanned n g c (2 * code + b) w (drop (at + 1) (streamBits stream)) ≡ all)
-  unfolding scan
-  turn at b w all h p e f q k i =
-      let o = one-bit stream at code b h e in
-      let rest = drop (at + 1) (streamBits stream) in
-      let s : scanned n g c code left (drop at (streamBits stream)) ≡ scanned n g c (2 * code + b) w rest = rw (o .here, ne-eqb left 0 (omega arith), o .code-is, q) in
-      (rw q (coded-more code left b k p f), sym s ∙ i)
+  pub turn : (x y w : ℕ) (all : Scan) → at + left ≤ 8 * length (lookedAt stream) → x ≡ numberOf 0 (take left (drop at (bitsIn stream))) → y ≡ code * 2 ^ left → w ≡ wants (y + x) 0
+      → scanned n g c code left rest ≡ all → scanned n g c (y + x) w (drop (at + left) (streamBits stream)) ≡ all
+  turn x y w all h e f q i =
+      let l = rest-length in
+      let z : numberOf code (take left rest) ≡ y + x = number-from code (take left rest) ∙ rw (length-take-le left rest (omega arith), f, e, looked-bits stream at left h) in
+      let d : drop left rest ≡ drop (at + left) (streamBits stream) = drop-drop left at (streamBits stream) in
+      rw (q, ← d, ← z) (sym (scanned-some ∙ scan-take n g c left code rest some (omega arith)) ∙ i)
 
   -- the input is at its end
-  pub ran-out : (at : ℕ) → 8 * length (lookedAt stream) ≤ at → 0 < left → stops (judgedAt n end-of-input) ≡ scanned n g c code left (drop at (streamBits stream))
-  unfolding scan
-  ran-out at h p = rw (no-bit stream at h, ne-eqb left 0 (omega arith))
+  pub ran-out : 8 * length (lookedAt stream) < at + left → stops (judgedAt n end-of-input) ≡ scanned n g c code left rest
+  ran-out h = let l = rest-length in sym (scanned-some ∙ scan-short n g c left code rest (omega arith))
 
 module _ (n : ℕ) (g : Target) (c : Counter) (code left : ℕ) (rest : List Bit) (act : Act) (l : left ≤ 0) (e : act ≡ actOf g c code)
     (storing : Bool) (base : ℕ) (ram ram₁ : List ℕ) (p : ram₁ ≡ putWhere storing base ram (actPuts act c (itemOf code))) (s : Scan)

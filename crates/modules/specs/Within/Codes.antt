@@ -1,16 +1,10 @@
 -- How the reader holds an item's bits: as a number behind a leading 1.
 use mathlib.Core.Bool.{cond}
-use mathlib.Core.List.{List}
-use Prim.Native.Nat.{ℕ, _+_, _-_, _*_, _/_, _%_, _^_, _≤_, _<_}
+use Prim.Native.Nat.{ℕ, _+_, _*_, _%_, _≤_, _<_}
 use lib.Dec.{ltb, eqb}
-use lib.ListN.{getD}
 use Rattle.modules.specs.Definition.Bits.{Bit, O, I}
 use Rattle.modules.specs.declared.Item.{Item}
 use Rattle.modules.specs.declared.Item.the-variants.{Byte, Word, SetPage, Restore, Move}
-
--- the bit at a position of a stream, as a number
-unfoldable pub bitAt : List ℕ → ℕ → ℕ
-bitAt stream at = getD stream (at / 8) 0 / 2 ^ (7 - at % 8) % 2
 
 -- the bits so far with one more
 abbrev pub withBit : (code : ℕ) → Bit → ℕ
@@ -39,6 +33,6 @@ itemOf code =
     (cond (ltb code 768) (Byte (code % 256))
     (cond (ltb code 851968) (Word (code % 65536)) (Move (code % 65536)))))
 
--- a code has a leading 1 and at most 20 bits behind it, with those still wanted
+-- a code that wants bits is one of these
 abbrev pub Coded : (code left : ℕ) → Type 0
-Coded code left = (left ≤ 16) × (code < 2 ^ (21 - left))
+Coded code left = (left ≤ 16) × (0 < left → code ≤ 52)

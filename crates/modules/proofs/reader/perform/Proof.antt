@@ -16,7 +16,7 @@ item-of-requires : tie.Need-item-of-requires
 item-of-requires c κs = search needs
 
 judge-item-requires : tie.Need-judge-item-requires
-judge-item-requires c κs = (c .before .before .before .before .pre .1, c .before .before .before .before .pre .2, item-paged _ _ (c .item-of .ensures))
+judge-item-requires c κs = (c .before .before .before .before .pre .0, c .before .before .before .before .pre .1, item-paged _ _ (c .item-of .ensures))
 
 enum-told : tie.Need-enum-told
 enum-told c = search needs
@@ -25,7 +25,7 @@ mul-store-where : tie.Need-mul-store-where
 mul-store-where c = search needs
 
 store-where-requires : tie.Need-store-where-requires
-store-where-requires c κs = (c .before .before .before .before .before .before .before .before .before .pre .1 .page, act-inside _ _ (c .before .before .before .before .before .before .before .before .before .args .c) (c .before .before .before .before .before .item-of .result) (c .before .before .enum-told .given .1) (c .before .before .before .before .judge-item .ensures .1 .1), c .before .before .before .before .before .before .before .before .before .pre .3)
+store-where-requires c κs = (c .before .before .before .before .before .before .before .before .before .pre .0 .page, act-inside _ _ (c .before .before .before .before .before .before .before .before .before .args .c) (c .before .before .before .before .before .item-of .result) (c .before .before .enum-told .given .1) (c .before .before .before .before .judge-item .ensures .1 .1), c .before .before .before .before .before .before .before .before .before .pre .2)
 
 enum-told-2 : tie.Need-enum-told-2
 enum-told-2 c = search needs

@@ -1,5 +1,6 @@
 -- `reader::settle` meets its contract, stop by stop.
 use denote.Ref.{now}
+use mathlib.Core.Path.{refl}
 use native.Mathlib.Omega.{arith}
 use Rattle.modules.specs.Laws.Positions.{looked-within}
 use Rattle.modules.specs.Laws.Padding.{ended-whole, ended-bad}
@@ -10,14 +11,17 @@ use Rattle.modules.proofs.reader.settle.Tie as tie
 enum-told : tie.Need-enum-told
 enum-told c = search needs
 
-padded-requires : tie.Need-padded-requires
-padded-requires c κs = search needs
+sub-left : tie.Need-sub-left
+sub-left c = search needs
 
-add-t7 : tie.Need-add-t7
-add-t7 c = let s = c .before .before .before .before .before in omega (arith, s .pre, looked-within (now (s .args .stream)))
+bits-requires : tie.Need-bits-requires
+bits-requires c κs = let s = c .before .before .before in (omega arith, omega (arith, s .pre, looked-within (now (s .args .stream))))
 
-cast-t9 : tie.Need-cast-t9
-cast-t9 c = let s = c .before .before .before .before .before in omega (arith, s .pre, looked-within (now (s .args .stream)))
+add-t10 : tie.Need-add-t10
+add-t10 c = let s = c .before .before .before .before .before in omega (arith, s .pre, looked-within (now (s .args .stream)))
+
+cast-t12 : tie.Need-cast-t12
+cast-t12 c = let s = c .before .before .before .before .before in omega (arith, s .pre, looked-within (now (s .args .stream)))
 
 enum-told-2 : tie.Need-enum-told-2
 enum-told-2 c = search needs
@@ -35,10 +39,10 @@ enum-told-6 : tie.Need-enum-told-6
 enum-told-6 c = search needs
 
 returns : tie.Need-returns
-returns c = let s = c .before .before .before .before .before in rw (c .before .before .enum-told .given .1) (ended-whole (now (s .args .stream)) (s .args .at) (s .pre) _ (c .before .padded .ensures) (c .if1 .taken))
+returns c = let s = c .before .before .before .before .before in rw (c .before .before .enum-told .given .1) (ended-whole (now (s .args .stream)) (s .args .at) _ (s .pre) refl _ (c .before .bits .ensures .0) (c .if1 .taken))
 
 returns-2 : tie.Need-returns-2
-returns-2 c = let s = c .before .before .before .before .before in rw (c .before .before .enum-told .given .1) (ended-bad (now (s .args .stream)) (s .args .at) (s .pre) _ (c .before .padded .ensures) (c .if1 .left))
+returns-2 c = let s = c .before .before .before .before .before in rw (c .before .before .enum-told .given .1) (ended-bad (now (s .args .stream)) (s .args .at) _ (s .pre) refl _ (c .before .bits .ensures .0) (c .if1 .left))
 
 returns-3 : tie.Need-returns-3
 returns-3 c = search needs
@@ -60,9 +64,10 @@ settle-spec =
     tie.close
     (tie.spec
     enum-told
-    padded-requires
-    add-t7
-    cast-t9
+    sub-left
+    bits-requires
+    add-t10
+    cast-t12
     enum-told-2
     enum-told-3
     enum-told-4
