@@ -1,9 +1,9 @@
-// Bits of the stream, and how many an item wants.
+// What is held of the stream, bits of it, and how many an item wants.
 ghost use mathlib.Core.Path.{_≡_};
-ghost use Prim.Native.Nat.{_+_, _*_, _^_, _≤_, _<_};
-ghost use lib.ListN.{length, getD, take, drop};
-ghost use Rattle.modules.specs.Definition.Bits.{numberOf, bitsIn};
+ghost use Prim.Native.Nat.{_/_, _%_, _^_, _≤_, _<_};
+ghost use lib.ListN.{getD};
 ghost use Rattle.modules.specs.Within.Codes.{wants};
+ghost use Rattle.modules.specs.Within.Windows.{Window};
 use super::wide;
 
 // The byte at an index, or zero behind the last.
@@ -13,18 +13,24 @@ fn byte_at(stream: &[u8], i: usize) -> usize
     if i < stream.len() { wide(stream[i]) } else { 0 }
 }
 
-// The number of `count` bits from a position on: bit 7 of the first byte is at 0. They lie in three bytes.
-pub fn bits(stream: &[u8], at: usize, count: usize) -> usize
-    requires { do ⌜ (count ≤ 16) × (at + count ≤ 8 * (← ⟦stream.len()⟧)) ⌝ }
-    ensures { λ r. ⌜ (r ≡ numberOf 0 (take count (drop at (bitsIn (now (stream .entry)))))) × (r < 65536) ⌝ }
+// Four bytes from an index on, as one number, zero behind the last.
+pub fn window(stream: &[u8], i: usize) -> usize
+    requires { ⌜ i ≤ 65535 ⌝ }
+    ensures { λ r. ⌜ Window (now (stream .entry)) i r × (r < 4294967296) ⌝ }
 {
-    let i = at / 8;
     let first = byte_at(stream, i);
     let second = byte_at(stream, i + 1);
     let third = byte_at(stream, i + 2);
-    let held = 65536 * first + 256 * second + third;
-    let low = 24 - at % 8 - count;
-    (held >> low) % (1 << count)
+    let fourth = byte_at(stream, i + 3);
+    16777216 * first + 65536 * second + 256 * third + fourth
+}
+
+// `count` bits of a window, with `low` behind them.
+pub fn bits_of(window: usize, low: usize, count: usize) -> usize
+    requires { ⌜ (low ≤ 32) × (count ≤ 16) ⌝ }
+    ensures { λ r. ⌜ (r ≡ window / 2 ^ low % 2 ^ count) × (r < 65536) ⌝ }
+{
+    (window >> low) % (1 << count)
 }
 
 // How many bits an item wants, once its bits so far are `code` behind a leading 1.

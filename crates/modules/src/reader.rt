@@ -12,8 +12,9 @@ use super::Counter;
 use super::Judged;
 use super::Stop;
 use super::Target;
-use super::bits::bits;
+use super::bits::bits_of;
 use super::bits::wanted;
+use super::bits::window;
 use super::items::item_of;
 use super::items::judge_item;
 use super::items::store_where;
@@ -61,7 +62,7 @@ fn settle(stream: &[u8], at: usize, stop: Stop) -> Judged
     match stop {
         Stop::End => {
             let left = (8 - at % 8) % 8;
-            if bits(stream, at, left) == 0 {
+            if bits_of(window(stream, at / 8), 32 - at % 8 - left, left) == 0 {
                 Judged::Whole(((at + 7) / 8) as u16)
             } else {
                 Judged::Module
@@ -85,14 +86,17 @@ pub fn read(stream: &[u8], start: Counter, target: Target, storing: bool, ram: &
     let mut at: usize = 0;
     let mut c = start;
     let stop = 'reader: loop {
+        let first = at / 8;
+        let held = window(stream, first);
         let mut code: usize = 1;
         let mut left: usize = 1;
         while 0 < left {
-            if end < at + left {
+            let next = at + left;
+            if end < next {
                 break 'reader Stop::Exhausted;
             }
-            code = (code << left) + bits(stream, at, left);
-            at = at + left;
+            code = (code << left) + bits_of(held, 8 * first + 32 - next, left);
+            at = next;
             left = wanted(code);
         }
         let act = perform(code, c, target, storing, ram);

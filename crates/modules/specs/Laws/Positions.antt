@@ -1,14 +1,14 @@
--- The bits from a position of a stream on, out of three bytes.
+-- The bits from a position of a stream on, out of four bytes.
 use mathlib.Core.Path.{_≡_, refl, sym, ap, _∙_}
 use mathlib.Core.List.{List, [], _∷_, _++_, append-assoc}
 use Prim.Native.Nat.{ℕ, zero, suc, _+_, _-_, _*_, _/_, _%_, _^_, _≤_, _<_}
-use native.Mathlib.Nat.{mod-lt}
 use native.Mathlib.Omega.{arith}
 use lib.ListN.{length, getD, take, drop, length-take, length-drop, length-append, take-append-drop}
 use lib.Pow.{shr-shr}
 use lib.Seq.{getD-drop, drop-drop, drop-append-le, take-append-le, take-at, take-all, length-take-le}
 use Rattle.modules.specs.Definition.Bits.{Bit, bitOf, bitsOf, bitsIn, numberOf}
 use Rattle.modules.specs.Definition.Reading.{lookedAt, streamBits}
+use Rattle.modules.specs.Within.Windows.{windowAt, Window}
 use Rattle.modules.specs.Laws.Numbers.{bits-length, number-bits, bits-back, bytes-cons, bytes-length, bytes-append, bytes-take, bytes-drop}
 
 -- ---- the bits of a number, in parts
@@ -44,14 +44,25 @@ three-bytes a b c h k =
     let third : bitsOf 8 x ≡ bitsOf 8 c = sym (bits-rest x 8) ∙ ap (λ (y : ℕ). bitsOf 8 y) low in
     bits-more 8 16 x ∙ rw (high, bits-more 8 8 x, second, third)
 
+four-bytes : (a b c d : ℕ) → b < 256 → c < 256 → d < 256 → bitsOf 32 (16777216 * a + 65536 * b + 256 * c + d) ≡ bitsOf 8 a ++ (bitsOf 8 b ++ (bitsOf 8 c ++ bitsOf 8 d))
+four-bytes a b c d h k l =
+    let x = 16777216 * a + 65536 * b + 256 * c + d in
+    let high : x / 16777216 ≡ a = omega arith in
+    let low : x % 16777216 ≡ 65536 * b + 256 * c + d = omega arith in
+    let rest : bitsOf 24 x ≡ bitsOf 8 b ++ (bitsOf 8 c ++ bitsOf 8 d) =
+    sym (bits-rest x 24) ∙ ap (λ (y : ℕ). bitsOf 24 y) low ∙ three-bytes b c d k l in
+    bits-more 8 24 x ∙ rw (high, rest)
+
 -- ---- of a stream
 
--- the first three bytes of some, zero where there are none
-first-three : (s : List ℕ) → (more : List Bit) × (bitsIn (s ++ (0 ∷ 0 ∷ 0 ∷ [])) ≡ bitsOf 8 (getD s 0 0) ++ (bitsOf 8 (getD s 1 0) ++ (bitsOf 8 (getD s 2 0) ++ more)))
-first-three [] = (bitsIn [], rw (bytes-cons, bytes-cons, bytes-cons))
-first-three (a ∷ []) = (bitsIn (0 ∷ []), rw (bytes-cons, bytes-cons, bytes-cons))
-first-three (a ∷ b ∷ []) = (bitsIn (0 ∷ 0 ∷ []), rw (bytes-cons, bytes-cons, bytes-cons))
-first-three (a ∷ b ∷ c ∷ s) = (bitsIn (s ++ (0 ∷ 0 ∷ 0 ∷ [])), rw (bytes-cons, bytes-cons, bytes-cons))
+-- the first four bytes of some, zero where there are none
+first-four : (s : List ℕ)
+    → (more : List Bit) × (bitsIn (s ++ (0 ∷ 0 ∷ 0 ∷ 0 ∷ [])) ≡ bitsOf 8 (getD s 0 0) ++ (bitsOf 8 (getD s 1 0) ++ (bitsOf 8 (getD s 2 0) ++ (bitsOf 8 (getD s 3 0) ++ more))))
+first-four [] = (bitsIn [], rw (bytes-cons, bytes-cons, bytes-cons, bytes-cons))
+first-four (a ∷ []) = (bitsIn (0 ∷ []), rw (bytes-cons, bytes-cons, bytes-cons, bytes-cons))
+first-four (a ∷ b ∷ []) = (bitsIn (0 ∷ 0 ∷ []), rw (bytes-cons, bytes-cons, bytes-cons, bytes-cons))
+first-four (a ∷ b ∷ c ∷ []) = (bitsIn (0 ∷ 0 ∷ 0 ∷ []), rw (bytes-cons, bytes-cons, bytes-cons, bytes-cons))
+first-four (a ∷ b ∷ c ∷ d ∷ s) = (bitsIn (s ++ (0 ∷ 0 ∷ 0 ∷ 0 ∷ [])), rw (bytes-cons, bytes-cons, bytes-cons, bytes-cons))
 
 -- what stands behind changes nothing
 part-append : (r k : ℕ) (xs ys : List Bit) → r + k ≤ length xs → take k (drop r (xs ++ ys)) ≡ take k (drop r xs)
@@ -59,45 +70,39 @@ part-append r k xs ys h =
     let n = length-drop r xs in
     rw (drop-append-le r xs ys (omega arith)) (take-append-le k (drop r xs) ys (omega arith))
 
-module _ (s : List ℕ) (at k : ℕ) (h : at + k ≤ 8 * length s) (few : at % 8 + k ≤ 24) where
-  abbrev first : ℕ
-  first = at / 8
+-- k bits from a position on, out of the four bytes from index i on
+module _ (s : List ℕ) (i at k : ℕ) (h : at + k ≤ 8 * length s) (from : 8 * i ≤ at) (to : at + k ≤ 8 * i + 32) where
+  abbrev skipped : ℕ
+  skipped = at - 8 * i
 
-  part-from : take k (drop at (bitsIn s)) ≡ take k (drop (at % 8) (bitsIn (drop first s)))
+  part-from : take k (drop at (bitsIn s)) ≡ take k (drop skipped (bitsIn (drop i s)))
   part-from =
-      let e : 8 * first + at % 8 ≡ at = omega arith in
-      rw (bytes-drop first s, drop-drop (at % 8) (8 * first) (bitsIn s), e)
+      let e : 8 * i + skipped ≡ at = omega arith in
+      rw (bytes-drop i s, drop-drop skipped (8 * i) (bitsIn s), e)
 
-  bits-window : (a b c : ℕ) → a ≡ getD s first 0 → b ≡ getD s (first + 1) 0 → c ≡ getD s (first + 2) 0 → b < 256 → c < 256
-      → take k (drop at (bitsIn s)) ≡ take k (drop (at % 8) (bitsOf 24 (65536 * a + 256 * b + c)))
-  bits-window a b c p q r l m =
-      let d = drop first s in
-      let t = first-three d in
-      let w = bitsOf 8 a ++ (bitsOf 8 b ++ bitsOf 8 c) in
-      let z : first + 0 ≡ first = omega arith in
-      let a′ : getD d 0 0 ≡ a = getD-drop first s 0 0 ∙ rw (z, p) in
-      let b′ : getD d 1 0 ≡ b = getD-drop first s 1 0 ∙ sym q in
-      let c′ : getD d 2 0 ≡ c = getD-drop first s 2 0 ∙ sym r in
-      let all : bitsIn d ++ bitsIn (0 ∷ 0 ∷ 0 ∷ []) ≡ w ++ t .0 = sym (bytes-append d (0 ∷ 0 ∷ 0 ∷ [])) ∙ t .1 ∙ rw (a′, b′, c′, append-assoc, append-assoc) in
-      let n : length (bitsIn d) ≡ 8 * (length s - first) = bytes-length d ∙ rw (length-drop first s) in
-      let m′ : length w ≡ 24 = rw (length-append, length-append, bits-length 8 a, bits-length 8 b, bits-length 8 c) in
-      part-from ∙ sym (part-append (at % 8) k (bitsIn d) (bitsIn (0 ∷ 0 ∷ 0 ∷ [])) (omega arith)) ∙ ap (λ (bits : List Bit). take k (drop (at % 8) bits)) all
-      ∙ part-append (at % 8) k w (t .0) (omega arith) ∙ ap (λ (bits : List Bit). take k (drop (at % 8) bits)) (sym (three-bytes a b c l m))
+  bits-window : (a b c d : ℕ) → a ≡ getD s i 0 → b ≡ getD s (i + 1) 0 → c ≡ getD s (i + 2) 0 → d ≡ getD s (i + 3) 0 → b < 256 → c < 256 → d < 256
+      → take k (drop at (bitsIn s)) ≡ take k (drop skipped (bitsOf 32 (16777216 * a + 65536 * b + 256 * c + d)))
+  bits-window a b c d p q r t l m n =
+      let u = drop i s in
+      let f = first-four u in
+      let w = bitsOf 8 a ++ (bitsOf 8 b ++ (bitsOf 8 c ++ bitsOf 8 d)) in
+      let zeros : List ℕ = 0 ∷ 0 ∷ 0 ∷ 0 ∷ [] in
+      let z : i + 0 ≡ i = omega arith in
+      let a′ : getD u 0 0 ≡ a = getD-drop i s 0 0 ∙ rw (z, p) in
+      let b′ : getD u 1 0 ≡ b = getD-drop i s 1 0 ∙ sym q in
+      let c′ : getD u 2 0 ≡ c = getD-drop i s 2 0 ∙ sym r in
+      let d′ : getD u 3 0 ≡ d = getD-drop i s 3 0 ∙ sym t in
+      let all : bitsIn u ++ bitsIn zeros ≡ w ++ f .0 = sym (bytes-append u zeros) ∙ f .1 ∙ rw (a′, b′, c′, d′, append-assoc, append-assoc, append-assoc) in
+      let o : length (bitsIn u) ≡ 8 * (length s - i) = bytes-length u ∙ rw (length-drop i s) in
+      let e : length w ≡ 32 = rw (length-append, length-append, length-append, bits-length 8 a, bits-length 8 b, bits-length 8 c, bits-length 8 d) in
+      part-from ∙ sym (part-append skipped k (bitsIn u) (bitsIn zeros) (omega arith)) ∙ ap (λ (bits : List Bit). take k (drop skipped bits)) all
+      ∙ part-append skipped k w (f .0) (omega arith) ∙ ap (λ (bits : List Bit). take k (drop skipped bits)) (sym (four-bytes a b c d l m n))
 
-  -- the number of k bits
-  pub number-at : (a b c low : ℕ) → a ≡ getD s first 0 → b ≡ getD s (first + 1) 0 → c ≡ getD s (first + 2) 0 → b < 256 → c < 256 → low ≡ 24 - at % 8 - k
-      → (65536 * a + 256 * b + c) / 2 ^ low % 2 ^ k ≡ numberOf 0 (take k (drop at (bitsIn s)))
-  number-at a b c low p q r l m e =
-      sym (ap (λ (bits : List Bit). numberOf 0 bits) (bits-window a b c p q r l m) ∙ bits-within (at % 8) k low 24 (65536 * a + 256 * b + c) (omega arith))
-
--- as the code computes it, with the power in 64 bits
-pub number-held : (s : List ℕ) (at k : ℕ) → k ≤ 16 → at + k ≤ 8 * length s → (a b c : ℕ) → a ≡ getD s (at / 8) 0 → b ≡ getD s (at / 8 + 1) 0 → c ≡ getD s (at / 8 + 2) 0
-    → b < 256 → c < 256 → (power : ℕ) → power ≡ 2 ^ k → 0 < power → power ≤ 65536
-    → ((65536 * a + 256 * b + c) / 2 ^ (24 - at % 8 - k) % power ≡ numberOf 0 (take k (drop at (bitsIn s)))) × ((65536 * a + 256 * b + c) / 2 ^ (24 - at % 8 - k) % power < 65536)
-number-held s at k few h a b c p q r l m power e some most =
-    let x = (65536 * a + 256 * b + c) / 2 ^ (24 - at % 8 - k) in
-    let low = mod-lt x some in
-    (rw e (number-at s at k h (omega arith) a b c (24 - at % 8 - k) p q r l m refl), omega arith)
+  -- their number, out of what is held of the stream
+  pub number-at : (x low : ℕ) → Window s i x → low ≡ 8 * i + 32 - (at + k) → x / 2 ^ low % 2 ^ k ≡ numberOf 0 (take k (drop at (bitsIn s)))
+  number-at x low w e =
+      let b = bits-window (getD s i 0) (getD s (i + 1) 0) (getD s (i + 2) 0) (getD s (i + 3) 0) refl refl refl refl (w .second) (w .third) (w .fourth) in
+      rw (w .is) (sym (ap (λ (bits : List Bit). numberOf 0 bits) b ∙ bits-within skipped k low 32 (windowAt s i) (omega arith)))
 
 -- ---- of the bytes that are looked at
 

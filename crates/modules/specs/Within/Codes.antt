@@ -1,6 +1,6 @@
 -- How the reader holds an item's bits: as a number behind a leading 1.
 use mathlib.Core.Bool.{cond}
-use Prim.Native.Nat.{ℕ, _+_, _*_, _%_, _≤_, _<_}
+use Prim.Native.Nat.{ℕ, _+_, _*_, _%_, _^_, _≤_, _<_}
 use lib.Dec.{ltb, eqb}
 use Rattle.modules.specs.Definition.Bits.{Bit, O, I}
 use Rattle.modules.specs.declared.Item.{Item}
@@ -33,6 +33,8 @@ itemOf code =
     (cond (ltb code 768) (Byte (code % 256))
     (cond (ltb code 851968) (Word (code % 65536)) (Move (code % 65536)))))
 
--- a code that wants bits is one of these
-abbrev pub Coded : (code left : ℕ) → Type 0
-Coded code left = (left ≤ 16) × (0 < left → code ≤ 52)
+-- an item of which so many bits are taken has a code with its leading 1 before them; where it wants more, the code is one of these
+pub record Coded (taken code left : ℕ) : Type 0 where
+  pub leads : 2 ^ taken ≤ code
+  pub few : left ≤ 16
+  pub low : 0 < left → code ≤ 52

@@ -1,8 +1,9 @@
 -- `reader::settle` meets its contract, stop by stop.
 use denote.Ref.{now}
-use mathlib.Core.Path.{refl}
+use mathlib.Core.Path.{refl, _∙_}
+use Prim.Native.Nat.{_/_}
 use native.Mathlib.Omega.{arith}
-use Rattle.modules.specs.Laws.Positions.{looked-within}
+use Rattle.modules.specs.Laws.Positions.{looked-within, number-at}
 use Rattle.modules.specs.Laws.Padding.{ended-whole, ended-bad}
 use borrow.Author.Needs.{needs}
 use Rattle.modules.proofs.reader.settle.Statement.{statement}
@@ -14,14 +15,23 @@ enum-told c = search needs
 sub-left : tie.Need-sub-left
 sub-left c = search needs
 
-bits-requires : tie.Need-bits-requires
-bits-requires c κs = let s = c .before .before .before in (omega arith, omega (arith, s .pre, looked-within (now (s .args .stream))))
+window-requires : tie.Need-window-requires
+window-requires c κs = let s = c .before .before .before in omega (arith, s .pre, looked-within (now (s .args .stream)))
 
-add-t10 : tie.Need-add-t10
-add-t10 c = let s = c .before .before .before .before .before in omega (arith, s .pre, looked-within (now (s .args .stream)))
+sub-bits-of : tie.Need-sub-bits-of
+sub-bits-of c = search needs
 
-cast-t12 : tie.Need-cast-t12
-cast-t12 c = let s = c .before .before .before .before .before in omega (arith, s .pre, looked-within (now (s .args .stream)))
+sub-bits-of-2 : tie.Need-sub-bits-of-2
+sub-bits-of-2 c = search needs
+
+bits-of-requires : tie.Need-bits-of-requires
+bits-of-requires c κs = search needs
+
+add-t14 : tie.Need-add-t14
+add-t14 c = let s = c .before .before .before .before .before .before in omega (arith, s .pre, looked-within (now (s .args .stream)))
+
+cast-t16 : tie.Need-cast-t16
+cast-t16 c = let s = c .before .before .before .before .before .before in omega (arith, s .pre, looked-within (now (s .args .stream)))
 
 enum-told-2 : tie.Need-enum-told-2
 enum-told-2 c = search needs
@@ -39,10 +49,14 @@ enum-told-6 : tie.Need-enum-told-6
 enum-told-6 c = search needs
 
 returns : tie.Need-returns
-returns c = let s = c .before .before .before .before .before in rw (c .before .before .enum-told .given .1) (ended-whole (now (s .args .stream)) (s .args .at) _ (s .pre) refl _ (c .before .bits .ensures .0) (c .if1 .taken))
+returns c =
+    let s = c .before .before .before .before .before .before in
+    rw (c .before .before .before .enum-told .given .1) (ended-whole (now (s .args .stream)) (s .args .at) _ (s .pre) refl _ (c .before .bits-of .ensures .0 ∙ number-at (now (s .args .stream)) (s .args .at / 8) (s .args .at) _ (omega (arith, s .pre, looked-within (now (s .args .stream)))) (omega arith) (omega arith) _ _ (c .before .before .window .ensures .0) (omega arith)) (c .if1 .taken))
 
 returns-2 : tie.Need-returns-2
-returns-2 c = let s = c .before .before .before .before .before in rw (c .before .before .enum-told .given .1) (ended-bad (now (s .args .stream)) (s .args .at) _ (s .pre) refl _ (c .before .bits .ensures .0) (c .if1 .left))
+returns-2 c =
+    let s = c .before .before .before .before .before .before in
+    rw (c .before .before .before .enum-told .given .1) (ended-bad (now (s .args .stream)) (s .args .at) _ (s .pre) refl _ (c .before .bits-of .ensures .0 ∙ number-at (now (s .args .stream)) (s .args .at / 8) (s .args .at) _ (omega (arith, s .pre, looked-within (now (s .args .stream)))) (omega arith) (omega arith) _ _ (c .before .before .window .ensures .0) (omega arith)) (c .if1 .left))
 
 returns-3 : tie.Need-returns-3
 returns-3 c = search needs
@@ -65,9 +79,12 @@ settle-spec =
     (tie.spec
     enum-told
     sub-left
-    bits-requires
-    add-t10
-    cast-t12
+    window-requires
+    sub-bits-of
+    sub-bits-of-2
+    bits-of-requires
+    add-t14
+    cast-t16
     enum-told-2
     enum-told-3
     enum-told-4
