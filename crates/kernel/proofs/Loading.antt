@@ -1,13 +1,13 @@
 -- Load module: each refusal and the load are a branch of `onLoadModule`.
-use mathlib.Core.Path.{_≡_, refl, sym, ap, _∙_}
-use mathlib.Core.Bool.{Bool, true, false, _||_, not, false≢true}
+use mathlib.Core.Path.{_≡_, sym, ap, _∙_}
+use mathlib.Core.Bool.{Bool, true, false, _||_, not}
 use mathlib.Core.List.{List, [], _∷_}
 use Prim.Native.Nat.{ℕ, _+_, _*_, _≤_}
 use native.Mathlib.Omega.{arith}
 use borrow.Author.Tests.{ltb-false, not-true}
 use lib.Dec.{ltb, eqb}
-use lib.ListN.{length, take}
-use Rattle.modules.specs.Definition.Counter.{counter, putEach}
+use lib.ListN.{take}
+use Rattle.modules.specs.Definition.Counter.{counter}
 use Rattle.modules.specs.Definition.Judging.{judged, storedBy, refusalOf, usedOf}
 use Rattle.modules.specs.Within.Acts.{Counts, putWhere}
 use Rattle.modules.specs.Within.Scan.{storedBefore}
@@ -18,8 +18,8 @@ use Rattle.modules.specs.declared.Counter.{Counter}
 use Rattle.modules.specs.declared.Target.{Target}
 use Rattle.rows.specs.Definition.Lists.{firstOf}
 use Rattle.rows.specs.Laws.Lists.{or-left, or-right}
-use Rattle.kernel.specs.Definition.Tables.{SEGMENT, ramSize, rowOf}
-use Rattle.kernel.specs.Definition.Bytes.{nothing, one-by-one, segmentAt}
+use Rattle.kernel.specs.Definition.Tables.{ramSize, rowOf}
+use Rattle.kernel.specs.Definition.Bytes.{nothing, one-by-one}
 use Rattle.kernel.specs.Definition.Segments.{mayReach, reachOf}
 use Rattle.kernel.specs.Definition.Answers.{gives, Decision, _changing_, unless, _when_}
 use Rattle.kernel.specs.Definition.Calls.{targetOf, onLoadModule}

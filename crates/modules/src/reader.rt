@@ -1,7 +1,7 @@
 // The reader of a module's stream: it judges the stream, or stores its items.
 ghost use mathlib.Core.Path.{_≡_};
 ghost use Prim.Native.Nat.{_+_, _*_, _%_, _≤_, _<_};
-ghost use lib.ListN.{length, take, drop};
+ghost use lib.ListN.{length, drop};
 ghost use Rattle.modules.specs.Definition.Reading.{lookedAt, streamBits};
 ghost use Rattle.modules.specs.Definition.Judging.{judged};
 ghost use Rattle.modules.specs.Within.Codes.{itemOf};

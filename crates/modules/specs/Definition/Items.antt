@@ -1,7 +1,7 @@
 -- An item is its bits; a module is items, the end item and zero padding.
 use mathlib.Core.Path.{_≡_}
 use mathlib.Core.List.{List, [], _∷_, _++_}
-use Prim.Native.Nat.{ℕ, _*_, _≤_, _<_}
+use Prim.Native.Nat.{ℕ, _≤_, _<_}
 use lib.ListN.{length, take, replicate}
 use Rattle.modules.specs.Definition.Bits.{Bit, O, I, bitsOf, bitsIn}
 use Rattle.modules.specs.declared.Item.{Item}

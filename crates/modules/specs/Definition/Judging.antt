@@ -6,7 +6,7 @@ use lib.Dec.{ltb, eqb}
 use lib.ListN.{length, take}
 use Rattle.line.specs.Definition.Guard.{guarded}
 use Rattle.modules.specs.Definition.Bits.{Bit, O, I}
-use Rattle.modules.specs.Definition.Reading.{Break, end, illegal-item, end-of-input, Taken, lookedAt, takenOf}
+use Rattle.modules.specs.Definition.Reading.{Break, end, illegal-item, end-of-input, lookedAt, takenOf}
 use Rattle.modules.specs.Definition.Counter.{PAGE, landing, sizeOf, after, Put, putsOf}
 use Rattle.modules.specs.declared.Item.{Item}
 use Rattle.modules.specs.declared.Item.the-variants.{Byte, Word, SetPage, Restore, Move}
