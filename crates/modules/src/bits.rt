@@ -1,10 +1,10 @@
 // Bits of the stream, and how many an item wants.
 ghost use mathlib.Core.Path.{_≡_};
-ghost use Prim.Native.Nat.{_+_, _*_, _^_, _≤_, _<_};
-ghost use lib.ListN.{length, getD, take, drop};
+ghost use Prim.Native.Nat.{_+_, _*_, _≤_, _<_};
+ghost use lib.ListN.{getD, take, drop};
 ghost use Rattle.modules.specs.Definition.Bits.{numberOf, bitsIn};
 ghost use Rattle.modules.specs.Within.Codes.{wants};
-use super::wide;
+use rows::numbers::wide;
 
 // The byte at an index, or zero behind the last.
 fn byte_at(stream: &[u8], i: usize) -> usize

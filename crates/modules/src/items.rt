@@ -13,8 +13,8 @@ use super::Stop;
 use super::Target;
 use super::location::land;
 use super::location::relocate;
-use super::wide16;
 use line::guard::guards;
+use rows::numbers::wide16;
 
 // The item of all its bits, behind a leading 1; neither the end item nor an illegal one.
 pub fn item_of(code: usize) -> Item

@@ -8,6 +8,7 @@ use native.Mathlib.Nat.{not-suc-le-zero, le-of-suc-le-suc, le-refl, mod-lt}
 use native.Mathlib.Omega.{arith}
 use borrow.Author.Tests.{ltb-false}
 use lib.ListN.{length, take, getD, length-append}
+use Rattle.rows.specs.Laws.Says.{Says, says-no}
 use Rattle.modules.specs.Definition.Bits.{Bit, O, I}
 use Rattle.modules.specs.Definition.Items.{itemBits, endBits, illegalBits}
 use Rattle.modules.specs.Definition.Reading.{First, end, Taken, takenBy, first, takenIn, lookedAt, streamBits}
@@ -15,7 +16,7 @@ use Rattle.modules.specs.Definition.Counter.{PAGE, landing, after}
 use Rattle.modules.specs.Definition.Judging.{faultOr, judgedOr, zeros, judgedAt, judged, refusalOf}
 use Rattle.modules.specs.Definition.Faults.{RunsOut, Outside, Above, Touches, Faultless, Begins, Refused}
 use Rattle.modules.specs.Laws.Items.{first-item, first-end, first-illegal, item-stands, end-stands, illegal-stands, short-runs-out, runs-out-short}
-use Rattle.modules.specs.Laws.Tests.{Decides, holds, fails, decides-true, decides-false, outside-decides, above-decides, touches-decides}
+use Rattle.modules.specs.Laws.Tests.{says-fails, outside-says, above-says, touches-says}
 use Rattle.modules.specs.declared.Item.{Item}
 use Rattle.modules.specs.declared.Item.the-variants.{Byte, Word, SetPage, Restore, Move}
 use Rattle.modules.specs.declared.Counter.{Counter}
@@ -63,25 +64,25 @@ one-found (suc n) (I ∷ bits) e = (0, omega arith, refl)
 
 -- what is without fault keeps the offset within the page
 pub after-within : (start : ℕ) (c : Counter) (i : Item) → c .offset ≤ PAGE → ¬ Outside c i → after start c i .offset ≤ PAGE
-after-within start c (Byte x) h o = ltb-false _ _ (decides-false (outside-decides c (Byte x) h) o)
-after-within start c (Word x) h o = ltb-false _ _ (decides-false (outside-decides c (Word x) h) o)
+after-within start c (Byte x) h o = ltb-false _ _ (says-no (outside-says c (Byte x) h) o)
+after-within start c (Word x) h o = ltb-false _ _ (says-no (outside-says c (Word x) h) o)
 after-within start c (SetPage page) h o = h
 after-within start c Restore h o = h
 after-within start c (Move x) h o = omega (arith, mod-lt (landing c x) {m = PAGE} (omega arith))
 
 module _ (g : Target) (c : Counter) (i : Item) (h : c .offset ≤ PAGE) (else : Judged) where
   page-at : Outside c i → faultOr g c i else ≡ Page
-  page-at o = rw (decides-true (outside-decides c i h) o)
+  page-at o = rw (outside-says c i h .make o)
 
   range-at : ¬ Outside c i → Above g c i → faultOr g c i else ≡ Range
-  range-at o a = rw (decides-false (outside-decides c i h) o, decides-true (above-decides g c i) a)
+  range-at o a = rw (says-no (outside-says c i h) o, above-says g c i .make a)
 
   guard-at : ¬ Outside c i → ¬ Above g c i → Touches g c i → faultOr g c i else ≡ Guard
-  guard-at o a t = rw (decides-false (outside-decides c i h) o, decides-false (above-decides g c i) a, decides-true (touches-decides g c i) t)
+  guard-at o a t = rw (says-no (outside-says c i h) o, says-no (above-says g c i) a, touches-says g c i .make t)
 
   pub none-at : Faultless g c i → faultOr g c i else ≡ else
   none-at l =
-      rw (decides-false (outside-decides c i h) (l .inside), decides-false (above-decides g c i) (l .below), decides-false (touches-decides g c i) (l .clear))
+      rw (says-no (outside-says c i h) (l .inside), says-no (above-says g c i) (l .below), says-no (touches-says g c i) (l .clear))
 
 -- ---- all items; `m` is the bytes looked at
 
@@ -119,14 +120,16 @@ module _ (g : Target) (m : ℕ) where
       ∙ refused-in (pred n) (begins-less n b l) (after-within (g .page) c i h (s .inside)) r
 
   -- the fault of the item that stands first, or what is behind it
-  fault-refused : {c : Counter} {bits : List Bit} {i : Item} {rest : List Bit} {o a t : Bool} → Decides (Outside c i) o → Decides (Above g c i) a
-      → Decides (Touches g c i) t → Begins bits i rest → (else : Judged)
+  fault-refused : {c : Counter} {bits : List Bit} {i : Item} {rest : List Bit} (o a t : Bool) → Says o (Outside c i) → Says a (Above g c i)
+      → Says t (Touches g c i) → Begins bits i rest → (else : Judged)
       → (Faultless g c i → (refusalOf else ≡ 0 → ⊥) → Refused g (after (g .page) c i) rest else)
       → (refusalOf (cond o Page (cond a Range (cond t Guard else))) ≡ 0 → ⊥) → Refused g c bits (cond o Page (cond a Range (cond t Guard else)))
-  fault-refused (holds o) a t b else more n = Refused.page b o
-  fault-refused (fails o) (holds a) t b else more n = Refused.range b o a
-  fault-refused (fails o) (fails a) (holds t) b else more n = Refused.guard b o a t
-  fault-refused (fails o) (fails a) (fails t) b else more n = let l : Faultless g _ _ = record { inside = o; below = a; clear = t } in Refused.behind b l (more l n)
+  fault-refused true a t p q r b else more n = Refused.page b (p .yes refl)
+  fault-refused false true t p q r b else more n = Refused.range b (says-fails p refl) (q .yes refl)
+  fault-refused false false true p q r b else more n = Refused.guard b (says-fails p refl) (says-fails q refl) (r .yes refl)
+  fault-refused false false false p q r b else more n =
+      let l : Faultless g _ _ = record { inside = says-fails p refl; below = says-fails q refl; clear = says-fails r refl } in
+      Refused.behind b l (more l n)
 
   padding-refused : {c : Counter} {bits : List Bit} (rest : List Bit) (z : Bool) → bits ≡ endBits ++ rest → zeros (take (length rest % 8) rest) ≡ z → (b : ℕ)
       → (refusalOf (cond z (Whole b) Module) ≡ 0 → ⊥) → Refused g c bits (cond z (Whole b) Module)
@@ -141,7 +144,7 @@ module _ (g : Target) (m : ℕ) where
   unfolding judgedOr
   first-refused c bits (First.item i rest) more h e behind n =
       let b = item-stands bits i rest e in
-      fault-refused (outside-decides c i h) (above-decides g c i) (touches-decides g c i) b _ (behind i rest b) n
+      fault-refused _ _ _ (outside-says c i h) (above-says g c i) (touches-says g c i) b _ (behind i rest b) n
   first-refused c bits (First.ends rest) more h e behind n = padding-refused rest _ (end-stands bits rest e) refl _ n
   first-refused c bits First.illegal more h e behind n = let (rest, q) = illegal-stands bits e in Refused.illegal rest q
   first-refused c bits First.runs-out more h e behind n = Refused.runs-out (short-runs-out bits e)

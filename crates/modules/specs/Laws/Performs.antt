@@ -1,16 +1,17 @@
 -- What comes of an item, as the code finds it: one law a branch.
 use mathlib.Core.Path.{_≡_, refl, sym, _∙_}
-use mathlib.Core.Bool.{Bool, true, false, _&&_, _||_, false≢true}
+use mathlib.Core.Bool.{Bool, true, false, _&&_, _||_}
 use mathlib.Core.List.{List, []}
-use Prim.Native.Nat.{ℕ, _+_, _*_, _%_, _≤_, _<_}
+use Prim.Native.Nat.{ℕ, _+_, _≤_}
 use native.Mathlib.Omega.{arith}
-use borrow.Author.Tests.{eq-eqb, ne-eqb, ltb-false}
+use borrow.Author.Tests.{ne-eqb, ltb-false}
 use lib.Dec.{ltb, eqb}
+use Rattle.rows.specs.Laws.Lists.{or-right}
 use Rattle.line.specs.Definition.Guard.{guarded}
-use Rattle.modules.specs.Definition.Counter.{PAGE, sizeOf, landing, after, putsAt}
+use Rattle.modules.specs.Definition.Counter.{sizeOf, landing, after, putsAt}
 use Rattle.modules.specs.Definition.Judging.{leaves, outside, above, touches}
 use Rattle.modules.specs.Within.Codes.{itemOf}
-use Rattle.modules.specs.Within.Acts.{itemAct, actOf, actPuts, putWhere, Counts, Counting, Inside, Paged}
+use Rattle.modules.specs.Within.Acts.{itemAct, actOf, actPuts, putWhere, Counts, Inside, Paged}
 use Rattle.modules.specs.declared.Item.{Item}
 use Rattle.modules.specs.declared.Item.the-variants.{Byte, Word, SetPage, Restore, Move}
 use Rattle.modules.specs.declared.Counter.{Counter}
@@ -19,10 +20,6 @@ use Rattle.modules.specs.declared.Act.{Act}
 use Rattle.modules.specs.declared.Act.the-variants.{Next, Halt}
 use Rattle.modules.specs.declared.Stop.{Stop}
 use Rattle.modules.specs.declared.Stop.the-variants.{End, Illegal, Page, Range, Guard}
-
-or-false : (a b : Bool) → a || b ≡ false → b ≡ false
-or-false true b e = absurd (false≢true (sym e))
-or-false false b e = e
 
 -- an item inside the page leaves a counter
 pub after-counts : (start : ℕ) (c : Counter) (i : Item) → Counts c → start ≤ 3 → Paged i → c .offset + sizeOf i ≤ 16384 → Counts (after start c i)
@@ -41,7 +38,7 @@ module _ (g : Target) (c : Counter) (i : Item) (from size : ℕ) (leave : Bool) 
 
   module _ (out : leave || ltb 16384 (from + size) ≡ false) where
     pub page-inside : from + size ≤ 16384
-    page-inside = ltb-false 16384 (from + size) (or-false leave (ltb 16384 (from + size)) out)
+    page-inside = ltb-false 16384 (from + size) (or-right leave (ltb 16384 (from + size)) out)
 
     pub item-inside : c .offset + sizeOf i ≤ 16384
     item-inside = rw (← o, ← s) page-inside

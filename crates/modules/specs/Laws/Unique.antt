@@ -17,7 +17,7 @@ use Rattle.modules.specs.Laws.Stored.{passed}
 use Rattle.modules.specs.Laws.Numbers.{bytes-length, bytes-append, bytes-take}
 use Rattle.modules.specs.Laws.Items.{first-item, first-end, item-stands, end-stands}
 use Rattle.modules.specs.Laws.Faults.{taken-step, begins-less, none-at, after-within}
-use Rattle.modules.specs.Laws.Tests.{decides-no, outside-decides, above-decides, touches-decides}
+use Rattle.modules.specs.Laws.Tests.{says-fails, outside-says, above-says, touches-says}
 use Rattle.modules.specs.declared.Item.{Item}
 use Rattle.modules.specs.declared.Counter.{Counter}
 use Rattle.modules.specs.declared.Target.{Target}
@@ -164,9 +164,9 @@ items-faultless g c [] else h e = tt
 items-faultless g c (i ∷ items) else h e =
     let p = passed g c i (judgedOr g (after (g .page) c i) items else) e in
     let l : Faultless g c i = record {
-      inside = decides-no (outside-decides c i h) (p .inside);
-      below = decides-no (above-decides g c i) (p .below);
-      clear = decides-no (touches-decides g c i) (p .clear);
+      inside = says-fails (outside-says c i h) (p .inside);
+      below = says-fails (above-says g c i) (p .below);
+      clear = says-fails (touches-says g c i) (p .clear);
     } in
     (l, items-faultless g (after (g .page) c i) items else (after-within (g .page) c i h (l .inside)) (p .else-whole))
 
