@@ -1,21 +1,21 @@
 -- What a stream is judged to be is what the definition of faults says in propositions: `judged` is refused exactly as `Refused` says.
 -- A counter's offset is at most 16,384: the call asks that before, and every item without fault keeps it.
-use mathlib.Core.Path.{_≡_, refl, sym, ap, _∙_}
+use mathlib.Core.Path.{_≡_, refl, sym, _∙_}
 use mathlib.Core.Bool.{Bool, true, false, cond, false≢true}
 use mathlib.Core.List.{List, [], _∷_, _++_}
 use Prim.Native.Nat.{ℕ, zero, suc, pred, _%_, _≤_, _<_}
 use native.Mathlib.Nat.{not-suc-le-zero, le-of-suc-le-suc, le-refl, mod-lt}
 use native.Mathlib.Omega.{arith}
 use borrow.Author.Tests.{ltb-false}
-use lib.ListN.{length, take, getD, length-append}
+use lib.ListN.{length, take, getD}
 use Rattle.rows.specs.Laws.Says.{Says, says-no}
 use Rattle.modules.specs.Definition.Bits.{Bit, O, I}
-use Rattle.modules.specs.Definition.Items.{itemBits, endBits, illegalBits}
+use Rattle.modules.specs.Definition.Items.{endBits, illegalBits}
 use Rattle.modules.specs.Definition.Reading.{First, end, Taken, takenBy, first, takenIn, lookedAt, streamBits}
 use Rattle.modules.specs.Definition.Counter.{PAGE, landing, after}
 use Rattle.modules.specs.Definition.Judging.{faultOr, judgedOr, zeros, judgedAt, judged, refusalOf}
 use Rattle.modules.specs.Definition.Faults.{RunsOut, Outside, Above, Touches, Faultless, Begins, Refused}
-use Rattle.modules.specs.Laws.Items.{first-item, first-end, first-illegal, item-stands, end-stands, illegal-stands, short-runs-out, runs-out-short}
+use Rattle.modules.specs.Laws.Items.{first-item, first-end, first-illegal, item-stands, end-stands, illegal-stands, short-runs-out, runs-out-short, taken-step, begins-less}
 use Rattle.modules.specs.Laws.Tests.{says-fails, outside-says, above-says, touches-says}
 use Rattle.modules.specs.declared.Item.{Item}
 use Rattle.modules.specs.declared.Item.the-variants.{Byte, Word, SetPage, Restore, Move}
@@ -23,27 +23,6 @@ use Rattle.modules.specs.declared.Counter.{Counter}
 use Rattle.modules.specs.declared.Target.{Target}
 use Rattle.modules.specs.declared.Judged.{Judged}
 use Rattle.modules.specs.declared.Judged.the-variants.{Whole, Module, Page, Range, Guard}
-
--- ---- one step of the reading
-
--- what is taken of some bits, where there are as many steps as bits
-pub taken-step : (n : ℕ) (bits : List Bit) → length bits ≤ n → takenIn n bits ≡ takenBy (first bits) (λ rest. takenIn (pred n) rest)
-unfolding takenIn
-taken-step zero [] h = refl
-taken-step zero (b ∷ bits) h = absurd (not-suc-le-zero h)
-taken-step (suc n) bits h = refl
-
-item-some : (i : Item) → 0 < length (itemBits i)
-unfolding itemBits
-item-some (Byte x) = omega arith
-item-some (Word x) = omega arith
-item-some (SetPage page) = omega arith
-item-some Restore = omega arith
-item-some (Move x) = omega arith
-
--- every item has a bit, so that a step less is enough behind it
-pub begins-less : {bits : List Bit} {i : Item} {rest : List Bit} (n : ℕ) → Begins bits i rest → length bits ≤ n → length rest ≤ pred n
-begins-less {i = i} {rest = rest} n b h = omega (arith, item-some i, ap length (b .are) ∙ length-append (itemBits i) rest)
 
 -- ---- bad padding
 

@@ -7,9 +7,9 @@ use native.Mathlib.Omega.{arith}
 use lib.ListN.{length, getD, take, drop, length-take, length-drop, length-append, take-append-drop}
 use lib.Pow.{shr-shr}
 use lib.Seq.{getD-drop, drop-drop, drop-append-le, take-append-le, take-at, take-all, length-take-le}
-use Rattle.modules.specs.Definition.Bits.{Bit, bitOf, bitsOf, bitsIn, numberOf}
+use Rattle.modules.specs.Definition.Bits.{Bit, bitsOf, bitsIn, numberOf}
 use Rattle.modules.specs.Definition.Reading.{lookedAt, streamBits}
-use Rattle.modules.specs.Laws.Numbers.{bits-length, number-bits, bits-back, bytes-cons, bytes-length, bytes-append, bytes-take, bytes-drop}
+use Rattle.modules.specs.Laws.Numbers.{bits-length, number-bits, bits-back, bytes-length, bytes-append, bytes-take, bytes-drop}
 
 -- ---- the bits of a number, in parts
 
@@ -48,10 +48,11 @@ three-bytes a b c h k =
 
 -- the first three bytes of some, zero where there are none
 first-three : (s : List ℕ) → (more : List Bit) × (bitsIn (s ++ (0 ∷ 0 ∷ 0 ∷ [])) ≡ bitsOf 8 (getD s 0 0) ++ (bitsOf 8 (getD s 1 0) ++ (bitsOf 8 (getD s 2 0) ++ more)))
-first-three [] = (bitsIn [], rw (bytes-cons, bytes-cons, bytes-cons))
-first-three (a ∷ []) = (bitsIn (0 ∷ []), rw (bytes-cons, bytes-cons, bytes-cons))
-first-three (a ∷ b ∷ []) = (bitsIn (0 ∷ 0 ∷ []), rw (bytes-cons, bytes-cons, bytes-cons))
-first-three (a ∷ b ∷ c ∷ s) = (bitsIn (s ++ (0 ∷ 0 ∷ 0 ∷ [])), rw (bytes-cons, bytes-cons, bytes-cons))
+unfolding bitsIn
+first-three [] = (bitsIn [], refl)
+first-three (a ∷ []) = (bitsIn (0 ∷ []), refl)
+first-three (a ∷ b ∷ []) = (bitsIn (0 ∷ 0 ∷ []), refl)
+first-three (a ∷ b ∷ c ∷ s) = (bitsIn (s ++ (0 ∷ 0 ∷ 0 ∷ [])), refl)
 
 -- what stands behind changes nothing
 part-append : (r k : ℕ) (xs ys : List Bit) → r + k ≤ length xs → take k (drop r (xs ++ ys)) ≡ take k (drop r xs)
@@ -60,32 +61,33 @@ part-append r k xs ys h =
     rw (drop-append-le r xs ys (omega arith)) (take-append-le k (drop r xs) ys (omega arith))
 
 module _ (s : List ℕ) (at k : ℕ) (h : at + k ≤ 8 * length s) (few : at % 8 + k ≤ 24) where
-  abbrev first : ℕ
-  first = at / 8
+  -- of the byte where they begin
+  abbrev index : ℕ
+  index = at / 8
 
-  part-from : take k (drop at (bitsIn s)) ≡ take k (drop (at % 8) (bitsIn (drop first s)))
+  part-from : take k (drop at (bitsIn s)) ≡ take k (drop (at % 8) (bitsIn (drop index s)))
   part-from =
-      let e : 8 * first + at % 8 ≡ at = omega arith in
-      rw (bytes-drop first s, drop-drop (at % 8) (8 * first) (bitsIn s), e)
+      let e : 8 * index + at % 8 ≡ at = omega arith in
+      rw (bytes-drop index s, drop-drop (at % 8) (8 * index) (bitsIn s), e)
 
-  bits-window : (a b c : ℕ) → a ≡ getD s first 0 → b ≡ getD s (first + 1) 0 → c ≡ getD s (first + 2) 0 → b < 256 → c < 256
+  bits-window : (a b c : ℕ) → a ≡ getD s index 0 → b ≡ getD s (index + 1) 0 → c ≡ getD s (index + 2) 0 → b < 256 → c < 256
       → take k (drop at (bitsIn s)) ≡ take k (drop (at % 8) (bitsOf 24 (65536 * a + 256 * b + c)))
   bits-window a b c p q r l m =
-      let d = drop first s in
+      let d = drop index s in
       let t = first-three d in
       let w = bitsOf 8 a ++ (bitsOf 8 b ++ bitsOf 8 c) in
-      let z : first + 0 ≡ first = omega arith in
-      let a′ : getD d 0 0 ≡ a = getD-drop first s 0 0 ∙ rw (z, p) in
-      let b′ : getD d 1 0 ≡ b = getD-drop first s 1 0 ∙ sym q in
-      let c′ : getD d 2 0 ≡ c = getD-drop first s 2 0 ∙ sym r in
+      let z : index + 0 ≡ index = omega arith in
+      let a′ : getD d 0 0 ≡ a = getD-drop index s 0 0 ∙ rw (z, p) in
+      let b′ : getD d 1 0 ≡ b = getD-drop index s 1 0 ∙ sym q in
+      let c′ : getD d 2 0 ≡ c = getD-drop index s 2 0 ∙ sym r in
       let all : bitsIn d ++ bitsIn (0 ∷ 0 ∷ 0 ∷ []) ≡ w ++ t .0 = sym (bytes-append d (0 ∷ 0 ∷ 0 ∷ [])) ∙ t .1 ∙ rw (a′, b′, c′, append-assoc, append-assoc) in
-      let n : length (bitsIn d) ≡ 8 * (length s - first) = bytes-length d ∙ rw (length-drop first s) in
+      let n : length (bitsIn d) ≡ 8 * (length s - index) = bytes-length d ∙ rw (length-drop index s) in
       let m′ : length w ≡ 24 = rw (length-append, length-append, bits-length 8 a, bits-length 8 b, bits-length 8 c) in
       part-from ∙ sym (part-append (at % 8) k (bitsIn d) (bitsIn (0 ∷ 0 ∷ 0 ∷ [])) (omega arith)) ∙ ap (λ (bits : List Bit). take k (drop (at % 8) bits)) all
       ∙ part-append (at % 8) k w (t .0) (omega arith) ∙ ap (λ (bits : List Bit). take k (drop (at % 8) bits)) (sym (three-bytes a b c l m))
 
   -- the number of k bits
-  pub number-at : (a b c low : ℕ) → a ≡ getD s first 0 → b ≡ getD s (first + 1) 0 → c ≡ getD s (first + 2) 0 → b < 256 → c < 256 → low ≡ 24 - at % 8 - k
+  pub number-at : (a b c low : ℕ) → a ≡ getD s index 0 → b ≡ getD s (index + 1) 0 → c ≡ getD s (index + 2) 0 → b < 256 → c < 256 → low ≡ 24 - at % 8 - k
       → (65536 * a + 256 * b + c) / 2 ^ low % 2 ^ k ≡ numberOf 0 (take k (drop at (bitsIn s)))
   number-at a b c low p q r l m e =
       sym (ap (λ (bits : List Bit). numberOf 0 bits) (bits-window a b c p q r l m) ∙ bits-within (at % 8) k low 24 (65536 * a + 256 * b + c) (omega arith))
@@ -109,6 +111,10 @@ looked-short stream h = rw (take-all 65535 stream (omega arith))
 
 pub looked-long : (stream : List ℕ) → 65535 ≤ length stream → 65535 ≡ length (lookedAt stream)
 looked-long stream h = sym (length-take-le 65535 stream h)
+
+-- the bits that are left from a position on
+pub rest-length : (stream : List ℕ) (at : ℕ) → length (drop at (streamBits stream)) ≡ 8 * length (lookedAt stream) - at
+rest-length stream at = rw (length-drop at (streamBits stream), bytes-length (lookedAt stream))
 
 pub looked-bits : (stream : List ℕ) (at k : ℕ) → at + k ≤ 8 * length (lookedAt stream) → take k (drop at (bitsIn stream)) ≡ take k (drop at (streamBits stream))
 looked-bits stream at k h =

@@ -7,11 +7,10 @@ use native.Mathlib.Omega.{arith}
 use lib.ListN.{length}
 use Rattle.modules.specs.Definition.Bits.{Bit}
 use Rattle.modules.specs.Definition.Reading.{First, item, ends, illegal, runs-out, first, Taken, takenBy, takenIn, lookedAt, streamBits, takenOf}
-use Rattle.modules.specs.Definition.Counter.{after, Put, putsAt, putsOf}
+use Rattle.modules.specs.Definition.Counter.{after, putsOf}
 use Rattle.modules.specs.Definition.Judging.{outside, above, touches, faultOr, judgedOr, judgedAt, judged, storedBy, refusalOf}
-use Rattle.modules.specs.Within.Scan.{Scan, stops, withItem, scan, putsBefore, storedBefore}
-use Rattle.modules.specs.Laws.Items.{Stands, first-stands}
-use Rattle.modules.specs.Laws.Faults.{begins-less}
+use Rattle.modules.specs.Within.Scan.{Scan, withItem, scan, putsBefore, storedBefore}
+use Rattle.modules.specs.Laws.Items.{Stands, first-stands, begins-less}
 use Rattle.modules.specs.Laws.Scan.{byFirst, scan-first}
 use Rattle.modules.specs.Laws.Stored.{passed}
 use Rattle.modules.specs.declared.Item.{Item}

@@ -15,8 +15,8 @@ use Rattle.modules.specs.Definition.Judging.{judgedOr, zeros, judgedAt, 
 use Rattle.modules.specs.Definition.Faults.{Faultless, FaultlessFrom, Begins}
 use Rattle.modules.specs.Laws.Stored.{passed}
 use Rattle.modules.specs.Laws.Numbers.{bytes-length, bytes-append, bytes-take}
-use Rattle.modules.specs.Laws.Items.{first-item, first-end, item-stands, end-stands}
-use Rattle.modules.specs.Laws.Faults.{taken-step, begins-less, none-at, after-within}
+use Rattle.modules.specs.Laws.Items.{first-item, first-end, item-stands, end-stands, taken-step, begins-less}
+use Rattle.modules.specs.Laws.Faults.{none-at, after-within}
 use Rattle.modules.specs.Laws.Tests.{says-fails, outside-says, above-says, touches-says}
 use Rattle.modules.specs.declared.Item.{Item}
 use Rattle.modules.specs.declared.Counter.{Counter}
