@@ -29,35 +29,41 @@ after-counts start c (SetPage page) k s p h = record { page = p; offset = k .off
 after-counts start c Restore k s p h = record { page = s; offset = k .offset }
 after-counts start c (Move x) k s p h = let y = landing c x in record { page = k .page; offset = omega arith }
 
-module _ (g : Target) (c : Counter) (i : Item) (from size : ℕ) (leave : Bool) (o : from ≡ c .offset) (s : size ≡ sizeOf i) (l : leave ≡ leaves c i) where
-  out-is : leave || ltb 16384 (from + size) ≡ outside c i
-  out-is = rw (o, s, l)
+-- what the code has of an item before it tests it
+pub record Seen (c : Counter) (i : Item) (from size : ℕ) (leave : Bool) : Type 0 where
+  pub offset : from ≡ c .offset
+  pub stores : size ≡ sizeOf i
+  pub moved : leave ≡ leaves c i
 
-  pub judge-page : leave || ltb 16384 (from + size) ≡ true → Halt Page ≡ itemAct g c i
-  judge-page e = rw (sym out-is ∙ e)
+module _ {c : Counter} {i : Item} {from size : ℕ} {leave : Bool} (x : Seen c i from size leave) where
+  out-is : leave || ltb 16384 (from + size) ≡ outside c i
+  out-is = rw (x .offset, x .stores, x .moved)
+
+  pub judge-page : (g : Target) → leave || ltb 16384 (from + size) ≡ true → Halt Page ≡ itemAct g c i
+  judge-page g e = rw (sym out-is ∙ e)
 
   module _ (out : leave || ltb 16384 (from + size) ≡ false) where
     pub page-inside : from + size ≤ 16384
     page-inside = ltb-false 16384 (from + size) (or-right leave (ltb 16384 (from + size)) out)
 
     pub item-inside : c .offset + sizeOf i ≤ 16384
-    item-inside = rw (← o, ← s) page-inside
+    item-inside = rw (← x .offset, ← x .stores) page-inside
 
-    above-is : ltb 0 size && ltb (g .reach) (from + size) ≡ above g c i
-    above-is = rw (o, s)
+    above-is : (g : Target) → ltb 0 size && ltb (g .reach) (from + size) ≡ above g c i
+    above-is g = rw (x .offset, x .stores)
 
-    pub judge-range : ltb 0 size && ltb (g .reach) (from + size) ≡ true → Halt Range ≡ itemAct g c i
-    judge-range e = rw (sym out-is ∙ out, sym above-is ∙ e)
+    pub judge-range : (g : Target) → ltb 0 size && ltb (g .reach) (from + size) ≡ true → Halt Range ≡ itemAct g c i
+    judge-range g e = rw (sym out-is ∙ out, sym (above-is g) ∙ e)
 
-    module _ (low : ltb 0 size && ltb (g .reach) (from + size) ≡ false) (hit : Bool) (q : hit ≡ guarded (g .row) from size) where
+    module _ (g : Target) (low : ltb 0 size && ltb (g .reach) (from + size) ≡ false) (hit : Bool) (q : hit ≡ guarded (g .row) from size) where
       touch-is : hit ≡ touches g c i
-      touch-is = rw (q, o, s)
+      touch-is = rw (q, x .offset, x .stores)
 
       pub judge-guard : hit ≡ true → Halt Guard ≡ itemAct g c i
-      judge-guard e = rw (sym out-is ∙ out, sym above-is ∙ low, sym touch-is ∙ e)
+      judge-guard e = rw (sym out-is ∙ out, sym (above-is g) ∙ low, sym touch-is ∙ e)
 
       pub judge-next : hit ≡ false → (d : Counter) → d ≡ after (g .page) c i → Next d ≡ itemAct g c i
-      judge-next e d z = rw (sym out-is ∙ out, sym above-is ∙ low, sym touch-is ∙ e, z)
+      judge-next e d z = rw (sym out-is ∙ out, sym (above-is g) ∙ low, sym touch-is ∙ e, z)
 
 pub next-counts : (g : Target) (c d : Counter) (i : Item) → d ≡ after (g .page) c i → Counts c → g .page ≤ 3 → Paged i → c .offset + sizeOf i ≤ 16384 → Counts d
 next-counts g c d i z k s p h = rw z (after-counts (g .page) c i k s p h)

@@ -46,13 +46,19 @@ shl-result : tie.Need-shl-result
 shl-result c = search needs
 
 rem-result : tie.Need-rem-result
-rem-result c = let p = power (c .before .before .before .before .args .count) (c .before .before .before .before .pre .0) in rw (p .0) (p .1)
+rem-result c =
+    let s = c .before .before .before .before in
+    let p = power (s .args .count) (s .pre .0) in
+    rw (p .0) (p .1)
 
 returns : tie.Need-returns
 returns c =
-    let s = c .before .before .before .before in
+    let second = c .before in
+    let first = second .before in
+    let s = first .before .before in
     let p = power (s .args .count) (s .pre .0) in
-    number-held (now (s .args .stream)) (s .args .at) (s .args .count) (s .pre .0) (s .pre .1) _ _ _ (c .before .before .byte-at .ensures .0) (c .before .byte-at2 .ensures .0) (c .byte-at3 .ensures .0) (c .before .byte-at2 .ensures .1) (c .byte-at3 .ensures .1) _ (p .0) (rw (p .0) (p .1)) (rw (p .0) (p .2))
+    number-held (now (s .args .stream)) (s .args .at) (s .args .count) (s .pre .0) (s .pre .1) _ _ _ (first .byte-at .ensures .0) (second .byte-at2 .ensures .0)
+    (c .byte-at3 .ensures .0) (second .byte-at2 .ensures .1) (c .byte-at3 .ensures .1) _ (p .0) (rw (p .0) (p .1)) (rw (p .0) (p .2))
 
 pub bits-spec : {M : Type 1} → statement M
 bits-spec =

@@ -37,92 +37,60 @@ looked-requires : tie.Need-looked-requires Inv-loop μ-loop Inv-reader μ-reader
 looked-requires c κs = search needs
 
 mul-end : tie.Need-mul-end Inv-loop μ-loop Inv-reader μ-reader
-mul-end c = omega (arith, c .looked .ensures .1)
+mul-end c = search needs
 
 reader-holds : tie.Need-reader-holds Inv-loop μ-loop Inv-reader μ-reader
-reader-holds c = let s = c .before .before .before in (omega arith, refl, s .pre .0, begins (now (s .args .stream)) (s .args .target) (s .args .start) (s .args .storing) (16384 * s .args .target .row) (now (s .args .ram)))
+reader-holds c =
+    let s = c .before .before .before in
+    let a = s .args in
+    (omega arith, refl, s .pre .0, begins (now (a .stream)) (a .target) (a .start) (a .storing) (16384 * a .target .row) (now (a .ram)))
 
 loop-holds : tie.Need-loop-holds Inv-loop μ-loop Inv-reader μ-reader
-loop-holds c = (omega arith, omega arith, omega arith, (omega arith, λ h. omega arith), refl)
+loop-holds c = search needs
 
 add-if1 : tie.Need-add-if1 Inv-loop μ-loop Inv-reader μ-reader
-add-if1 c =
-    let l = c .before in
-    let r = l .before in
-    let s = r .before in
-    let a = s .before .before .before .args in
-    let n = s .looked .ensures .0 in
-    omega (arith, s .looked .ensures .1, l .loop .inv .0, l .loop .inv .3 .0)
+add-if1 c = search needs
 
 shl-code : tie.Need-shl-code Inv-loop μ-loop Inv-reader μ-reader
-shl-code c =
-    let l = c .before .before in
-    let r = l .before in
-    let s = r .before in
-    let a = s .before .before .before .args in
-    let n = s .looked .ensures .0 in
-    omega (arith, l .loop .inv .3 .0)
+shl-code c = search needs
 
 bits-requires : tie.Need-bits-requires Inv-loop μ-loop Inv-reader μ-reader
-bits-requires c κs =
-    let l = c .before .before in
-    let r = l .before in
-    let s = r .before in
-    let a = s .before .before .before .args in
-    let n = s .looked .ensures .0 in
-    (l .loop .inv .3 .0, omega (arith, n, s .looked .ensures .2, c .if1 .left))
+bits-requires c κs = search needs
 
 add-code : tie.Need-add-code Inv-loop μ-loop Inv-reader μ-reader
 add-code c =
-    let l = c .before .before .before in
-    let r = l .before in
-    let s = r .before in
-    let a = s .before .before .before .args in
-    let n = s .looked .ensures .0 in
+    let l = c .before .before .before .loop in
     let p = c .before .before .loop-test .taken in
-    let i = l .loop .inv in
-    omega (arith, c .bits .ensures .1, coded-fits (l .loop .code) (l .loop .left) (i .3) p, coded-shifted (l .loop .code) (l .loop .left) (i .3) p)
+    omega (arith, c .bits .ensures .1, coded-fits (l .code) (l .left) (l .inv .3) p, coded-shifted (l .code) (l .left) (l .inv .3) p)
 
 add-at : tie.Need-add-at Inv-loop μ-loop Inv-reader μ-reader
-add-at c =
-    let l = c .before .before .before in
-    let r = l .before in
-    let s = r .before in
-    let a = s .before .before .before .args in
-    let n = s .looked .ensures .0 in
-    omega (arith, s .looked .ensures .1, c .before .if1 .left)
+add-at c = search needs
 
 wanted-requires : tie.Need-wanted-requires Inv-loop μ-loop Inv-reader μ-reader
 wanted-requires c κs = search needs
 
 loop-less : tie.Need-loop-less Inv-loop μ-loop Inv-reader μ-reader
-loop-less c =
-    let l = c .before .before .before .before in
-    let r = l .before in
-    let s = r .before in
-    let a = s .before .before .before .args in
-    let n = s .looked .ensures .0 in
-    omega (arith, c .before .before .if1 .left, c .before .before .before .loop-test .taken)
+loop-less c = search needs
 
 loop-again : tie.Need-loop-again Inv-loop μ-loop Inv-reader μ-reader
 loop-again c =
-    let l = c .before .before .before .before in
-    let r = l .before in
-    let s = r .before in
-    let a = s .before .before .before .args in
-    let n = s .looked .ensures .0 in
-    let i = l .loop .inv in
+    let at-loop = c .before .before .before .before in
+    let l = at-loop .loop in
+    let looked = at-loop .before .before in
+    let a = looked .before .before .before .args in
+    let n = looked .looked .ensures .0 in
     let p = c .before .before .before .loop-test .taken in
-    (omega (arith, c .before .before .if1 .left), omega (arith, i .1), omega (arith, i .1, i .2), wants-coded _ _ (c .wanted .ensures), turn (now (a .stream)) _ (a .target) (r .reader .c) (l .loop .code) (l .loop .left) (l .loop .at) p (c .before .bits .result) _ _ _ (omega (arith, n, c .before .before .if1 .left)) (c .before .bits .ensures .0) (coded-shifted (l .loop .code) (l .loop .left) (i .3) p) (c .wanted .ensures) (i .4))
+    let room = c .before .before .if1 .left in (
+      omega (arith, room),
+      omega (arith, l .inv .1),
+      omega (arith, l .inv .1, l .inv .2),
+      wants-coded _ _ (c .wanted .ensures),
+      turn (now (a .stream)) _ (a .target) (at-loop .before .reader .c) (l .code) (l .left) (l .at) p (c .before .bits .result) _ _ _ (omega (arith, n, room))
+          (c .before .bits .ensures .0) (coded-shifted (l .code) (l .left) (l .inv .3) p) (c .wanted .ensures) (l .inv .4),
+    )
 
 perform-requires : tie.Need-perform-requires Inv-loop μ-loop Inv-reader μ-reader
-perform-requires c κs =
-    let l = c .before .before in
-    let r = l .before in
-    let s = r .before in
-    let a = s .before .before .before .args in
-    let n = s .looked .ensures .0 in
-    (r .reader .inv .2, s .before .before .before .pre .1, omega (arith, s .before .before .before .pre .2, r .reader .inv .1))
+perform-requires c κs = search needs
 
 enum-known-act : tie.Need-enum-known-act Inv-loop μ-loop Inv-reader μ-reader
 enum-known-act c = search needs
@@ -132,44 +100,52 @@ reader-less c = search needs
 
 reader-again : tie.Need-reader-again Inv-loop μ-loop Inv-reader μ-reader
 reader-again c =
-    let p = c .before .before .before .before .before in
-    let l = c .before .before .before .before .before .before .before .before in
-    let r = l .before in
-    let a = r .before .before .before .before .args in
-    let kept = p .perform .kept .1 .1 .1 .1 .0 in
-    (l .loop .inv .0, kept ∙ r .reader .inv .1, next-counter _ _ (c .before .act .given .1) (p .perform .ensures .1 .0), goes (length (lookedAt (now (a .stream)))) (a .target) (r .reader .c) (l .loop .code) (l .loop .left) (drop (l .loop .at) (streamBits (now (a .stream)))) _ (c .before .before .before .before .before .before .before .loop-test .left) (p .perform .ensures .0) (a .storing) (16384 * a .target .row) (r .reader .ram) _ (p .perform .ensures .1 .1) _ (l .loop .inv .4) _ _ (r .reader .inv .3) _ (c .before .act .given .1))
+    let performed = c .before .before .before .before .before in
+    let after = performed .before .before in
+    let l = after .before .loop in
+    let r = after .before .before .reader in
+    let a = after .before .before .before .before .before .before .args in
+    let p = performed .perform in
+    let told = c .before .act .given .1 in (
+      l .inv .0,
+      p .kept .1 .1 .1 .1 .0 ∙ r .inv .1,
+      next-counter _ _ told (p .ensures .1 .0),
+      goes (length (lookedAt (now (a .stream)))) (a .target) (r .c) (l .code) (l .left) (drop (l .at) (streamBits (now (a .stream)))) _ (after .loop-test .left)
+          (p .ensures .0) (a .storing) (16384 * a .target .row) (r .ram) _ (p .ensures .1 .1) _ (l .inv .4) _ _ (r .inv .3) _ told,
+    )
 
 enum-known-act-2 : tie.Need-enum-known-act-2 Inv-loop μ-loop Inv-reader μ-reader
 enum-known-act-2 c = search needs
 
 settle-requires : tie.Need-settle-requires Inv-loop μ-loop Inv-reader μ-reader
-settle-requires c κs =
-    let l = c .before in
-    let r = l .before in
-    let s = r .before in
-    let a = s .before .before .before .args in
-    let n = s .looked .ensures .0 in
-    omega (arith, n, l .loop .inv .0)
+settle-requires c κs = omega (arith, c .before .before .before .looked .ensures .0, c .before .loop .inv .0)
 
 same-length : tie.Need-same-length Inv-loop μ-loop Inv-reader μ-reader
 same-length c =
-    let l = c .before .before in
-    let r = l .before in
+    let r = c .before .before .before .reader in
     elim (c .before .loop-test .came) [
-      | inl x ↦ ap length (x .2) ∙ r .reader .inv .1
-      | inr x ↦ ap length (x .8) ∙ x .2 .kept .1 .1 .1 .1 .0 ∙ r .reader .inv .1
+      | inl x ↦ ap length (x .2) ∙ r .inv .1
+      | inr x ↦ ap length (x .8) ∙ x .2 .kept .1 .1 .1 .1 .0 ∙ r .inv .1
     ]
 
 returns : tie.Need-returns Inv-loop μ-loop Inv-reader μ-reader
 returns c =
-    let l = c .before .before in
-    let r = l .before in
-    let s = r .before in
-    let a = s .before .before .before .args in
-    let n = s .looked .ensures .0 in
+    let l = c .before .before .loop in
+    let r = c .before .before .before .reader in
+    let looked = c .before .before .before .before in
+    let a = looked .before .before .before .args in
+    let n = looked .looked .ensures .0 in
+    let m = length (lookedAt (now (a .stream))) in
+    let rest = drop (l .at) (streamBits (now (a .stream))) in
+    let base = 16384 * a .target .row in
     elim (c .before .loop-test .came) [
-      | inl x ↦ finished (c .settle .ensures) (stopped (length (lookedAt (now (a .stream)))) (drop (l .loop .at) (streamBits (now (a .stream)))) (a .storing) (16384 * a .target .row) (r .reader .ram) _ _ _ _ _ (ran-out (now (a .stream)) _ (a .target) (r .reader .c) (l .loop .code) (l .loop .left) (l .loop .at) (x .0 .taken) (omega (arith, n, x .1 .taken)) ∙ l .loop .inv .4) (r .reader .inv .3) (x .3) (x .2))
-      | inr x ↦ finished (c .settle .ensures) (halts (length (lookedAt (now (a .stream)))) (a .target) (r .reader .c) (l .loop .code) (l .loop .left) (drop (l .loop .at) (streamBits (now (a .stream)))) _ (x .0 .left) (x .2 .ensures .0) (a .storing) (16384 * a .target .row) (r .reader .ram) _ (x .2 .ensures .1 .1) _ (l .loop .inv .4) _ _ (r .reader .inv .3) _ _ _ (x .6 .given .1) (x .9) (x .8))
+      | inl x ↦
+          let end = ran-out (now (a .stream)) m (a .target) (r .c) (l .code) (l .left) (l .at) (x .0 .taken) (omega (arith, n, x .1 .taken)) in
+          finished (c .settle .ensures) (stopped m rest (a .storing) base (r .ram) _ _ _ _ _ (end ∙ l .inv .4) (r .inv .3) (x .3) (x .2))
+      | inr x ↦
+          finished (c .settle .ensures)
+          (halts m (a .target) (r .c) (l .code) (l .left) rest _ (x .0 .left) (x .2 .ensures .0) (a .storing) base (r .ram) _ (x .2 .ensures .1 .1) _ (l .inv .4) _ _
+          (r .inv .3) _ _ _ (x .6 .given .1) (x .9) (x .8))
     ]
 
 pub read-spec : {M : Type 1} → statement M

@@ -39,10 +39,14 @@ enum-told-6 : tie.Need-enum-told-6
 enum-told-6 c = search needs
 
 returns : tie.Need-returns
-returns c = let s = c .before .before .before .before .before in rw (c .before .before .enum-told .given .1) (ended-whole (now (s .args .stream)) (s .args .at) _ (s .pre) refl _ (c .before .bits .ensures .0) (c .if1 .taken))
+returns c =
+    let s = c .before .before .before .before .before in
+    rw (c .before .before .enum-told .given .1) (ended-whole (now (s .args .stream)) (s .args .at) _ (s .pre) refl _ (c .before .bits .ensures .0) (c .if1 .taken))
 
 returns-2 : tie.Need-returns-2
-returns-2 c = let s = c .before .before .before .before .before in rw (c .before .before .enum-told .given .1) (ended-bad (now (s .args .stream)) (s .args .at) _ (s .pre) refl _ (c .before .bits .ensures .0) (c .if1 .left))
+returns-2 c =
+    let s = c .before .before .before .before .before in
+    rw (c .before .before .enum-told .given .1) (ended-bad (now (s .args .stream)) (s .args .at) _ (s .pre) refl _ (c .before .bits .ensures .0) (c .if1 .left))
 
 returns-3 : tie.Need-returns-3
 returns-3 c = search needs
