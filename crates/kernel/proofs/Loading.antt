@@ -1,15 +1,15 @@
 -- Load module: each refusal and the load are a branch of `onLoadModule`.
-use mathlib.Core.Path.{_≡_, refl, sym, ap, _∙_}
-use mathlib.Core.Bool.{Bool, true, false, _||_, not, false≢true}
+use mathlib.Core.Path.{_≡_, sym, ap, _∙_}
+use mathlib.Core.Bool.{Bool, true, false, _||_, not}
 use mathlib.Core.List.{List, [], _∷_}
 use Prim.Native.Nat.{ℕ, _+_, _*_, _≤_}
 use native.Mathlib.Omega.{arith}
 use borrow.Author.Tests.{ltb-false, not-true}
 use lib.Dec.{ltb, eqb}
-use lib.ListN.{length, take}
-use Rattle.modules.specs.Definition.Counter.{counter, putEach}
-use Rattle.modules.specs.Definition.Judging.{judged, storedBy, refusalOf, usedOf}
-use Rattle.modules.specs.Within.Acts.{Counts, putWhere}
+use lib.ListN.{take}
+use Rattle.modules.specs.Definition.Counter.{Counts, counter}
+use Rattle.modules.specs.Definition.Judging.{judged, putsIn, refusalOf, usedOf}
+use Rattle.modules.specs.Within.Acts.{putWhere}
 use Rattle.modules.specs.Within.Scan.{storedBefore}
 use Rattle.modules.specs.Laws.Taken.{stored-all}
 use Rattle.modules.specs.declared.Judged.{Judged}
@@ -18,8 +18,8 @@ use Rattle.modules.specs.declared.Counter.{Counter}
 use Rattle.modules.specs.declared.Target.{Target}
 use Rattle.rows.specs.Definition.Lists.{firstOf}
 use Rattle.rows.specs.Laws.Lists.{or-left, or-right}
-use Rattle.kernel.specs.Definition.Tables.{SEGMENT, ramSize, rowOf}
-use Rattle.kernel.specs.Definition.Bytes.{nothing, one-by-one, segmentAt}
+use Rattle.kernel.specs.Definition.Tables.{ramSize, rowOf}
+use Rattle.kernel.specs.Definition.Bytes.{nothing, one-by-one}
 use Rattle.kernel.specs.Definition.Segments.{mayReach, reachOf}
 use Rattle.kernel.specs.Definition.Answers.{gives, Decision, _changing_, unless, _when_}
 use Rattle.kernel.specs.Definition.Calls.{targetOf, onLoadModule}
@@ -65,7 +65,7 @@ module _ (t : Tables) (ram stream : List ℕ) (segment page offset : ℕ) where
           ∷ BadModule when eqb (refusalOf j) 19
           ∷ BadPage when eqb (refusalOf j) 20
           ∷ []) t
-          (gives (Done 0 (usedOf j)) t changing one-by-one row (storedBy target start stream))
+          (gives (Done 0 (usedOf j)) t changing one-by-one row (putsIn page offset stream))
 
       decided-by : onLoadModule t segment page offset stream ≡ by (judged target start stream)
       unfolding onLoadModule
@@ -87,7 +87,7 @@ module _ (t : Tables) (ram stream : List ℕ) (segment page offset : ℕ) where
         unfolding completed
         module-done used q ram₁ after same a out =
             let whole : refusalOf (judged target start stream) ≡ 0 = rw (judged-is, q) in
-            let puts : storedBefore (record { row = row; reach = reach; page = page }) start stream ≡ storedBy target start stream =
+            let puts : storedBefore (record { row = row; reach = reach; page = page }) start stream ≡ putsIn page offset stream =
             ap (λ (r : ℕ). storedBefore (record { row = row; reach = r; page = page }) start stream) k ∙ stored-all target start stream whole in
             rw (decided-by, judged-is, q, a, same, puts)
 

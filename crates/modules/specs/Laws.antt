@@ -1,18 +1,18 @@
--- What the definition says of a stream: what a whole module stores, what is at fault, and that a stream has one reading.
-pub mod Stored
-pub mod Codes
-pub mod Acts
-pub mod Performs
-pub mod Positions
-pub mod Scan
+-- What the definition says of a stream, what a module without fault stores, and that the reader reads as it says.
 pub mod Numbers
 pub mod Items
 pub mod Tests
 pub mod Faults
-pub mod Taken
-pub mod Padding
-pub mod Turns
+pub mod Stored
+pub mod Clear
 pub mod Unique
 pub mod Moves
 pub mod Examples
-pub mod Clear
+pub mod Positions
+pub mod Padding
+pub mod Codes
+pub mod Scan
+pub mod Taken
+pub mod Acts
+pub mod Performs
+pub mod Turns

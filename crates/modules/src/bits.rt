@@ -4,7 +4,7 @@ ghost use Prim.Native.Nat.{_/_, _%_, _^_, _≤_, _<_};
 ghost use lib.ListN.{getD};
 ghost use Rattle.modules.specs.Within.Codes.{wants};
 ghost use Rattle.modules.specs.Within.Windows.{Window};
-use super::wide;
+use rows::numbers::wide;
 
 // The byte at an index, or zero behind the last.
 fn byte_at(stream: &[u8], i: usize) -> usize

@@ -2,9 +2,9 @@
 ghost use mathlib.Core.Path.{_≡_};
 ghost use Prim.Native.Nat.{_+_, _≤_, _<_};
 ghost use lib.ListN.{length};
-ghost use Rattle.modules.specs.Definition.Counter.{sizeOf, after, putsAt, putEach};
+ghost use Rattle.modules.specs.Definition.Counter.{Counts, sizeOf, after, putsAt, putEach};
 ghost use Rattle.modules.specs.Definition.Judging.{leaves};
-ghost use Rattle.modules.specs.Within.Acts.{Counts, Counting, Inside, Paged, itemAct, putWhere};
+ghost use Rattle.modules.specs.Within.Acts.{Counting, Inside, Paged, itemAct, putWhere};
 ghost use Rattle.modules.specs.Within.Codes.{itemOf};
 use super::Act;
 use super::Counter;
@@ -13,8 +13,8 @@ use super::Stop;
 use super::Target;
 use super::location::land;
 use super::location::relocate;
-use super::wide16;
 use line::guard::guards;
+use rows::numbers::wide16;
 
 // The item of all its bits, behind a leading 1; neither the end item nor an illegal one.
 pub fn item_of(code: usize) -> Item

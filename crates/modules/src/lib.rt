@@ -1,8 +1,6 @@
 // Relocatable modules: a stream of bits that holds items, judged and stored by one reader.
-ghost use mathlib.Core.Path.{_≡_};
-ghost use Prim.Native.Nat.{_<_};
 
-mod bits; // a bit of the stream, and how many an item wants
+mod bits; // what is held of the stream, bits of it, and how many an item wants
 mod location; // the location counter: relocation and moves
 mod items; // an item of its bits, and what it does
 pub mod reader; // the reader
@@ -52,16 +50,4 @@ pub enum Stop {
 pub enum Act {
     Next(Counter),
     Halt(Stop),
-}
-
-fn wide(x: u8) -> usize
-    ensures { λ r. ⌜ (r ≡ x) × (r < 256) ⌝ }
-{
-    x as usize
-}
-
-fn wide16(x: u16) -> usize
-    ensures { λ r. ⌜ (r ≡ x) × (r < 65536) ⌝ }
-{
-    x as usize
 }

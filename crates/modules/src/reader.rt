@@ -1,11 +1,12 @@
 // The reader of a module's stream: it judges the stream, or stores its items.
 ghost use mathlib.Core.Path.{_≡_};
 ghost use Prim.Native.Nat.{_+_, _*_, _%_, _≤_, _<_};
-ghost use lib.ListN.{length, take, drop};
+ghost use lib.ListN.{length, drop};
 ghost use Rattle.modules.specs.Definition.Reading.{lookedAt, streamBits};
 ghost use Rattle.modules.specs.Definition.Judging.{judged};
 ghost use Rattle.modules.specs.Within.Codes.{itemOf};
-ghost use Rattle.modules.specs.Within.Acts.{Counts, Counting, actOf, actPuts, putWhere, settled};
+ghost use Rattle.modules.specs.Definition.Counter.{Counts};
+ghost use Rattle.modules.specs.Within.Acts.{Counting, actOf, actPuts, putWhere, settled};
 ghost use Rattle.modules.specs.Within.Scan.{storedBefore};
 use super::Act;
 use super::Counter;

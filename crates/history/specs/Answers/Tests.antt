@@ -7,7 +7,6 @@ use native.Mathlib.Decide.{decLt}
 use native.Mathlib.Omega.{arith}
 use borrow.Author.Tests.{ltb-true, lt-ltb, leb-true, le-leb}
 use lib.Dec.{leb, ltb}
-use Rattle.modules.specs.Laws.Tests.{Decides, holds, fails}
 use Rattle.rows.specs.Laws.Says.{Says}
 
 -- what a test says holds or not
@@ -24,8 +23,3 @@ says-beyond i n f = record {
   yes = λ e p. omega (arith, leb-true n i e, ltb-true i n (f .make p));
   make = λ m. elim (decLt i n) [ yes h ↦ absurd (m (f .yes (lt-ltb i n h))) | no h ↦ le-leb n i (omega arith) ];
 }
-
--- a test that decides something says it
-pub says-decided : {b : Bool} {P : Type 0} → Decides P b → Says b P
-says-decided (holds p) = record { yes = λ _. p; make = λ _. refl }
-says-decided (fails n) = record { yes = λ e. absurd (false≢true e); make = λ p. absurd (n p) }

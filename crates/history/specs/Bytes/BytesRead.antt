@@ -14,6 +14,7 @@ use Rattle.line.specs.Definition.Line.{placeOf, lineFrom}
 use Rattle.line.specs.Definition.Ram.{filled}
 use Rattle.line.specs.Laws.Walks.{length-bytes, bytes-at}
 use Rattle.modules.specs.Laws.Stored.{stored-below}
+use Rattle.modules.specs.Definition.Judging.{putsIn}
 use Rattle.kernel.specs.Definition.Tables.{classAt, rowOf, channelAt}
 use Rattle.kernel.specs.Definition.Line.{sizeAt, bufferAt, opening, closing}
 use Rattle.kernel.specs.Definition.Segments.{granting, sharingLast, freeing, bounding}
@@ -28,7 +29,7 @@ use Rattle.kernel.specs.Laws.Effects.{Effect, resets, opens, closes, reads, wri
 use Rattle.kernel.specs.Laws.Changes.{opening-opens, closing-closes, linking-links}
 use Rattle.kernel.specs.Laws.Ready.{Ready}
 use Rattle.kernel.specs.declared.Tables.{Tables}
-use Rattle.history.specs.Definition.Runs.{State, History, after, event, Started, NotAccepted, Runs, stay, then, Run, putsIn, LastWritten, ReadsRight}
+use Rattle.history.specs.Definition.Runs.{State, History, after, event, Started, NotAccepted, Runs, stay, then, Run, LastWritten, ReadsRight}
 use Rattle.history.specs.Bytes.Words.{written, lastWritten, last-written}
 use Rattle.history.specs.Answers.Found.{open-at}
 use Rattle.history.specs.Bytes.Buffers.{Holds, write-law, open-law, close-law, link-law, store-law, reset-law, load-law}

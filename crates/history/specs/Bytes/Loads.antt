@@ -11,6 +11,7 @@ use Rattle.line.specs.Definition.Ram.{putAt}
 use Rattle.modules.specs.Definition.Counter.{Put, putEach}
 use Rattle.modules.specs.Laws.Stored.{Below, stored-below}
 use Rattle.modules.specs.Laws.Clear.{Clear, stored-clear}
+use Rattle.modules.specs.Definition.Judging.{putsIn}
 use Rattle.kernel.specs.Definition.Tables.{rowOf}
 use Rattle.kernel.specs.Definition.Segments.{mayReach, reachOf}
 use Rattle.kernel.specs.Definition.Bytes.{in-segment, segmentAt, ramAfter}
@@ -21,7 +22,7 @@ use Rattle.kernel.specs.Laws.Effects.{Effect, loads-module, effect}
 use Rattle.kernel.specs.Laws.Ready.{ready-heard}
 use Rattle.kernel.specs.declared.Tables.{Tables}
 use Rattle.kernel.specs.declared.Answer.the-variants.{Done}
-use Rattle.history.specs.Definition.Runs.{State, after, event, putsIn}
+use Rattle.history.specs.Definition.Runs.{State, after, event}
 use Rattle.history.specs.Definition.Loads.{storing, StoresEach, stay, then, LoadsAsStores}
 use Rattle.history.specs.Bytes.Steps.{Sound, byte-ready}
 

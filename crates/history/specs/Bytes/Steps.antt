@@ -13,6 +13,7 @@ use Rattle.line.specs.Definition.Ram.{putAt}
 use Rattle.line.specs.Laws.Walks.{length-put}
 use Rattle.modules.specs.Definition.Counter.{Put, putEach}
 use Rattle.modules.specs.Laws.Stored.{Below, stored-below}
+use Rattle.modules.specs.Definition.Judging.{putsIn}
 use Rattle.kernel.specs.Definition.Tables.{rowOf}
 use Rattle.kernel.specs.Definition.Line.{totalOf}
 use Rattle.kernel.specs.Definition.Reset.{bit4, bit5}
@@ -26,7 +27,7 @@ use Rattle.kernel.specs.Laws.Keeps.{start-passed, start-is}
 use Rattle.kernel.specs.Laws.Facts.{reach-small}
 use Rattle.kernel.specs.Laws.Ready.{Ready, decided-ready, start-ready}
 use Rattle.kernel.specs.declared.Tables.{Tables}
-use Rattle.history.specs.Definition.Runs.{State, after, event, Started, NotAccepted, putsIn}
+use Rattle.history.specs.Definition.Runs.{State, after, event, Started, NotAccepted}
 use Rattle.history.specs.Answers.Refused.{refused-changes-nothing}
 
 -- a state with good tables, and RAM of their size

@@ -21,6 +21,7 @@ use Rattle.line.specs.Laws.PointsClosed.{closed-points}
 use Rattle.line.specs.Laws.PointsLinked.{linked-points}
 use Rattle.modules.specs.Definition.Counter.{Put, putEach}
 use Rattle.modules.specs.Laws.Stored.{Below, stored-below}
+use Rattle.modules.specs.Definition.Judging.{putsIn}
 use Rattle.kernel.specs.Definition.Tables.{rowOf, channelAt}
 use Rattle.kernel.specs.Definition.Line.{totalOf, recordAt, sizeAt, bufferAt, opening}
 use Rattle.kernel.specs.Definition.Segments.{mayReach, reachOf}

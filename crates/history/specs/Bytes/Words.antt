@@ -9,9 +9,10 @@ use native.Mathlib.Omega.{arith}
 use borrow.Author.Tests.{eq-eqb, ne-eqb}
 use lib.Dec.{eqb}
 use lib.ListN.{length, getD}
+use Rattle.modules.specs.Definition.Judging.{putsIn}
 use Rattle.kernel.specs.Definition.Answers.{granted}
 use Rattle.kernel.specs.Definition.Calls.{Call, start, reset, «open», close, read, write, default, status, link, boundary, set-user-boundary, allocate, free, store, load, load-module, no-call, short-start}
-use Rattle.history.specs.Definition.Runs.{Event, History, Last, never, now, before, Writes, opened, wrote, LastWritten, putsIn, Stores, put, loaded, LastStored}
+use Rattle.history.specs.Definition.Runs.{Event, History, Last, never, now, before, Writes, opened, wrote, LastWritten, Stores, put, loaded, LastStored}
 use Rattle.history.specs.Bytes.Patched.{patched, patched-in, patched-not}
 use Rattle.history.specs.Bytes.Each.{patchedEach, each-none, each-last, each-kinds}
 

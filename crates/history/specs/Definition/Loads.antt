@@ -5,11 +5,12 @@ use mathlib.Core.List.{List, [], _∷_}
 use Prim.Native.Nat.{ℕ}
 use lib.ListN.{length}
 use Rattle.modules.specs.Definition.Counter.{Put}
+use Rattle.modules.specs.Definition.Judging.{putsIn}
 use Rattle.kernel.specs.Definition.Tables.{ramSize}
 use Rattle.kernel.specs.Definition.Good.{Good}
 use Rattle.kernel.specs.Definition.Answers.{granted}
 use Rattle.kernel.specs.Definition.Calls.{Call, store, load-module}
-use Rattle.history.specs.Definition.Runs.{State, after, event, putsIn}
+use Rattle.history.specs.Definition.Runs.{State, after, event}
 
 -- the call by which the user stores one byte
 abbrev pub storing : (segment : ℕ) → Put → Call

@@ -5,8 +5,8 @@ use mathlib.Core.Logic.{_≢_}
 use mathlib.Core.List.{List, [], _∷_}
 use Prim.Native.Nat.{ℕ, _+_, _-_, _≤_, _<_}
 use lib.ListN.{length, getD}
-use Rattle.modules.specs.Definition.Reading.{takenOf}
-use Rattle.modules.specs.Definition.Counter.{counter, Put, putsOf}
+use Rattle.modules.specs.Definition.Counter.{Put}
+use Rattle.modules.specs.Definition.Judging.{putsIn}
 use Rattle.kernel.specs.Definition.Answers.{granted}
 use Rattle.kernel.specs.Definition.Calls.{Call, start, «open», read, write, store, load-module, isStart}
 use Rattle.kernel.specs.Definition.Step.{step}
@@ -83,11 +83,7 @@ pub data Writes (channel k : ℕ) (e : Event) : ℕ → Type 0 where
 abbrev pub LastWritten : (channel k : ℕ) → History → ℕ → Type 0
 LastWritten channel k = Last (Writes channel k) 0
 
--- the bytes that a load of a module puts, in their order, each at an offset of the segment
-abbrev pub putsIn : (page offset : ℕ) (stream : List ℕ) → List Put
-putsIn page offset stream = putsOf page (counter page offset) (takenOf stream .items)
-
--- none of them is put at offset k
+-- of the bytes that a load of a module puts, in their order: none is put at offset k
 abbrev pub NonePut : (k : ℕ) → List Put → Type 0
 NonePut k [] = Unit {0}
 NonePut k (p ∷ puts) = (p .offset ≢ k) × NonePut k puts

@@ -8,7 +8,7 @@ use lib.Dec.{leb, ltb, eqb}
 use lib.ListN.{length}
 use Rattle.line.specs.Definition.Guard.{guarded}
 use Rattle.modules.specs.Definition.Counter.{counter}
-use Rattle.modules.specs.Definition.Judging.{judged, storedBy, refusalOf, usedOf}
+use Rattle.modules.specs.Definition.Judging.{judged, putsIn, refusalOf, usedOf}
 use Rattle.modules.specs.declared.Target.{Target}
 use Rattle.names.specs.Definition.Grammar.{Reading}
 use Rattle.names.specs.Definition.Read.{reading}
@@ -217,7 +217,7 @@ onLoad t output segment offset size =
     ∷ []) t
     (gives (Done 0 size) t filling from-segment row offset size)
 
--- where a module goes: "Stores go where the user may store."
+-- where a module goes: its segment's row, the offset up to which "the user may store" there, and the start page
 abbrev pub targetOf : Tables → (row page : ℕ) → Target
 targetOf t row page = record { row = row; reach = reachOf t row; page = page }
 
@@ -237,4 +237,4 @@ onLoadModule t segment page offset stream =
     ∷ BadModule when eqb (refusalOf verdict) 19
     ∷ BadPage when eqb (refusalOf verdict) 20
     ∷ []) t
-    (gives (Done 0 (usedOf verdict)) t changing one-by-one row (storedBy target (counter page offset) stream))
+    (gives (Done 0 (usedOf verdict)) t changing one-by-one row (putsIn page offset stream))

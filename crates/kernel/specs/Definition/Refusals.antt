@@ -137,14 +137,15 @@ pub data Row (t : Tables) (ram output : ℕ) : (c : Call) (k : ℕ) → Type 0 w
   store-end : {segment offset row : ℕ} {bytes : List ℕ} → InList t segment row → reachOf t row < offset + length bytes → Row t ram output (store segment offset bytes) 13
   load-end : {segment offset size row : ℕ} → InList t segment row → reachOf t row < offset + size → Row t ram output (load segment offset size) 13
   load-output : {segment offset size : ℕ} → output < size → Row t ram output (load segment offset size) 13
-  -- order 3: "then RANGE above the user boundary; GUARD", of the first item at fault (13 and 14)
+  -- order 3: "then RANGE above the user boundary", of the first item at fault
   module-range : {segment page offset row : ℕ} {stream : List ℕ} → InList t segment row → ModuleRefused t row page offset stream Range
       → Row t ram output (load-module segment page offset stream) 13
-  module-guard : {segment page offset row : ℕ} {stream : List ℕ} → InList t segment row → ModuleRefused t row page offset stream Guard
-      → Row t ram output (load-module segment page offset stream) 14
   -- 14 GUARD: "store touches page zero 30h to 5Bh, save 3Dh and 3Eh"
   store-guard : {segment offset k : ℕ} {bytes : List ℕ} → InList t segment 0 → offset ≤ k → k < offset + length bytes → GuardedByte k
       → Row t ram output (store segment offset bytes) 14
+  -- order 3: "GUARD", of the first item at fault
+  module-guard : {segment page offset row : ℕ} {stream : List ℕ} → InList t segment row → ModuleRefused t row page offset stream Guard
+      → Row t ram output (load-module segment page offset stream) 14
   -- 15 FLAGS: "a bit other than 4, 5, 6"
   reset-flags : {flags k : ℕ} → OtherBit flags k → Row t ram output (reset flags) 15
   -- 16 START: "list, R or RAM length wrong"

@@ -10,7 +10,7 @@ use lib.Dec.{eqb, ltb, leb}
 use lib.ListN.{length}
 use Rattle.line.specs.Definition.Guard.{guarded}
 use Rattle.modules.specs.Definition.Counter.{counter}
-use Rattle.modules.specs.Definition.Judging.{judged, storedBy, refusalOf, usedOf}
+use Rattle.modules.specs.Definition.Judging.{judged, putsIn, refusalOf, usedOf}
 use Rattle.modules.specs.Laws.Stored.{none-refuses}
 use Rattle.names.specs.Definition.Grammar.{Reading}
 use Rattle.names.specs.Definition.Read.{reading}
@@ -88,7 +88,7 @@ pub data Effect (t : Tables) : Call → Decision → Type 0 where
   loads-module : {segment page offset : ℕ} {stream : List ℕ} (b : ℕ) → mayReach t (rowOf t segment) ≡ true
       → refusalOf (judged (targetOf t (rowOf t segment) page) (counter page offset) stream) ≡ 0
       → Effect t (load-module segment page offset stream)
-      (gives (Done 0 b) t changing one-by-one (rowOf t segment) (storedBy (targetOf t (rowOf t segment) page) (counter page offset) stream))
+      (gives (Done 0 b) t changing one-by-one (rowOf t segment) (putsIn page offset stream))
 
 -- of a call on the tables t with `ram` bytes lent
 pub data Verdict (t : Tables) (ram : ℕ) : Call → Decision → Type 0 where

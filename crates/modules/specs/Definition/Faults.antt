@@ -8,7 +8,7 @@ use lib.ListN.{length, getD}
 use Rattle.line.specs.Definition.Guard.{GuardedByte}
 use Rattle.modules.specs.Definition.Bits.{Bit, O, I}
 use Rattle.modules.specs.Definition.Items.{itemBits, endBits, illegalBits, Fits}
-use Rattle.modules.specs.Definition.Counter.{PAGE, landing, sizeOf, after}
+use Rattle.modules.specs.Definition.Counter.{pageSize, landing, sizeOf, after}
 use Rattle.modules.specs.declared.Item.{Item}
 use Rattle.modules.specs.declared.Item.the-variants.{Move}
 use Rattle.modules.specs.declared.Counter.{Counter}
@@ -22,14 +22,14 @@ pub record RunsOut (bits : List Bit) : Type 0 where
   pub no-end : (rest : List Bit) → bits ≢ endBits ++ rest
   pub no-illegal : (rest : List Bit) → bits ≢ illegalBits ++ rest
 
--- "bad padding": a bit of the end item's last byte is not zero; `rest` is what stands behind the end item
+-- "bad padding": a bit behind the end item, in its last byte, is not zero; `rest` is what stands behind it, and a stream is whole bytes
 abbrev pub BadPadding : List Bit → Type 0
 BadPadding rest = (k : ℕ) × (k < length rest % 8) × (getD rest k O ≡ I)
 
 -- 20 PAGE "for a move or store outside the page": a byte of a store lies at 16,384 or above, or a move lands in another page
 pub data Outside (c : Counter) : Item → Type 0 where
-  store : {i : Item} → 0 < sizeOf i → PAGE < c .offset + sizeOf i → Outside c i
-  move : {x : ℕ} → landing c x / PAGE ≢ c .page → Outside c (Move x)
+  store : {i : Item} → 0 < sizeOf i → pageSize < c .offset + sizeOf i → Outside c i
+  move : {x : ℕ} → landing c x / pageSize ≢ c .page → Outside c (Move x)
 
 -- "then RANGE above the user boundary"
 pub record Above (g : Target) (c : Counter) (i : Item) : Type 0 where

@@ -1,7 +1,7 @@
 -- An item is its bits; a module is items, the end item and zero padding.
 use mathlib.Core.Path.{_≡_}
 use mathlib.Core.List.{List, [], _∷_, _++_}
-use Prim.Native.Nat.{ℕ, _*_, _≤_, _<_}
+use Prim.Native.Nat.{ℕ, _≤_, _<_}
 use lib.ListN.{length, take, replicate}
 use Rattle.modules.specs.Definition.Bits.{Bit, O, I, bitsOf, bitsIn}
 use Rattle.modules.specs.declared.Item.{Item}
@@ -39,7 +39,7 @@ abbrev pub allBits : List Item → List Bit
 allBits [] = []
 allBits (item ∷ items) = itemBits item ++ allBits items
 
--- the first b bytes of a stream are these items, the end item and zeros "to the end of that byte"
+-- the first b bytes of a stream are these items, the end item and less than a byte of zeros: "Padding must be zero"
 pub record IsModule (stream : List ℕ) (items : List Item) (b : ℕ) : Type 0 where
   pub fit : AllFit items
   pub within : b ≤ length stream

@@ -66,7 +66,7 @@ unfolding first
 takenIn zero bits = breaksOff end-of-input
 takenIn (suc n) bits = takenBy (first bits) (λ rest. takenIn n rest)
 
--- b is the bytes used and has 16 bits: of a stream no more than 65,535 bytes are looked at
+-- The order sets no length. b has 16 bits, so that of a stream 65,535 bytes are looked at (docs/DECISIONS.md, 58)
 abbrev pub lookedAt : List ℕ → List ℕ
 lookedAt stream = take 65535 stream
 

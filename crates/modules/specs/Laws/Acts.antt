@@ -1,14 +1,14 @@
 -- What an item does, as the code does it: one law a branch.
-use mathlib.Core.Path.{_≡_, refl, sym, ap}
-use mathlib.Core.Bool.{Bool, not}
-use mathlib.Core.List.{List, [], _∷_}
-use Prim.Native.Nat.{ℕ, zero, suc, _+_, _/_, _%_, _≤_, _<_}
-use native.Mathlib.Numerals.{unary-clauses}
+use mathlib.Core.Path.{_≡_, _∙_}
+use mathlib.Core.Bool.{not}
+use mathlib.Core.List.{List, [], _∷_, append-assoc}
+use Prim.Native.Nat.{ℕ, _+_, _/_, _%_, _≤_, _<_}
 use native.Mathlib.Omega.{arith}
 use lib.Dec.{eqb}
-use lib.ListN.{length, set, length-set}
+use lib.ListN.{length, set, take, drop, length-set}
+use lib.Seq.{sets-eq}
 use Rattle.line.specs.Definition.Ram.{putAt}
-use Rattle.modules.specs.Definition.Counter.{PAGE, landing, sizeOf, relocated, after, counter, putsAt, putEach}
+use Rattle.modules.specs.Definition.Counter.{landing, sizeOf, relocated, after, counter, putsAt, putEach}
 use Rattle.modules.specs.Definition.Judging.{leaves}
 use Rattle.modules.specs.declared.Item.{Item}
 use Rattle.modules.specs.declared.Item.the-variants.{Byte, Word, Move}
@@ -17,9 +17,7 @@ use Rattle.modules.specs.declared.Counter.{Counter}
 -- one byte put is one element set
 pub set-put : (ram : List ℕ) (at x : ℕ) → at < length ram → set ram at x ≡ putAt ram at (x ∷ [])
 unfolding putAt
-set-put [] at x h = absurd (omega arith)
-set-put (y ∷ ram) zero x h = refl
-set-put (y ∷ ram) (suc at) x h = simp unary-clauses (ap {B = List ℕ} (λ r. y ∷ r) (simp unary-clauses at (set-put ram at x (omega arith))))
+set-put ram at x h = sets-eq (x ∷ []) ram at (omega arith) ∙ append-assoc (take at ram) (x ∷ []) (drop (at + 1) ram)
 
 module _ (c : Counter) (i : Item) where
   pub leaves-by : (x l : ℕ) → i ≡ Move x → l ≡ landing c x → not (eqb (l / 16384) (c .page)) ≡ leaves c i

@@ -7,7 +7,7 @@ use Rattle.modules.specs.Definition.Bits.{Bit, O, bitsIn}
 use Rattle.modules.specs.Definition.Items.{itemBits, endBits, allBits}
 use Rattle.modules.specs.Definition.Reading.{end, Taken, breaksOff, takenIn, takenOf}
 use Rattle.modules.specs.Definition.Counter.{counter, put}
-use Rattle.modules.specs.Definition.Judging.{judged, storedBy}
+use Rattle.modules.specs.Definition.Judging.{judged, putsIn}
 use Rattle.modules.specs.declared.Item.{Item}
 use Rattle.modules.specs.declared.Item.the-variants.{Byte, Word, SetPage, Restore, Move}
 use Rattle.modules.specs.declared.Counter.{Counter}
@@ -116,6 +116,6 @@ unfolding judged takenIn bitsIn
 past-the-end g = refl
 
 -- the word 1234h at the start of page 1 is stored as 5234h, low byte first
-relocated-word : (g : Target) → storedBy g (counter 1 0) (130 ∷ 70 ∷ 152 ∷ []) ≡ put 0 52 ∷ put 1 82 ∷ []
+relocated-word : putsIn 1 0 (130 ∷ 70 ∷ 152 ∷ []) ≡ put 0 52 ∷ put 1 82 ∷ []
 unfolding takenIn bitsIn
-relocated-word g = refl
+relocated-word = refl

@@ -1,8 +1,9 @@
--- What stands first in some bits: an item's own bits give it back, and what was read stands there.
+-- What stands first in some bits: an item's own bits give it back, what was read stands there, and the reading takes it in one step.
 use mathlib.Core.Path.{_≡_, refl, sym, ap, subst, _∙_}
 use mathlib.Core.Bool.{Bool, true, false, cond}
 use mathlib.Core.List.{List, [], _∷_, _++_, append-assoc}
-use Prim.Native.Nat.{ℕ, _^_, _<_}
+use Prim.Native.Nat.{ℕ, zero, suc, pred, _^_, _≤_, _<_}
+use native.Mathlib.Nat.{not-suc-le-zero}
 use native.Mathlib.Omega.{arith}
 use borrow.Author.Tests.{ltb-false, le-ltb}
 use lib.Dec.{ltb}
@@ -10,7 +11,7 @@ use lib.ListN.{length, take, drop, length-append, take-append-drop}
 use lib.Seq.{length-take-le, take-at, drop-at}
 use Rattle.modules.specs.Definition.Bits.{Bit, O, I, bitsOf, numberOf}
 use Rattle.modules.specs.Definition.Items.{itemBits, endBits, illegalBits, Fits}
-use Rattle.modules.specs.Definition.Reading.{First, item, ends, illegal, runs-out, withNumber, first}
+use Rattle.modules.specs.Definition.Reading.{First, item, ends, illegal, runs-out, withNumber, first, takenBy, takenIn}
 use Rattle.modules.specs.Definition.Faults.{RunsOut, Begins}
 use Rattle.modules.specs.Laws.Numbers.{bits-length, number-back, bits-back, number-fits}
 use Rattle.modules.specs.declared.Item.{Item}
@@ -113,3 +114,24 @@ runs-out-short bits h = go (first bits) (first-stands bits)
     go (ends rest) s = absurd (h .no-end rest s)
     go illegal s = absurd (h .no-illegal (s .0) (s .1))
     go runs-out s = refl
+
+-- ---- one step of the reading
+
+-- what is taken of some bits, where there are as many steps as bits
+pub taken-step : (n : ℕ) (bits : List Bit) → length bits ≤ n → takenIn n bits ≡ takenBy (first bits) (λ rest. takenIn (pred n) rest)
+unfolding takenIn
+taken-step zero [] h = refl
+taken-step zero (b ∷ bits) h = absurd (not-suc-le-zero h)
+taken-step (suc n) bits h = refl
+
+item-some : (i : Item) → 0 < length (itemBits i)
+unfolding itemBits
+item-some (Byte x) = omega arith
+item-some (Word x) = omega arith
+item-some (SetPage page) = omega arith
+item-some Restore = omega arith
+item-some (Move x) = omega arith
+
+-- every item has a bit, so that a step less is enough behind it
+pub begins-less : {bits : List Bit} {i : Item} {rest : List Bit} (n : ℕ) → Begins bits i rest → length bits ≤ n → length rest ≤ pred n
+begins-less {i = i} {rest = rest} n b h = omega (arith, item-some i, ap length (b .are) ∙ length-append (itemBits i) rest)

@@ -1,19 +1,18 @@
 -- The padding, as one number.
-use mathlib.Core.Path.{_≡_, refl, sym, ap, _∙_}
-use mathlib.Core.Bool.{Bool, true, false}
+use mathlib.Core.Path.{_≡_, refl, sym, _∙_}
+use mathlib.Core.Bool.{true, false}
 use mathlib.Core.List.{List, [], _∷_}
-use Prim.Native.Nat.{ℕ, _+_, _-_, _*_, _/_, _%_, _^_, _≤_, _<_}
+use Prim.Native.Nat.{ℕ, _+_, _-_, _*_, _/_, _%_, _≤_}
 use native.Mathlib.Omega.{arith}
 use borrow.Author.Tests.{ne-eqb}
 use lib.Dec.{eqb}
-use lib.ListN.{length, take, drop, length-drop}
+use lib.ListN.{length, take, drop}
 use lib.Pow.{pow-mono}
 use Rattle.modules.specs.Definition.Bits.{Bit, O, I, bitsIn, numberOf}
 use Rattle.modules.specs.Definition.Reading.{lookedAt, streamBits, end}
 use Rattle.modules.specs.Definition.Judging.{zeros, judgedAt}
-use Rattle.modules.specs.Laws.Numbers.{number-from, bytes-length}
-use Rattle.modules.specs.Laws.Positions.{looked-bits}
-use Rattle.modules.specs.declared.Judged.{Judged}
+use Rattle.modules.specs.Laws.Numbers.{number-from}
+use Rattle.modules.specs.Laws.Positions.{rest-length, looked-bits}
 use Rattle.modules.specs.declared.Judged.the-variants.{Whole, Module}
 
 -- bits are all zero exactly if their number is
@@ -24,9 +23,6 @@ zeros-number (I ∷ bits) =
     let e = number-from 1 bits in
     let p = pow-mono {i = 0} {j = length bits} (omega arith) in
     ne-eqb (numberOf 1 bits) 0 (λ q. omega arith)
-
-rest-length : (stream : List ℕ) (at : ℕ) → length (drop at (streamBits stream)) ≡ 8 * length (lookedAt stream) - at
-rest-length stream at = rw (length-drop at (streamBits stream), bytes-length (lookedAt stream))
 
 -- what the end item is judged to be; `left` is how many bits its byte has behind it
 module _ (stream : List ℕ) (at left : ℕ) (low : at ≤ 8 * length (lookedAt stream)) (few : left ≡ (8 - at % 8) % 8) (x : ℕ)

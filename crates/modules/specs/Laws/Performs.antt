@@ -1,16 +1,18 @@
 -- What comes of an item, as the code finds it: one law a branch.
-use mathlib.Core.Path.{_≡_, refl, sym, _∙_}
-use mathlib.Core.Bool.{Bool, true, false, _&&_, _||_, false≢true}
+use mathlib.Core.Path.{_≡_, refl, sym, ap, _∙_}
+use mathlib.Core.Bool.{Bool, true, false, _&&_, _||_}
 use mathlib.Core.List.{List, []}
-use Prim.Native.Nat.{ℕ, _+_, _*_, _%_, _≤_, _<_}
+use Prim.Native.Nat.{ℕ, _+_, _≤_, _<_}
+use native.Mathlib.Decide.{decLt}
 use native.Mathlib.Omega.{arith}
-use borrow.Author.Tests.{eq-eqb, ne-eqb, ltb-false}
+use borrow.Author.Tests.{lt-ltb, le-ltb, ne-eqb, ltb-false}
 use lib.Dec.{ltb, eqb}
+use Rattle.rows.specs.Laws.Lists.{or-right}
 use Rattle.line.specs.Definition.Guard.{guarded}
-use Rattle.modules.specs.Definition.Counter.{PAGE, sizeOf, landing, after, putsAt}
+use Rattle.modules.specs.Definition.Counter.{Counts, sizeOf, landing, after, putsAt}
 use Rattle.modules.specs.Definition.Judging.{leaves, outside, above, touches}
 use Rattle.modules.specs.Within.Codes.{itemOf}
-use Rattle.modules.specs.Within.Acts.{itemAct, actOf, actPuts, putWhere, Counts, Counting, Inside, Paged}
+use Rattle.modules.specs.Within.Acts.{itemAct, actOf, actPuts, putWhere, Inside, Paged}
 use Rattle.modules.specs.declared.Item.{Item}
 use Rattle.modules.specs.declared.Item.the-variants.{Byte, Word, SetPage, Restore, Move}
 use Rattle.modules.specs.declared.Counter.{Counter}
@@ -20,10 +22,6 @@ use Rattle.modules.specs.declared.Act.the-variants.{Next, Halt}
 use Rattle.modules.specs.declared.Stop.{Stop}
 use Rattle.modules.specs.declared.Stop.the-variants.{End, Illegal, Page, Range, Guard}
 
-or-false : (a b : Bool) → a || b ≡ false → b ≡ false
-or-false true b e = absurd (false≢true (sym e))
-or-false false b e = e
-
 -- an item inside the page leaves a counter
 pub after-counts : (start : ℕ) (c : Counter) (i : Item) → Counts c → start ≤ 3 → Paged i → c .offset + sizeOf i ≤ 16384 → Counts (after start c i)
 after-counts start c (Byte x) k s p h = record { page = k .page; offset = h }
@@ -32,35 +30,50 @@ after-counts start c (SetPage page) k s p h = record { page = p; offset = k .off
 after-counts start c Restore k s p h = record { page = s; offset = k .offset }
 after-counts start c (Move x) k s p h = let y = landing c x in record { page = k .page; offset = omega arith }
 
-module _ (g : Target) (c : Counter) (i : Item) (from size : ℕ) (leave : Bool) (o : from ≡ c .offset) (s : size ≡ sizeOf i) (l : leave ≡ leaves c i) where
-  out-is : leave || ltb 16384 (from + size) ≡ outside c i
-  out-is = rw (o, s, l)
+-- what stores nothing does not end outside the page
+store-alone : (from size : ℕ) → from ≤ 16384 → ltb 16384 (from + size) ≡ ltb 0 size && ltb 16384 (from + size)
+store-alone from size h =
+    elim (decLt 0 size) [
+      | yes p ↦ rw (lt-ltb 0 size p)
+      | no p ↦ let z : size ≤ 0 = omega arith in rw (le-ltb 0 size z, le-ltb 16384 (from + size) (omega arith))
+    ]
 
-  pub judge-page : leave || ltb 16384 (from + size) ≡ true → Halt Page ≡ itemAct g c i
-  judge-page e = rw (sym out-is ∙ e)
+-- what the code has of an item before it tests it
+pub record Seen (c : Counter) (i : Item) (from size : ℕ) (leave : Bool) : Type 0 where
+  pub within : c .offset ≤ 16384
+  pub offset : from ≡ c .offset
+  pub stores : size ≡ sizeOf i
+  pub moved : leave ≡ leaves c i
+
+module _ {c : Counter} {i : Item} {from size : ℕ} {leave : Bool} (x : Seen c i from size leave) where
+  out-is : leave || ltb 16384 (from + size) ≡ outside c i
+  out-is = rw (x .offset, x .stores, x .moved) (ap (λ (b : Bool). leaves c i || b) (store-alone (c .offset) (sizeOf i) (x .within)))
+
+  pub judge-page : (g : Target) → leave || ltb 16384 (from + size) ≡ true → Halt Page ≡ itemAct g c i
+  judge-page g e = rw (sym out-is ∙ e)
 
   module _ (out : leave || ltb 16384 (from + size) ≡ false) where
     pub page-inside : from + size ≤ 16384
-    page-inside = ltb-false 16384 (from + size) (or-false leave (ltb 16384 (from + size)) out)
+    page-inside = ltb-false 16384 (from + size) (or-right leave (ltb 16384 (from + size)) out)
 
     pub item-inside : c .offset + sizeOf i ≤ 16384
-    item-inside = rw (← o, ← s) page-inside
+    item-inside = rw (← x .offset, ← x .stores) page-inside
 
-    above-is : ltb 0 size && ltb (g .reach) (from + size) ≡ above g c i
-    above-is = rw (o, s)
+    above-is : (g : Target) → ltb 0 size && ltb (g .reach) (from + size) ≡ above g c i
+    above-is g = rw (x .offset, x .stores)
 
-    pub judge-range : ltb 0 size && ltb (g .reach) (from + size) ≡ true → Halt Range ≡ itemAct g c i
-    judge-range e = rw (sym out-is ∙ out, sym above-is ∙ e)
+    pub judge-range : (g : Target) → ltb 0 size && ltb (g .reach) (from + size) ≡ true → Halt Range ≡ itemAct g c i
+    judge-range g e = rw (sym out-is ∙ out, sym (above-is g) ∙ e)
 
-    module _ (low : ltb 0 size && ltb (g .reach) (from + size) ≡ false) (hit : Bool) (q : hit ≡ guarded (g .row) from size) where
+    module _ (g : Target) (low : ltb 0 size && ltb (g .reach) (from + size) ≡ false) (hit : Bool) (q : hit ≡ guarded (g .row) from size) where
       touch-is : hit ≡ touches g c i
-      touch-is = rw (q, o, s)
+      touch-is = rw (q, x .offset, x .stores)
 
       pub judge-guard : hit ≡ true → Halt Guard ≡ itemAct g c i
-      judge-guard e = rw (sym out-is ∙ out, sym above-is ∙ low, sym touch-is ∙ e)
+      judge-guard e = rw (sym out-is ∙ out, sym (above-is g) ∙ low, sym touch-is ∙ e)
 
       pub judge-next : hit ≡ false → (d : Counter) → d ≡ after (g .page) c i → Next d ≡ itemAct g c i
-      judge-next e d z = rw (sym out-is ∙ out, sym above-is ∙ low, sym touch-is ∙ e, z)
+      judge-next e d z = rw (sym out-is ∙ out, sym (above-is g) ∙ low, sym touch-is ∙ e, z)
 
 pub next-counts : (g : Target) (c d : Counter) (i : Item) → d ≡ after (g .page) c i → Counts c → g .page ≤ 3 → Paged i → c .offset + sizeOf i ≤ 16384 → Counts d
 next-counts g c d i z k s p h = rw z (after-counts (g .page) c i k s p h)

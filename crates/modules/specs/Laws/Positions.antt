@@ -6,10 +6,10 @@ use native.Mathlib.Omega.{arith}
 use lib.ListN.{length, getD, take, drop, length-take, length-drop, length-append, take-append-drop}
 use lib.Pow.{shr-shr}
 use lib.Seq.{getD-drop, drop-drop, drop-append-le, take-append-le, take-at, take-all, length-take-le}
-use Rattle.modules.specs.Definition.Bits.{Bit, bitOf, bitsOf, bitsIn, numberOf}
+use Rattle.modules.specs.Definition.Bits.{Bit, bitsOf, bitsIn, numberOf}
 use Rattle.modules.specs.Definition.Reading.{lookedAt, streamBits}
 use Rattle.modules.specs.Within.Windows.{windowAt, Window}
-use Rattle.modules.specs.Laws.Numbers.{bits-length, number-bits, bits-back, bytes-cons, bytes-length, bytes-append, bytes-take, bytes-drop}
+use Rattle.modules.specs.Laws.Numbers.{bits-length, number-bits, bits-back, bytes-length, bytes-append, bytes-take, bytes-drop}
 
 -- ---- the bits of a number, in parts
 
@@ -58,11 +58,12 @@ four-bytes a b c d h k l =
 -- the first four bytes of some, zero where there are none
 first-four : (s : List ℕ)
     → (more : List Bit) × (bitsIn (s ++ (0 ∷ 0 ∷ 0 ∷ 0 ∷ [])) ≡ bitsOf 8 (getD s 0 0) ++ (bitsOf 8 (getD s 1 0) ++ (bitsOf 8 (getD s 2 0) ++ (bitsOf 8 (getD s 3 0) ++ more))))
-first-four [] = (bitsIn [], rw (bytes-cons, bytes-cons, bytes-cons, bytes-cons))
-first-four (a ∷ []) = (bitsIn (0 ∷ []), rw (bytes-cons, bytes-cons, bytes-cons, bytes-cons))
-first-four (a ∷ b ∷ []) = (bitsIn (0 ∷ 0 ∷ []), rw (bytes-cons, bytes-cons, bytes-cons, bytes-cons))
-first-four (a ∷ b ∷ c ∷ []) = (bitsIn (0 ∷ 0 ∷ 0 ∷ []), rw (bytes-cons, bytes-cons, bytes-cons, bytes-cons))
-first-four (a ∷ b ∷ c ∷ d ∷ s) = (bitsIn (s ++ (0 ∷ 0 ∷ 0 ∷ 0 ∷ [])), rw (bytes-cons, bytes-cons, bytes-cons, bytes-cons))
+unfolding bitsIn
+first-four [] = (bitsIn [], refl)
+first-four (a ∷ []) = (bitsIn (0 ∷ []), refl)
+first-four (a ∷ b ∷ []) = (bitsIn (0 ∷ 0 ∷ []), refl)
+first-four (a ∷ b ∷ c ∷ []) = (bitsIn (0 ∷ 0 ∷ 0 ∷ []), refl)
+first-four (a ∷ b ∷ c ∷ d ∷ s) = (bitsIn (s ++ (0 ∷ 0 ∷ 0 ∷ 0 ∷ [])), refl)
 
 -- what stands behind changes nothing
 part-append : (r k : ℕ) (xs ys : List Bit) → r + k ≤ length xs → take k (drop r (xs ++ ys)) ≡ take k (drop r xs)
@@ -121,3 +122,7 @@ looked-bits stream at k h =
     let s = bitsIn stream in
     let e : streamBits stream ++ drop (8 * 65535) s ≡ s = rw (bytes-take 65535 stream) (take-append-drop (8 * 65535) s) in
     ap (λ (bits : List Bit). take k (drop at bits)) (sym e) ∙ part-append at k (streamBits stream) (drop (8 * 65535) s) (omega arith)
+
+-- the bits that are left from a position on
+pub rest-length : (stream : List ℕ) (at : ℕ) → length (drop at (streamBits stream)) ≡ 8 * length (lookedAt stream) - at
+rest-length stream at = rw (length-drop at (streamBits stream), bytes-length (lookedAt stream))

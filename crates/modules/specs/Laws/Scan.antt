@@ -1,8 +1,8 @@
 -- The reading bit by bit is the reading item by item.
 use mathlib.Core.Path.{_≡_, refl, sym, ap, _∙_}
 use mathlib.Core.Bool.{Bool, true, false, cond}
-use mathlib.Core.List.{List, [], _∷_, _++_}
-use Prim.Native.Nat.{ℕ, zero, suc, _+_, _-_, _*_, _/_, _%_, _^_, _≤_, _<_}
+use mathlib.Core.List.{List, [], _∷_}
+use Prim.Native.Nat.{ℕ, zero, suc, _+_, _-_, _*_, _%_, _^_, _≤_, _<_}
 use native.Mathlib.Omega.{arith}
 use borrow.Author.Tests.{ne-eqb, ltb-true, ltb-false}
 use lib.Dec.{ltb}
@@ -17,7 +17,7 @@ use Rattle.modules.specs.Within.Scan.{Scan, stops, withItem, whole, scan
 use Rattle.modules.specs.Laws.Codes.{wants-left, wants-high, item-byte, item-word, item-page, item-move}
 use Rattle.modules.specs.Laws.Numbers.{number-from, number-fits}
 use Rattle.modules.specs.declared.Item.{Item}
-use Rattle.modules.specs.declared.Item.the-variants.{Byte, Word, SetPage, Restore, Move}
+use Rattle.modules.specs.declared.Item.the-variants.{Byte, Word, SetPage, Move}
 use Rattle.modules.specs.declared.Counter.{Counter}
 use Rattle.modules.specs.declared.Target.{Target}
 
@@ -78,20 +78,20 @@ module _ (n : ℕ) (g : Target) (c : Counter) where
   -- a number behind an item's first bits
   number-item : (k code : ℕ) (made : ℕ → Item) (bits : List Bit)
       → 0 < k → ((x : ℕ) → x < 2 ^ k → (53 ≤ code * 2 ^ k + x) × (itemOf (code * 2 ^ k + x) ≡ made x))
-      → scan n g c code (k) bits ≡ byFirst n g c (withNumber (k) made bits)
+      → scan n g c code k bits ≡ byFirst n g c (withNumber k made bits)
   unfolding whole withNumber
-  number-item k code made bits some f = go (ltb (length bits) (k)) refl
+  number-item k code made bits some f = go (ltb (length bits) k) refl
     where
-      go : (b : Bool) → ltb (length bits) (k) ≡ b
-          → scan n g c code (k) bits ≡ byFirst n g c (cond b runs-out (item (made (numberOf 0 (take (k) bits))) (drop (k) bits)))
-      go true e = scan-short k code bits (ltb-true (length bits) (k) e)
+      go : (b : Bool) → ltb (length bits) k ≡ b
+          → scan n g c code k bits ≡ byFirst n g c (cond b runs-out (item (made (numberOf 0 (take k bits))) (drop k bits)))
+      go true e = scan-short k code bits (ltb-true (length bits) k e)
       go false e =
-          let m = ltb-false (length bits) (k) e in
-          let l = length-take-le (k) bits m in
-          let x = numberOf 0 (take (k) bits) in
+          let m = ltb-false (length bits) k e in
+          let l = length-take-le k bits m in
+          let x = numberOf 0 (take k bits) in
           let y = code * 2 ^ k + x in
-          let z : numberOf code (take (k) bits) ≡ y = number-from code (take (k) bits) ∙ ap (λ (i : ℕ). code * 2 ^ i + x) l in
-          let h = f x (number-fits (k) (take (k) bits) l) in
+          let z : numberOf code (take k bits) ≡ y = number-from code (take k bits) ∙ ap (λ (i : ℕ). code * 2 ^ i + x) l in
+          let h = f x (number-fits k (take k bits) l) in
           let high = h .0 in
           scan-take k code bits some m ∙ rw (z, wants-high y high, ne-eqb y 14 (λ q. omega arith), ne-eqb y 15 (λ q. omega arith), h .1)
 

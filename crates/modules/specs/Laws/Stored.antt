@@ -8,7 +8,7 @@ use borrow.Author.Tests.{ltb-false}
 use lib.Dec.{eqb}
 use Rattle.modules.specs.Definition.Reading.{takenOf}
 use Rattle.modules.specs.Definition.Counter.{after, Put, putsAt, putsOf}
-use Rattle.modules.specs.Definition.Judging.{outside, above, touches, faultOr, judgedOr, judgedAt, judged, storedBy, refusalOf}
+use Rattle.modules.specs.Definition.Judging.{outside, above, touches, faultOr, judgedOr, judgedAt, judged, refusalOf}
 use Rattle.modules.specs.declared.Item.{Item}
 use Rattle.modules.specs.declared.Item.the-variants.{Byte, Word, SetPage, Restore, Move}
 use Rattle.modules.specs.declared.Counter.{Counter}
@@ -54,7 +54,7 @@ module _ (P : Put → Type 0) (g : Target) (item-has : (c : Counter) (i : Item) 
       every-append P (putsAt c i) (putsOf (g .page) (after (g .page) c i) items) (item-has c i (h .below) (h .clear))
       (items-have (after (g .page) c i) items else (h .else-whole))
 
-  pub stored-have : (c : Counter) (stream : List ℕ) → refusalOf (judged g c stream) ≡ 0 → Every P (storedBy g c stream)
+  pub stored-have : (c : Counter) (stream : List ℕ) → refusalOf (judged g c stream) ≡ 0 → Every P (putsOf (g .page) c (takenOf stream .items))
   unfolding judged
   stored-have c stream e = items-have c (takenOf stream .items) (judgedAt _ (takenOf stream .break)) e
 
@@ -69,7 +69,7 @@ item-below g c (SetPage page) e = tt
 item-below g c Restore e = tt
 item-below g c (Move x) e = tt
 
-pub stored-below : (g : Target) (c : Counter) (stream : List ℕ) → refusalOf (judged g c stream) ≡ 0 → Below (g .reach) (storedBy g c stream)
+pub stored-below : (g : Target) (c : Counter) (stream : List ℕ) → refusalOf (judged g c stream) ≡ 0 → Below (g .reach) (putsOf (g .page) c (takenOf stream .items))
 stored-below g c stream e = stored-have (λ p. p .offset < g .reach) g (λ c i h _. item-below g c i h) c stream e
 
 -- what is refused for none of the four numbers is whole

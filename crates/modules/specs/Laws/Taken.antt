@@ -7,11 +7,10 @@ use native.Mathlib.Omega.{arith}
 use lib.ListN.{length}
 use Rattle.modules.specs.Definition.Bits.{Bit}
 use Rattle.modules.specs.Definition.Reading.{First, item, ends, illegal, runs-out, first, Taken, takenBy, takenIn, lookedAt, streamBits, takenOf}
-use Rattle.modules.specs.Definition.Counter.{after, Put, putsAt, putsOf}
-use Rattle.modules.specs.Definition.Judging.{outside, above, touches, faultOr, judgedOr, judgedAt, judged, storedBy, refusalOf}
-use Rattle.modules.specs.Within.Scan.{Scan, stops, withItem, scan, putsBefore, storedBefore}
-use Rattle.modules.specs.Laws.Items.{Stands, first-stands}
-use Rattle.modules.specs.Laws.Faults.{begins-less}
+use Rattle.modules.specs.Definition.Counter.{after, putsOf}
+use Rattle.modules.specs.Definition.Judging.{outside, above, touches, faultOr, judgedOr, judgedAt, judged, refusalOf}
+use Rattle.modules.specs.Within.Scan.{Scan, withItem, scan, putsBefore, storedBefore}
+use Rattle.modules.specs.Laws.Items.{Stands, first-stands, begins-less}
 use Rattle.modules.specs.Laws.Scan.{byFirst, scan-first}
 use Rattle.modules.specs.Laws.Stored.{passed}
 use Rattle.modules.specs.declared.Item.{Item}
@@ -64,6 +63,6 @@ before-all g c (i ∷ items) else e =
     let h = passed g c i (judgedOr g (after (g .page) c i) items else) e in
     rw (h .inside, h .below, h .clear, before-all g (after (g .page) c i) items else (h .else-whole))
 
-pub stored-all : (g : Target) (c : Counter) (stream : List ℕ) → refusalOf (judged g c stream) ≡ 0 → storedBefore g c stream ≡ storedBy g c stream
+pub stored-all : (g : Target) (c : Counter) (stream : List ℕ) → refusalOf (judged g c stream) ≡ 0 → storedBefore g c stream ≡ putsOf (g .page) c (takenOf stream .items)
 unfolding judged
 stored-all g c stream e = before-all g c (takenOf stream .items) (judgedAt (length (lookedAt stream)) (takenOf stream .break)) e

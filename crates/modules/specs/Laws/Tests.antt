@@ -1,14 +1,14 @@
--- The tests of one item decide what the definition of faults says in propositions.
-use mathlib.Core.Path.{_≡_, refl, sym, _∙_}
-use mathlib.Core.Logic.{_≢_, _⊎_, inl, inr}
-use mathlib.Core.Bool.{Bool, true, false, not, _&&_, _||_, false≢true}
+-- The tests of one item say what the definition of faults says in propositions.
+use mathlib.Core.Path.{_≡_, sym, _∙_}
+use mathlib.Core.Logic.{_≢_, _⊎_, inl, inr, ⊎-elim}
+use mathlib.Core.Bool.{Bool, true, false, false≢true}
 use Prim.Native.Nat.{ℕ, _+_, _/_, _≤_, _<_}
 use native.Mathlib.Decide.{decLe, decLt}
 use native.Mathlib.Omega.{arith}
-use borrow.Author.Tests.{ltb-true, ltb-false, eqb-true, eqb-false}
-use lib.Dec.{ltb, eqb}
+use lib.Dec.{ltb}
+use Rattle.rows.specs.Laws.Says.{Says, says-lt, says-eq, says-and, says-or, says-not, says-as, says-true}
 use Rattle.line.specs.Definition.Guard.{GuardedByte, guarded}
-use Rattle.modules.specs.Definition.Counter.{PAGE, landing, sizeOf}
+use Rattle.modules.specs.Definition.Counter.{pageSize, landing, sizeOf}
 use Rattle.modules.specs.Definition.Judging.{leaves, outside, above, touches}
 use Rattle.modules.specs.Definition.Faults.{Outside, store, move, Above, Touches}
 use Rattle.modules.specs.declared.Item.{Item}
@@ -16,82 +16,33 @@ use Rattle.modules.specs.declared.Item.the-variants.{Byte, Word, SetPage
 use Rattle.modules.specs.declared.Counter.{Counter}
 use Rattle.modules.specs.declared.Target.{Target}
 
--- a test decides a proposition
-pub data Decides (P : Type 0) : Bool → Type 0 where
-  holds : P → Decides P true
-  fails : ¬ P → Decides P false
-
-pub decides-true : {P : Type 0} {b : Bool} → Decides P b → P → b ≡ true
-decides-true (holds h) p = refl
-decides-true (fails n) p = absurd (n p)
-
-pub decides-false : {P : Type 0} {b : Bool} → Decides P b → ¬ P → b ≡ false
-decides-false (holds h) n = absurd (n h)
-decides-false (fails m) n = refl
-
-pub decides-no : {P : Type 0} {b : Bool} → Decides P b → b ≡ false → ¬ P
-decides-no (holds h) e = λ p. false≢true (sym e)
-decides-no (fails n) e = n
-
-decides-by : {P : Type 0} (b : Bool) → (b ≡ true → P) → (b ≡ false → ¬ P) → Decides P b
-decides-by true p n = holds (p refl)
-decides-by false p n = fails (n refl)
-
-decides-as : {P Q : Type 0} {b : Bool} → (P → Q) → (Q → P) → Decides P b → Decides Q b
-decides-as to back (holds h) = holds (to h)
-decides-as to back (fails n) = fails (λ q. n (back q))
-
-decides-lt : (a b : ℕ) → Decides (a < b) (ltb a b)
-decides-lt a b = decides-by (ltb a b) (ltb-true a b) (λ e h. omega (arith, ltb-false a b e))
-
-decides-eq : (a b : ℕ) → Decides (a ≡ b) (eqb a b)
-decides-eq a b = decides-by (eqb a b) (eqb-true a b) (eqb-false a b)
-
-decides-not : {P : Type 0} {b : Bool} → Decides P b → Decides (¬ P) (not b)
-decides-not (holds h) = fails (λ n. n h)
-decides-not (fails n) = holds n
-
-decides-and : {P Q : Type 0} {a b : Bool} → Decides P a → Decides Q b → Decides (P × Q) (a && b)
-decides-and (holds p) (holds q) = holds (p, q)
-decides-and (holds p) (fails n) = fails (λ h. n (h .1))
-decides-and (fails n) q = fails (λ h. n (h .0))
-
-decides-or : {P Q : Type 0} {a b : Bool} → Decides P a → Decides Q b → Decides (P ⊎ Q) (a || b)
-decides-or (holds p) q = holds (inl p)
-decides-or (fails n) (holds q) = holds (inr q)
-decides-or (fails n) (fails m) = fails (λ h. elim h [ inl x ↦ n x | inr x ↦ m x ])
+-- where a test fails, what it says does not hold
+pub says-fails : {b : Bool} {P : Type 0} → Says b P → b ≡ false → ¬ P
+says-fails f e = λ p. false≢true (sym e ∙ f .make p)
 
 -- ---- 20 PAGE
 
-stored : {c : Counter} {i : Item} → leaves c i ≡ false → Outside c i → PAGE < c .offset + sizeOf i
-stored e (store p h) = h
-stored e (move h) = absurd (false≢true (sym e ∙ decides-true (decides-not (decides-eq _ _)) h))
+outside-by : {c : Counter} {i : Item} → Outside c i → (leaves c i ≡ true) ⊎ ((0 < sizeOf i) × (pageSize < c .offset + sizeOf i))
+outside-by (store p h) = inr (p, h)
+outside-by (move h) = inl (says-not (says-eq _ _) .make h)
 
-moved : {c : Counter} {x : ℕ} → Outside c (Move x) → landing c x / PAGE ≢ c .page
-moved (store p h) = absurd (omega arith)
-moved (move h) = h
+leaves-outside : (c : Counter) (i : Item) → leaves c i ≡ true → Outside c i
+leaves-outside c (Byte x) e = absurd (false≢true e)
+leaves-outside c (Word x) e = absurd (false≢true e)
+leaves-outside c (SetPage page) e = absurd (false≢true e)
+leaves-outside c Restore e = absurd (false≢true e)
+leaves-outside c (Move x) e = move (says-not (says-eq (landing c x / pageSize) (c .page)) .yes e)
 
-store-decides : (c : Counter) (i : Item) → c .offset ≤ PAGE → leaves c i ≡ false → Decides (Outside c i) (ltb PAGE (c .offset + sizeOf i))
-store-decides c i h e = decides-as (λ k. store (omega arith) k) (λ o. stored e o) (decides-lt PAGE (c .offset + sizeOf i))
-
-move-decides : (c : Counter) (x : ℕ) {b : Bool} → c .offset ≤ PAGE → Decides (landing c x / PAGE ≢ c .page) b
-    → Decides (Outside c (Move x)) (b || ltb PAGE (c .offset + 0))
-move-decides c x h (holds m) = holds (move m)
-move-decides c x h (fails n) = decides-as (λ k. absurd (omega arith)) (λ o. absurd (n (moved o))) (decides-lt PAGE (c .offset + 0))
-
-pub outside-decides : (c : Counter) (i : Item) → c .offset ≤ PAGE → Decides (Outside c i) (outside c i)
-outside-decides c (Byte x) h = store-decides c (Byte x) h refl
-outside-decides c (Word x) h = store-decides c (Word x) h refl
-outside-decides c (SetPage page) h = store-decides c (SetPage page) h refl
-outside-decides c Restore h = store-decides c Restore h refl
-outside-decides c (Move x) h = move-decides c x h (decides-not (decides-eq (landing c x / PAGE) (c .page)))
+pub outside-says : (c : Counter) (i : Item) → Says (outside c i) (Outside c i)
+outside-says c i =
+    says-as (says-or (says-true (leaves c i)) (says-and (says-lt 0 (sizeOf i)) (says-lt pageSize (c .offset + sizeOf i))))
+    (⊎-elim (leaves-outside c i) (λ h. store (h .0) (h .1))) outside-by
 
 -- ---- 13 RANGE
 
-pub above-decides : (g : Target) (c : Counter) (i : Item) → Decides (Above g c i) (above g c i)
-above-decides g c i =
-    decides-as (λ h. record { stores = h .0; end = h .1 }) (λ a. (a .stores, a .end))
-    (decides-and (decides-lt 0 (sizeOf i)) (decides-lt (g .reach) (c .offset + sizeOf i)))
+pub above-says : (g : Target) (c : Counter) (i : Item) → Says (above g c i) (Above g c i)
+above-says g c i =
+    says-as (says-and (says-lt 0 (sizeOf i)) (says-lt (g .reach) (c .offset + sizeOf i))) (λ h. record { stores = h .0; end = h .1 }) (λ a. (a .stores, a .end))
 
 -- ---- 14 GUARD
 
@@ -129,13 +80,14 @@ guarded-met offset n (k, p, q, h) =
           inr (omega (arith, h .to), omega arith)
     ]
 
-pub guarded-decides : (row offset n : ℕ) → Decides ((row ≡ 0) × Guarded offset n) (guarded row offset n)
-guarded-decides row offset n =
-    decides-as (λ ((z, some), m). (z, met-guarded offset n some m)) (λ (z, t). ((z, omega arith), guarded-met offset n t))
-    (decides-and (decides-and (decides-eq row 0) (decides-lt 0 n))
-    (decides-or (decides-and (decides-lt offset 61) (decides-lt 48 (offset + n))) (decides-and (decides-lt offset 92) (decides-lt 63 (offset + n)))))
+pub guarded-says : (row offset n : ℕ) → Says (guarded row offset n) ((row ≡ 0) × Guarded offset n)
+guarded-says row offset n =
+    says-as
+    (says-and (says-and (says-eq row 0) (says-lt 0 n))
+    (says-or (says-and (says-lt offset 61) (says-lt 48 (offset + n))) (says-and (says-lt offset 92) (says-lt 63 (offset + n)))))
+    (λ ((z, some), m). (z, met-guarded offset n some m)) (λ (z, t). ((z, omega arith), guarded-met offset n t))
 
-pub touches-decides : (g : Target) (c : Counter) (i : Item) → Decides (Touches g c i) (touches g c i)
-touches-decides g c i =
-    decides-as (λ (z, (k, a, b, h)). record { zero = z; byte = k; from = a; to = b; guarded = h }) (λ t. (t .zero, (t .byte, t .from, t .to, t .guarded)))
-    (guarded-decides (g .row) (c .offset) (sizeOf i))
+pub touches-says : (g : Target) (c : Counter) (i : Item) → Says (touches g c i) (Touches g c i)
+touches-says g c i =
+    says-as (guarded-says (g .row) (c .offset) (sizeOf i)) (λ (z, (k, a, b, h)). record { zero = z; byte = k; from = a; to = b; guarded = h })
+    (λ t. (t .zero, (t .byte, t .from, t .to, t .guarded)))

@@ -1,23 +1,24 @@
 -- The turns of the reader's loops.
 use mathlib.Core.Path.{_≡_, refl, sym, ap, _∙_}
-use mathlib.Core.Bool.{Bool, true, false, cond}
+use mathlib.Core.Bool.{Bool, true, false}
 use mathlib.Core.List.{List, [], _∷_, _++_}
-use Prim.Native.Nat.{ℕ, _+_, _-_, _*_, _^_, _≤_, _<_}
+use Prim.Native.Nat.{ℕ, _+_, _*_, _^_, _≤_, _<_}
 use native.Mathlib.Omega.{arith}
 use borrow.Author.Tests.{eq-eqb, ne-eqb}
 use lib.Dec.{eqb}
-use lib.ListN.{length, take, drop, length-drop}
+use lib.ListN.{length, take, drop}
 use lib.Seq.{drop-drop, length-take-le}
 use Rattle.line.specs.Definition.Ram.{putAt}
 use Rattle.modules.specs.Definition.Bits.{Bit, bitsIn, numberOf}
 use Rattle.modules.specs.Definition.Reading.{lookedAt, streamBits, end-of-input}
-use Rattle.modules.specs.Definition.Counter.{after, Put, putsAt, putEach}
+use Rattle.modules.specs.Definition.Counter.{Counts, after, Put, putsAt, putEach}
 use Rattle.modules.specs.Definition.Judging.{outside, above, touches, judgedAt, judged}
 use Rattle.modules.specs.Within.Codes.{wants, itemOf}
-use Rattle.modules.specs.Within.Acts.{itemAct, actOf, actPuts, putWhere, Counts, Counting, settled}
+use Rattle.modules.specs.Within.Acts.{itemAct, actOf, actPuts, putWhere, Counting, settled}
 use Rattle.modules.specs.Within.Scan.{Scan, stops, withItem, whole, scan, scanned, storedBefore}
-use Rattle.modules.specs.Laws.Numbers.{number-from, bytes-length}
-use Rattle.modules.specs.Laws.Positions.{looked-bits}
+use Rattle.modules.specs.Laws.Numbers.{number-from}
+use Rattle.modules.specs.Laws.Positions.{rest-length, looked-bits}
+use Rattle.modules.specs.Laws.Performs.{put-none}
 use Rattle.modules.specs.Laws.Scan.{scan-short, scan-take}
 use Rattle.modules.specs.Laws.Taken.{scan-stream}
 use Rattle.modules.specs.declared.Item.{Item}
@@ -37,10 +38,6 @@ each-more base ram (p ∷ ps) qs = each-more base (putAt ram (base + p .offset) 
 put-more : (storing : Bool) (base : ℕ) (ram : List ℕ) (ps qs : List Put) → putWhere storing base (putWhere storing base ram ps) qs ≡ putWhere storing base ram (ps ++ qs)
 put-more true base ram ps qs = each-more base ram ps qs
 put-more false base ram ps qs = refl
-
-put-nothing : (storing : Bool) (base : ℕ) (ram : List ℕ) → putWhere storing base ram [] ≡ ram
-put-nothing true base ram = refl
-put-nothing false base ram = refl
 
 -- a whole item does what comes of it
 abbrev byAct : (n : ℕ) → Act → Counter → Item → (rest : List Bit) → (Counter → Scan) → Scan
@@ -76,9 +73,6 @@ module _ (stream : List ℕ) (n : ℕ) (g : Target) (c : Counter) (code left at 
   abbrev rest : List Bit
   rest = drop at (streamBits stream)
 
-  rest-length : length rest ≡ 8 * length (lookedAt stream) - at
-  rest-length = rw (length-drop at (streamBits stream), bytes-length (lookedAt stream))
-
   scanned-some : scanned n g c code left rest ≡ scan n g c code left rest
   scanned-some = rw (ne-eqb left 0 (omega arith))
 
@@ -86,14 +80,14 @@ module _ (stream : List ℕ) (n : ℕ) (g : Target) (c : Counter) (code left at 
   pub turn : (x y w : ℕ) (all : Scan) → at + left ≤ 8 * length (lookedAt stream) → x ≡ numberOf 0 (take left (drop at (bitsIn stream))) → y ≡ code * 2 ^ left → w ≡ wants (y + x) 0
       → scanned n g c code left rest ≡ all → scanned n g c (y + x) w (drop (at + left) (streamBits stream)) ≡ all
   turn x y w all h e f q i =
-      let l = rest-length in
+      let l = rest-length stream at in
       let z : numberOf code (take left rest) ≡ y + x = number-from code (take left rest) ∙ rw (length-take-le left rest (omega arith), f, e, looked-bits stream at left h) in
       let d : drop left rest ≡ drop (at + left) (streamBits stream) = drop-drop left at (streamBits stream) in
       rw (q, ← d, ← z) (sym (scanned-some ∙ scan-take n g c left code rest some (omega arith)) ∙ i)
 
   -- the input is at its end
   pub ran-out : 8 * length (lookedAt stream) < at + left → stops (judgedAt n end-of-input) ≡ scanned n g c code left rest
-  ran-out h = let l = rest-length in sym (scanned-some ∙ scan-short n g c left code rest (omega arith))
+  ran-out h = let l = rest-length stream at in sym (scanned-some ∙ scan-short n g c left code rest (omega arith))
 
 module _ (n : ℕ) (g : Target) (c : Counter) (code left : ℕ) (rest : List Bit) (act : Act) (l : left ≤ 0) (e : act ≡ actOf g c code)
     (storing : Bool) (base : ℕ) (ram ram₁ : List ℕ) (p : ram₁ ≡ putWhere storing base ram (actPuts act c (itemOf code))) (s : Scan)
@@ -126,7 +120,7 @@ pub stopped : (n : ℕ) (rest : List Bit) (storing : Bool) (base : ℕ) (ram ram
     → stops (judgedAt n end-of-input) ≡ s → Comes storing base ram s j end → stop ≡ Exhausted → ram₁ ≡ ram → (settled n stop rest ≡ j) × (ram₁ ≡ end)
 stopped n rest storing base ram ram₁ s stop j end e k f r = (
   ap (λ (y : Stop). settled n y rest) f ∙ ap (λ (z : Scan). z .judged) e ∙ k .0,
-  r ∙ sym (put-nothing storing base ram) ∙ ap (λ (z : Scan). putWhere storing base ram (z .puts)) e ∙ k .1,
+  r ∙ put-none storing base ram ∙ ap (λ (z : Scan). putWhere storing base ram (z .puts)) e ∙ k .1,
 )
 
 pub finished : {r settled j : Judged} {ram end : List ℕ} → r ≡ settled → (settled ≡ j) × (ram ≡ end) → (r ≡ j) × (ram ≡ end)

@@ -10,14 +10,14 @@ use lib.Seq.{length-take-le, take-append-add, take-at}
 use Rattle.modules.specs.Definition.Bits.{Bit, O, I, bitsIn}
 use Rattle.modules.specs.Definition.Items.{itemBits, endBits, AllFit, allBits, IsModule}
 use Rattle.modules.specs.Definition.Reading.{First, Break, end, illegal-item, end-of-input, Taken, takenBy, first, takenIn, lookedAt, streamBits, takenOf}
-use Rattle.modules.specs.Definition.Counter.{PAGE, after}
+use Rattle.modules.specs.Definition.Counter.{pageSize, after}
 use Rattle.modules.specs.Definition.Judging.{judgedOr, zeros, judgedAt, judged, refusalOf}
 use Rattle.modules.specs.Definition.Faults.{Faultless, FaultlessFrom, Begins}
 use Rattle.modules.specs.Laws.Stored.{passed}
 use Rattle.modules.specs.Laws.Numbers.{bytes-length, bytes-append, bytes-take}
-use Rattle.modules.specs.Laws.Items.{first-item, first-end, item-stands, end-stands}
-use Rattle.modules.specs.Laws.Faults.{taken-step, begins-less, none-at, after-within}
-use Rattle.modules.specs.Laws.Tests.{decides-no, outside-decides, above-decides, touches-decides}
+use Rattle.modules.specs.Laws.Items.{first-item, first-end, item-stands, end-stands, taken-step, begins-less}
+use Rattle.modules.specs.Laws.Faults.{none-at}
+use Rattle.modules.specs.Laws.Tests.{says-fails, outside-says, above-says, touches-says}
 use Rattle.modules.specs.declared.Item.{Item}
 use Rattle.modules.specs.declared.Counter.{Counter}
 use Rattle.modules.specs.declared.Target.{Target}
@@ -157,35 +157,35 @@ whole-module g c stream b e =
     let (fit, are) = taken-ended (length (streamBits stream)) (streamBits stream) (w .rest) (w .ends) in
     module-of (lookedAt stream) (takenOf stream .items) (w .rest) b fit are (w .clean) (w .used)
 
-items-faultless : (g : Target) (c : Counter) (items : List Item) (else : Judged) → c .offset ≤ PAGE → refusalOf (judgedOr g c items else) ≡ 0
+items-faultless : (g : Target) (c : Counter) (items : List Item) (else : Judged) → refusalOf (judgedOr g c items else) ≡ 0
     → FaultlessFrom g c items
 unfolding judgedOr
-items-faultless g c [] else h e = tt
-items-faultless g c (i ∷ items) else h e =
+items-faultless g c [] else e = tt
+items-faultless g c (i ∷ items) else e =
     let p = passed g c i (judgedOr g (after (g .page) c i) items else) e in
     let l : Faultless g c i = record {
-      inside = decides-no (outside-decides c i h) (p .inside);
-      below = decides-no (above-decides g c i) (p .below);
-      clear = decides-no (touches-decides g c i) (p .clear);
+      inside = says-fails (outside-says c i) (p .inside);
+      below = says-fails (above-says g c i) (p .below);
+      clear = says-fails (touches-says g c i) (p .clear);
     } in
-    (l, items-faultless g (after (g .page) c i) items else (after-within (g .page) c i h (l .inside)) (p .else-whole))
+    (l, items-faultless g (after (g .page) c i) items else (p .else-whole))
 
 -- and its items are without fault
-pub whole-faultless : (g : Target) (c : Counter) → c .offset ≤ 16384 → (stream : List ℕ) (b : ℕ) → judged g c stream ≡ Whole b
+pub whole-faultless : (g : Target) (c : Counter) (stream : List ℕ) (b : ℕ) → judged g c stream ≡ Whole b
     → FaultlessFrom g c (takenOf stream .items)
 unfolding judged
-whole-faultless g c h stream b e = items-faultless g c (takenOf stream .items) _ h (ap refusalOf e)
+whole-faultless g c stream b e = items-faultless g c (takenOf stream .items) _ (ap refusalOf e)
 
 -- ---- and the other way round: a module without fault is accepted
 
 pub module-items : (stream : List ℕ) (items : List Item) (b : ℕ) → IsModule (lookedAt stream) items b → takenOf stream .items ≡ items
 module-items stream items b m = ap (λ (t : Taken). t .items) (module-taken (lookedAt stream) items b m (length (streamBits stream)) (le-refl _))
 
-faultless-else : (g : Target) (c : Counter) (items : List Item) (else : Judged) → c .offset ≤ PAGE → FaultlessFrom g c items → judgedOr g c items else ≡ else
+faultless-else : (g : Target) (c : Counter) (items : List Item) (else : Judged) → FaultlessFrom g c items → judgedOr g c items else ≡ else
 unfolding judgedOr
-faultless-else g c [] else h l = refl
-faultless-else g c (i ∷ items) else h l =
-    none-at g c i h _ (l .0) ∙ faultless-else g (after (g .page) c i) items else (after-within (g .page) c i h (l .0 .inside)) (l .1)
+faultless-else g c [] else l = refl
+faultless-else g c (i ∷ items) else l =
+    none-at g c i _ (l .0) ∙ faultless-else g (after (g .page) c i) items else (l .1)
 
 -- bits behind an end item that are zeros and whole bytes
 padded-whole : (n k p b : ℕ) (bits : List Bit) → p < 8 → length bits ≡ 8 * k → n - k ≡ b → judgedAt n (end (replicate p O ++ bits)) ≡ Whole b
@@ -195,12 +195,12 @@ padded-whole n k p b bits h e q =
     let bytes : (p + 8 * k) / 8 ≡ k = omega arith in
     rw (size, left, bytes, take-at (replicate p O) bits p (length-replicate p O), only-zeros p, q)
 
-pub module-whole : (g : Target) (c : Counter) → c .offset ≤ 16384 → (stream : List ℕ) (items : List Item) (b : ℕ) → IsModule (lookedAt stream) items b
+pub module-whole : (g : Target) (c : Counter) (stream : List ℕ) (items : List Item) (b : ℕ) → IsModule (lookedAt stream) items b
     → FaultlessFrom g c items → judged g c stream ≡ Whole b
 unfolding judged
-module-whole g c h stream items b m l =
+module-whole g c stream items b m l =
     let seen = lookedAt stream in
     let k = length (drop b seen) in
     let left : length seen - k ≡ b = omega (arith, m .within, length-drop b seen) in
     rw (module-taken seen items b m (length (streamBits stream)) (le-refl _))
-    (faultless-else g c items _ h l ∙ padded-whole (length seen) k (m .padding) b (bitsIn (drop b seen)) (m .less) (bytes-length (drop b seen)) left)
+    (faultless-else g c items _ l ∙ padded-whole (length seen) k (m .padding) b (bitsIn (drop b seen)) (m .less) (bytes-length (drop b seen)) left)

@@ -5,7 +5,7 @@ use Prim.Native.Nat.{ℕ, _+_, _≤_}
 use lib.Dec.{eqb}
 use Rattle.modules.specs.Definition.Bits.{Bit}
 use Rattle.modules.specs.Definition.Reading.{end, illegal-item, end-of-input}
-use Rattle.modules.specs.Definition.Counter.{sizeOf, after, Put, putsAt, putEach}
+use Rattle.modules.specs.Definition.Counter.{Counts, sizeOf, after, Put, putsAt, putEach}
 use Rattle.modules.specs.Definition.Judging.{outside, above, touches, judgedAt}
 use Rattle.modules.specs.Within.Codes.{itemOf}
 use Rattle.modules.specs.declared.Item.{Item}
@@ -39,11 +39,7 @@ actPuts (Halt why) c i = []
 abbrev pub putWhere : (storing : Bool) (base : ℕ) → List ℕ → List Put → List ℕ
 putWhere storing base ram puts = cond storing (putEach base ram puts) ram
 
--- the counter is one: "a page (0 to 3) and an offset, 0 to 16,384"
-pub record Counts (c : Counter) : Type 0 where
-  pub page : c .page ≤ 3
-  pub offset : c .offset ≤ 16384
-
+-- the next counter is one
 abbrev pub Counting : Act → Type 0
 Counting (Next d) = Counts d
 Counting (Halt why) = Unit {0}

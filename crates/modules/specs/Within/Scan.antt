@@ -4,7 +4,7 @@ use mathlib.Core.List.{List, [], _∷_, _++_}
 use Prim.Native.Nat.{ℕ, _-_}
 use lib.Dec.{eqb}
 use Rattle.modules.specs.Definition.Bits.{Bit}
-use Rattle.modules.specs.Definition.Reading.{end, illegal-item, end-of-input, Taken, takenOf}
+use Rattle.modules.specs.Definition.Reading.{end, illegal-item, end-of-input, takenOf}
 use Rattle.modules.specs.Definition.Counter.{after, Put, putsAt}
 use Rattle.modules.specs.Definition.Judging.{outside, above, touches, judgedAt}
 use Rattle.modules.specs.Within.Codes.{withBit, wants, itemOf}

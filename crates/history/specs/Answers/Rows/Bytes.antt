@@ -7,7 +7,7 @@ use native.Mathlib.Omega.{arith}
 use lib.Dec.{ltb}
 use lib.ListN.{length}
 use Rattle.line.specs.Definition.Guard.{guarded}
-use Rattle.modules.specs.Laws.Tests.{Guarded as Touching, guarded-decides}
+use Rattle.modules.specs.Laws.Tests.{Guarded as Touching, guarded-says}
 use Rattle.rows.specs.Definition.Classes.{USER, SHARED}
 use Rattle.rows.specs.Laws.Says.{Says, says-lt, says-eq, says-and, says-or, says-not, says-as}
 use Rattle.kernel.specs.Definition.Tables.{classAt, rowOf}
@@ -18,7 +18,7 @@ use Rattle.kernel.specs.Definition.Refusals.{Row, InList, Reached, store-owner,
 use Rattle.kernel.specs.declared.Tables.{Tables}
 use Rattle.kernel.specs.declared.Answer.the-variants.{NotOwner, BadRange, Guarded}
 use Rattle.history.specs.Answers.Lowest.{Below, Lowest, end, rule}
-use Rattle.history.specs.Answers.Tests.{says-either, says-decided}
+use Rattle.history.specs.Answers.Tests.{says-either}
 use Rattle.history.specs.Answers.Numbers.{by-rows, by-none}
 use Rattle.history.specs.Answers.Found.{in-list, list-one}
 
@@ -76,7 +76,7 @@ module _ (t : Tables) (g : Good t) (ram output : ℕ) where
   -- 14 GUARD, of a segment that is reached
   guard-says : (segment offset n : ℕ) → Reaches t segment → Says (guarded (rowOf t segment) offset n) (InList t segment 0 × Touching offset n)
   guard-says segment offset n (i, o, r) =
-      says-as (says-decided (guarded-decides (rowOf t segment) offset n))
+      says-as (guarded-says (rowOf t segment) offset n)
       (λ (z, touched). (rw z at (in-list t g segment (rw (list-one t g segment i o) (o .within))), touched))
       (λ (p, touched). (list-one t g segment 0 p, touched))
 

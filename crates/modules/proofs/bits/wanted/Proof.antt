@@ -35,7 +35,9 @@ unfolding wants
 returns-7 c = wants-key _ 0 52 _ (omega arith) (c .match .keys7) refl
 
 returns-8 : tie.Need-returns-8
-returns-8 c = wants-none _ 0 (omega arith) (c .match .rest .0 .0 .0 .0 .0 .0 .1) (c .match .rest .0 .0 .0 .0 .0 .1) (c .match .rest .0 .0 .0 .0 .1) (c .match .rest .0 .0 .0 .1) (c .match .rest .0 .0 .1) (c .match .rest .0 .1) (c .match .rest .1)
+returns-8 c =
+    let r = c .match .rest in
+    wants-none _ 0 (omega arith) (r .0 .0 .0 .0 .0 .0 .1) (r .0 .0 .0 .0 .0 .1) (r .0 .0 .0 .0 .1) (r .0 .0 .0 .1) (r .0 .0 .1) (r .0 .1) (r .1)
 
 pub wanted-spec : {M : Type 1} → statement M
 wanted-spec =

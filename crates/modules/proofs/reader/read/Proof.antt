@@ -9,7 +9,8 @@ use lib.ListN.{length, drop}
 use Rattle.modules.specs.Definition.Reading.{lookedAt, streamBits}
 use Rattle.modules.specs.Definition.Judging.{judged}
 use Rattle.modules.specs.Within.Codes.{Coded}
-use Rattle.modules.specs.Within.Acts.{Counts, putWhere}
+use Rattle.modules.specs.Definition.Counter.{Counts}
+use Rattle.modules.specs.Within.Acts.{putWhere}
 use Rattle.modules.specs.Within.Scan.{scan, scanned, storedBefore}
 use Rattle.modules.specs.Laws.Codes.{coded-one, coded-on, taken-few, shifted-is, shifted-fits}
 use Rattle.modules.specs.Laws.Positions.{number-at}
