@@ -7,3 +7,4 @@ pub mod Rows
 pub mod Decided
 pub mod Proved
 pub mod Refused
+pub mod Loaded

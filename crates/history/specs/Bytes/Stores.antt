@@ -38,7 +38,6 @@ use Rattle.kernel.specs.Laws.Facts.{reach-small}
 use Rattle.kernel.specs.Laws.Records.{record-within}
 use Rattle.kernel.specs.Laws.Ready.{Ready}
 use Rattle.kernel.specs.declared.Tables.{Tables}
-use Rattle.history.specs.Definition.Runs.{putsIn}
 use Rattle.history.specs.Bytes.Words.{stored}
 use Rattle.history.specs.Definition.Users.{Users}
 use Rattle.history.specs.Answers.Found.{in-list}

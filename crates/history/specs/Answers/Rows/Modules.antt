@@ -3,8 +3,7 @@ use mathlib.Core.Path.{_≡_, refl, sym, ap, subst, _∙_}
 use mathlib.Core.Bool.{cond}
 use mathlib.Core.List.{List}
 use mathlib.Core.Logic.{_⊎_, inl, inr, ⊎-elim}
-use Prim.Native.Nat.{ℕ, _≤_, _<_}
-use native.Mathlib.Decide.{decLe}
+use Prim.Native.Nat.{ℕ, _<_}
 use native.Mathlib.Omega.{arith}
 use lib.Dec.{eqb}
 use Rattle.modules.specs.Definition.Counter.{counter}
@@ -70,19 +69,18 @@ module _ (t : Tables) (g : Good t) (ram output segment page offset : ℕ) (strea
   abbrev verdict : Judged
   verdict = judged (targetOf t (rowOf t segment) page) (counter page offset) stream
 
-  -- 13 RANGE, 14 GUARD, 19 MODULE, 20 PAGE, of a segment that is reached and a start within its range
+  -- 13 RANGE, 14 GUARD, 19 MODULE, 20 PAGE, of a segment that is reached
   fault-says : (j : Judged) → (refusalOf j ≡ 0 → ⊥) → Below C 13 → Says (eqb (refusalOf verdict) (refusalOf j)) (RefusedFor t segment page offset stream j)
   fault-says j some low =
       let (i, o, r) = reached t g ram output segment (λ n. low 11 (omega arith) (module-not n)) in
-      let start : offset ≤ 16384 = elim (decLe offset 16384) [ yes h ↦ h | no h ↦ absurd (low 2 (omega arith) (module-start-offset (omega arith))) ] in
       let here : InList t segment (rowOf t segment) = in-list t g segment (rw (list-one t g segment i o) (o .within)) in
       says-as (says-eq (refusalOf verdict) (refusalOf j))
       (λ e.
       let none : refusalOf verdict ≡ 0 → ⊥ = λ z. some (sym e ∙ z) in
       let same : verdict ≡ j = sym (fault-of verdict none) ∙ ap faultOf e ∙ fault-of j some in
-      (rowOf t segment, here, subst (ModuleRefused t (rowOf t segment) page offset stream) same (judged-refused _ (counter page offset) start stream none)))
+      (rowOf t segment, here, subst (ModuleRefused t (rowOf t segment) page offset stream) same (judged-refused _ (counter page offset) stream none)))
       (λ (k, p, h).
-      let is : judged (targetOf t k page) (counter page offset) stream ≡ j = refused-judged (targetOf t k page) (counter page offset) start stream j h in
+      let is : judged (targetOf t k page) (counter page offset) stream ≡ j = refused-judged (targetOf t k page) (counter page offset) stream j h in
       rw (list-one t g segment k p) (ap refusalOf is))
 
   pub load-module-lowest : Below C 2 → Lowest C (onLoadModule t segment page offset stream)
