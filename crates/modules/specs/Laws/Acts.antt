@@ -15,7 +15,7 @@ use Rattle.modules.specs.declared.Item.the-variants.{Byte, Word, Move}
 use Rattle.modules.specs.declared.Counter.{Counter}
 
 -- one byte put is one element set
-pub set-put : (ram : List ℕ) (at x : ℕ) → at < length ram → set ram at x ≡ putAt ram at (x ∷ [])
+set-put : (ram : List ℕ) (at x : ℕ) → at < length ram → set ram at x ≡ putAt ram at (x ∷ [])
 unfolding putAt
 set-put ram at x h = sets-eq (x ∷ []) ram at (omega arith) ∙ append-assoc (take at ram) (x ∷ []) (drop (at + 1) ram)
 

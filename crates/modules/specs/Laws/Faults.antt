@@ -58,11 +58,11 @@ module _ (g : Target) (c : Counter) (i : Item) (else : Judged) where
 -- ---- all items; `m` is the bytes looked at
 
 module _ (g : Target) (m : ℕ) where
-  abbrev pub judgedOf : Counter → Taken → Judged
+  abbrev judgedOf : Counter → Taken → Judged
   judgedOf c taken = judgedOr g c (taken .items) (judgedAt m (taken .break))
 
   module _ (n : ℕ) (c : Counter) (bits : List Bit) (steps : length bits ≤ n) where
-    pub at-item : (i : Item) (rest : List Bit) → Begins bits i rest
+    at-item : (i : Item) (rest : List Bit) → Begins bits i rest
         → judgedOf c (takenIn n bits) ≡ faultOr g c i (judgedOf (after (g .page) c i) (takenIn (pred n) rest))
     unfolding judgedOr
     at-item i rest b = rw (taken-step n bits steps, b .are, first-item i rest (b .fits))

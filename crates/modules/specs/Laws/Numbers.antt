@@ -46,7 +46,7 @@ number-from y [] = omega arith
 number-from y (O ∷ bits) = number-from (2 * y) bits ∙ rw (pow-suc 2 (length bits)) (omega arith)
 number-from y (I ∷ bits) = number-from (2 * y + 1) bits ∙ rw (pow-suc 2 (length bits), number-from 1 bits) (omega arith)
 
-pub number-less : (bits : List Bit) → numberOf 0 bits < 2 ^ length bits
+number-less : (bits : List Bit) → numberOf 0 bits < 2 ^ length bits
 number-less [] = omega arith
 number-less (O ∷ bits) = rw (pow-suc 2 (length bits)) (omega (arith, number-less bits))
 number-less (I ∷ bits) = rw (pow-suc 2 (length bits), number-from 1 bits) (omega (arith, number-less bits))
@@ -73,11 +73,11 @@ number-fits n bits e = rw (← e) (number-less bits)
 
 -- ---- the bits of bytes
 
-pub bytes-cons : (x : ℕ) (bytes : List ℕ) → bitsIn (x ∷ bytes) ≡ bitsOf 8 x ++ bitsIn bytes
+bytes-cons : (x : ℕ) (bytes : List ℕ) → bitsIn (x ∷ bytes) ≡ bitsOf 8 x ++ bitsIn bytes
 unfolding bitsIn
 bytes-cons x bytes = refl
 
-pub bytes-none : bitsIn [] ≡ []
+bytes-none : bitsIn [] ≡ []
 unfolding bitsIn
 bytes-none = refl
 

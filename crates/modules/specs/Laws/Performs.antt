@@ -23,7 +23,7 @@ use Rattle.modules.specs.declared.Stop.{Stop}
 use Rattle.modules.specs.declared.Stop.the-variants.{End, Illegal, Page, Range, Guard}
 
 -- an item inside the page leaves a counter
-pub after-counts : (start : ℕ) (c : Counter) (i : Item) → Counts c → start ≤ 3 → Paged i → c .offset + sizeOf i ≤ 16384 → Counts (after start c i)
+after-counts : (start : ℕ) (c : Counter) (i : Item) → Counts c → start ≤ 3 → Paged i → c .offset + sizeOf i ≤ 16384 → Counts (after start c i)
 after-counts start c (Byte x) k s p h = record { page = k .page; offset = h }
 after-counts start c (Word x) k s p h = record { page = k .page; offset = h }
 after-counts start c (SetPage page) k s p h = record { page = p; offset = k .offset }
