@@ -13,6 +13,6 @@ pub mod Padding
 pub mod Codes
 pub mod Scan
 pub mod Taken
+pub mod Puts
 pub mod Acts
-pub mod Performs
 pub mod Turns

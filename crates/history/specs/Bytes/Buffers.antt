@@ -264,7 +264,7 @@ module _ (t : Tables) (ram : List ℕ) (r : Ready t (length ram)) (f : ℕ → �
   unfolding resetting
   reset-law flags = flags-law (bit4 flags) (bit5 flags) (bit6 flags)
 
--- nor does a load of a module
+-- a load of a module touches none: it is stores, one after the other
 pub load-law : (t : Tables) (ram : List ℕ) → Ready t (length ram) → (f : ℕ → ℕ → ℕ) → Holds f t ram → (row : ℕ) (puts : List Put) → mayReach t row ≡ true
     → Below (reachOf t row) puts → Holds f t (putEach (segmentAt row) ram puts)
 load-law t ram r f holds row [] m h = holds

@@ -18,7 +18,7 @@ use Rattle.modules.specs.Within.Acts.{itemAct, actOf, actPuts, putWhere,
 use Rattle.modules.specs.Within.Scan.{Scan, stops, withItem, whole, scan, scanned, storedBefore}
 use Rattle.modules.specs.Laws.Numbers.{number-from}
 use Rattle.modules.specs.Laws.Positions.{rest-length, looked-bits}
-use Rattle.modules.specs.Laws.Performs.{put-none}
+use Rattle.modules.specs.Laws.Acts.{put-none}
 use Rattle.modules.specs.Laws.Scan.{scan-short, scan-take}
 use Rattle.modules.specs.Laws.Taken.{scan-stream}
 use Rattle.modules.specs.declared.Item.{Item}
@@ -67,7 +67,7 @@ whole-act n g c code left rest act h e =
 
 -- what the reading will come to: what is judged, and the RAM
 abbrev pub Comes : (storing : Bool) (base : ℕ) (ram : List ℕ) → Scan → Judged → List ℕ → Type 0
-Comes storing base ram s j end = (s .judged ≡ j) × (putWhere storing base ram (s .puts) ≡ end)
+Comes storing base ram s j final = (s .judged ≡ j) × (putWhere storing base ram (s .puts) ≡ final)
 
 module _ (stream : List ℕ) (n : ℕ) (g : Target) (c : Counter) (code left at : ℕ) (some : 0 < left) where
   abbrev rest : List Bit
@@ -91,9 +91,9 @@ module _ (stream : List ℕ) (n : ℕ) (g : Target) (c : Counter) (code left at 
 
 module _ (n : ℕ) (g : Target) (c : Counter) (code left : ℕ) (rest : List Bit) (act : Act) (l : left ≤ 0) (e : act ≡ actOf g c code)
     (storing : Bool) (base : ℕ) (ram ram₁ : List ℕ) (p : ram₁ ≡ putWhere storing base ram (actPuts act c (itemOf code))) (s : Scan)
-    (i : scanned n g c code left rest ≡ s) (j : Judged) (end : List ℕ) (k : Comes storing base ram s j end) where
+    (i : scanned n g c code left rest ≡ s) (j : Judged) (final : List ℕ) (k : Comes storing base ram s j final) where
   -- the item is whole, and the reading goes on
-  pub goes : (d : Counter) → act ≡ Next d → Comes storing base ram₁ (scan n g d 1 1 rest) j end
+  pub goes : (d : Counter) → act ≡ Next d → Comes storing base ram₁ (scan n g d 1 1 rest) j final
   goes d q =
       let x = itemOf code in
       let more = scan n g d 1 1 rest in
@@ -106,7 +106,7 @@ module _ (n : ℕ) (g : Target) (c : Counter) (code left : ℕ) (rest : List Bit
       )
 
   -- or it breaks off
-  pub halts : (why stop : Stop) (ram₂ : List ℕ) → act ≡ Halt why → stop ≡ why → ram₂ ≡ ram₁ → (settled n stop rest ≡ j) × (ram₂ ≡ end)
+  pub halts : (why stop : Stop) (ram₂ : List ℕ) → act ≡ Halt why → stop ≡ why → ram₂ ≡ ram₁ → (settled n stop rest ≡ j) × (ram₂ ≡ final)
   halts why stop ram₂ q f r =
       let x = itemOf code in
       let w : stops (settled n why rest) ≡ s =
@@ -116,20 +116,20 @@ module _ (n : ℕ) (g : Target) (c : Counter) (code left : ℕ) (rest : List Bit
       )
 
 -- the reading breaks off at the end of input
-pub stopped : (n : ℕ) (rest : List Bit) (storing : Bool) (base : ℕ) (ram ram₁ : List ℕ) (s : Scan) (stop : Stop) (j : Judged) (end : List ℕ)
-    → stops (judgedAt n end-of-input) ≡ s → Comes storing base ram s j end → stop ≡ Exhausted → ram₁ ≡ ram → (settled n stop rest ≡ j) × (ram₁ ≡ end)
-stopped n rest storing base ram ram₁ s stop j end e k f r = (
+pub stopped : (n : ℕ) (rest : List Bit) (storing : Bool) (base : ℕ) (ram ram₁ : List ℕ) (s : Scan) (stop : Stop) (j : Judged) (final : List ℕ)
+    → stops (judgedAt n end-of-input) ≡ s → Comes storing base ram s j final → stop ≡ Exhausted → ram₁ ≡ ram → (settled n stop rest ≡ j) × (ram₁ ≡ final)
+stopped n rest storing base ram ram₁ s stop j final e k f r = (
   ap (λ (y : Stop). settled n y rest) f ∙ ap (λ (z : Scan). z .judged) e ∙ k .0,
   r ∙ put-none storing base ram ∙ ap (λ (z : Scan). putWhere storing base ram (z .puts)) e ∙ k .1,
 )
 
-pub finished : {r settled j : Judged} {ram end : List ℕ} → r ≡ settled → (settled ≡ j) × (ram ≡ end) → (r ≡ j) × (ram ≡ end)
+pub finished : {r settled j : Judged} {ram final : List ℕ} → r ≡ settled → (settled ≡ j) × (ram ≡ final) → (r ≡ j) × (ram ≡ final)
 finished e h = (e ∙ h .0, h .1)
 
--- the reading begins
-pub begins : (stream : List ℕ) (g : Target) (c : Counter) (storing : Bool) (base : ℕ) (ram : List ℕ)
+-- the reading starts
+pub starts : (stream : List ℕ) (g : Target) (c : Counter) (storing : Bool) (base : ℕ) (ram : List ℕ)
     → Comes storing base ram (scan (length (lookedAt stream)) g c 1 1 (drop 0 (streamBits stream))) (judged g c stream) (putWhere storing base ram (storedBefore g c stream))
-begins stream g c storing base ram =
+starts stream g c storing base ram =
     let e = scan-stream g c stream in
     (ap (λ (s : Scan). s .judged) e, ap (λ (s : Scan). putWhere storing base ram (s .puts)) e)
 

@@ -34,9 +34,9 @@ ended-taken : (n : ℕ) (items : List Item) (rest : List Bit) → AllFit items �
 ended-taken n [] rest fit l = rw (taken-step n (endBits ++ rest) l, first-end rest)
 ended-taken n (i ∷ items) rest fit l =
     let bits = (itemBits i ++ allBits items) ++ (endBits ++ rest) in
-    let after = allBits items ++ (endBits ++ rest) in
-    let b : Begins bits i after = record { fits = fit .0; are = append-assoc (itemBits i) (allBits items) (endBits ++ rest) } in
-    rw (taken-step n bits l, b .are, first-item i after (fit .0), ended-taken (pred n) items rest (fit .1) (begins-less n b l))
+    let behind = allBits items ++ (endBits ++ rest) in
+    let b : Begins bits i behind = record { fits = fit .0; are = append-assoc (itemBits i) (allBits items) (endBits ++ rest) } in
+    rw (taken-step n bits l, b .are, first-item i behind (fit .0), ended-taken (pred n) items rest (fit .1) (begins-less n b l))
 
 module _ (stream : List ℕ) (items : List Item) (b : ℕ) (m : IsModule stream items b) where
   -- behind the end item: the padding, and the bytes that are not looked at

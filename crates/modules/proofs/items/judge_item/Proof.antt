@@ -1,5 +1,5 @@
 -- `items::judge_item` meets its contract, test by test.
-use Rattle.modules.specs.Laws.Performs.{Seen, judge-page, judge-range, judge-guard, judge-next, page-inside, item-inside, next-counts}
+use Rattle.modules.specs.Laws.Acts.{Seen, judge-page, judge-range, judge-guard, judge-next, page-inside, item-inside, next-counts}
 use borrow.Author.Needs.{needs}
 use Rattle.modules.proofs.items.judge_item.Statement.{statement}
 use Rattle.modules.proofs.items.judge_item.Tie as tie

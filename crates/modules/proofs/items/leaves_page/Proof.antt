@@ -1,5 +1,5 @@
 -- `items::leaves_page` meets its contract.
-use Rattle.modules.specs.Laws.Acts.{leaves-by}
+use Rattle.modules.specs.Laws.Puts.{leaves-by}
 use borrow.Author.Needs.{needs}
 use Rattle.modules.proofs.items.leaves_page.Statement.{statement}
 use Rattle.modules.proofs.items.leaves_page.Tie as tie

@@ -1,5 +1,5 @@
 -- `items::next` meets its contract, item by item.
-use Rattle.modules.specs.Laws.Acts.{moves-by}
+use Rattle.modules.specs.Laws.Puts.{moves-by}
 use borrow.Author.Needs.{needs}
 use Rattle.modules.proofs.items.next.Statement.{statement}
 use Rattle.modules.proofs.items.next.Tie as tie

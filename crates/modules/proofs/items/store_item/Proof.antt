@@ -3,7 +3,7 @@ use denote.Ref.{now}
 use Prim.Native.Nat.{_+_, _<_}
 use native.Mathlib.Omega.{arith}
 use lib.ListN.{length, length-set}
-use Rattle.modules.specs.Laws.Acts.{byte-room, byte-put, word-room, word-put}
+use Rattle.modules.specs.Laws.Puts.{byte-room, byte-put, word-room, word-put}
 use borrow.Author.Needs.{needs}
 use Rattle.modules.proofs.items.store_item.Statement.{statement}
 use Rattle.modules.proofs.items.store_item.Tie as tie

@@ -2,7 +2,7 @@
 use mathlib.Core.Path.{_≡_}
 use Prim.Native.Nat.{_*_}
 use Rattle.modules.specs.Within.Acts.{actOf}
-use Rattle.modules.specs.Laws.Performs.{act-end, act-illegal, act-item, act-inside, item-paged, put-none, put-where, put-halted}
+use Rattle.modules.specs.Laws.Acts.{act-end, act-illegal, act-item, act-inside, item-paged, put-none, put-where, put-halted}
 use borrow.Author.Needs.{needs}
 use Rattle.modules.proofs.reader.perform.Statement.{statement}
 use Rattle.modules.proofs.reader.perform.Tie as tie

@@ -14,7 +14,7 @@ use Rattle.modules.specs.Within.Acts.{putWhere}
 use Rattle.modules.specs.Within.Scan.{scan, scanned, storedBefore}
 use Rattle.modules.specs.Laws.Codes.{coded-one, coded-on, taken-few, shifted-is, shifted-fits}
 use Rattle.modules.specs.Laws.Positions.{number-at}
-use Rattle.modules.specs.Laws.Turns.{Comes, begins, turn, ran-out, goes, halts, stopped, finished, next-counter}
+use Rattle.modules.specs.Laws.Turns.{Comes, starts, turn, ran-out, goes, halts, stopped, finished, next-counter}
 use Rattle.modules.proofs.reader.read.Statement.{statement}
 use Rattle.modules.proofs.reader.read.Tie as tie
 
@@ -42,7 +42,7 @@ mul-end : tie.Need-mul-end Inv-loop μ-loop Inv-reader μ-reader
 mul-end c = omega (arith, c .looked .ensures .1)
 
 reader-holds : tie.Need-reader-holds Inv-loop μ-loop Inv-reader μ-reader
-reader-holds c = let s = c .before .before .before in (omega arith, refl, s .pre .0, begins (now (s .args .stream)) (s .args .target) (s .args .start) (s .args .storing) (16384 * s .args .target .row) (now (s .args .ram)))
+reader-holds c = let s = c .before .before .before in (omega arith, refl, s .pre .0, starts (now (s .args .stream)) (s .args .target) (s .args .start) (s .args .storing) (16384 * s .args .target .row) (now (s .args .ram)))
 
 window-requires : tie.Need-window-requires Inv-loop μ-loop Inv-reader μ-reader
 window-requires c κs = omega (arith, c .before .looked .ensures .1, c .reader .inv .0)
