@@ -92,27 +92,28 @@ module _ (stream : List ℕ) (n : ℕ) (g : Target) (c : Counter) (code left at 
 module _ (n : ℕ) (g : Target) (c : Counter) (code left : ℕ) (rest : List Bit) (act : Act) (l : left ≤ 0) (e : act ≡ actOf g c code)
     (storing : Bool) (base : ℕ) (ram ram₁ : List ℕ) (p : ram₁ ≡ putWhere storing base ram (actPuts act c (itemOf code))) (s : Scan)
     (i : scanned n g c code left rest ≡ s) (j : Judged) (final : List ℕ) (k : Comes storing base ram s j final) where
+  scanned-by : (a : Act) → act ≡ a → byAct n a c (itemOf code) rest (λ d. scan n g d 1 1 rest) ≡ s
+  scanned-by a q = sym (whole-act n g c code left rest a l (sym q ∙ e)) ∙ i
+
+  stored-by : (a : Act) → act ≡ a → ram₁ ≡ putWhere storing base ram (actPuts a c (itemOf code))
+  stored-by a q = p ∙ ap (λ (a : Act). putWhere storing base ram (actPuts a c (itemOf code))) q
+
   -- the item is whole, and the reading goes on
   pub goes : (d : Counter) → act ≡ Next d → Comes storing base ram₁ (scan n g d 1 1 rest) j final
   goes d q =
-      let x = itemOf code in
       let more = scan n g d 1 1 rest in
-      let w : record { judged = more .judged; puts = putsAt c x ++ more .puts } ≡ s =
-      sym (whole-act n g c code left rest act l e ∙ ap (λ (a : Act). byAct n a c x rest (λ d. scan n g d 1 1 rest)) q) ∙ i in
-      let r : ram₁ ≡ putWhere storing base ram (putsAt c x) = p ∙ ap (λ (a : Act). putWhere storing base ram (actPuts a c x)) q in (
+      let w = scanned-by (Next d) q in (
         ap (λ (z : Scan). z .judged) w ∙ k .0,
-        ap (λ (z : List ℕ). putWhere storing base z (more .puts)) r ∙ put-more storing base ram (putsAt c x) (more .puts)
+        ap (λ (z : List ℕ). putWhere storing base z (more .puts)) (stored-by (Next d) q) ∙ put-more storing base ram (putsAt c (itemOf code)) (more .puts)
             ∙ ap (λ (z : Scan). putWhere storing base ram (z .puts)) w ∙ k .1,
       )
 
   -- or it breaks off
   pub halts : (why stop : Stop) (ram₂ : List ℕ) → act ≡ Halt why → stop ≡ why → ram₂ ≡ ram₁ → (settled n stop rest ≡ j) × (ram₂ ≡ final)
   halts why stop ram₂ q f r =
-      let x = itemOf code in
-      let w : stops (settled n why rest) ≡ s =
-      sym (whole-act n g c code left rest act l e ∙ ap (λ (a : Act). byAct n a c x rest (λ d. scan n g d 1 1 rest)) q) ∙ i in (
+      let w = scanned-by (Halt why) q in (
         ap (λ (y : Stop). settled n y rest) f ∙ ap (λ (z : Scan). z .judged) w ∙ k .0,
-        r ∙ p ∙ ap (λ (a : Act). putWhere storing base ram (actPuts a c x)) q ∙ ap (λ (z : Scan). putWhere storing base ram (z .puts)) w ∙ k .1,
+        r ∙ stored-by (Halt why) q ∙ ap (λ (z : Scan). putWhere storing base ram (z .puts)) w ∙ k .1,
       )
 
 -- the reading breaks off at the end of input
