@@ -1,6 +1,6 @@
 -- The padding, as one number.
 use mathlib.Core.Path.{_≡_, refl, sym, _∙_}
-use mathlib.Core.Bool.{true, false}
+use mathlib.Core.Bool.{true}
 use mathlib.Core.List.{List, [], _∷_}
 use Prim.Native.Nat.{ℕ, _+_, _-_, _*_, _/_, _%_, _≤_}
 use native.Mathlib.Omega.{arith}
@@ -27,20 +27,21 @@ zeros-number (I ∷ bits) =
 -- what the end item is judged to be; `left` is how many bits its byte has behind it
 module _ (stream : List ℕ) (at left : ℕ) (low : at ≤ 8 * length (lookedAt stream)) (few : left ≡ (8 - at % 8) % 8) (x : ℕ)
     (e : x ≡ numberOf 0 (take left (drop at (bitsIn stream)))) where
-  padding : eqb x 0 ≡ zeros (take (length (drop at (streamBits stream)) % 8) (drop at (streamBits stream)))
+  abbrev rest : List Bit
+  rest = drop at (streamBits stream)
+
+  padding : eqb x 0 ≡ zeros (take (length rest % 8) rest)
   padding =
       let l = rest-length stream at in
-      let k : length (drop at (streamBits stream)) % 8 ≡ left = omega arith in
-      rw (k, e, looked-bits stream at left (omega arith)) (zeros-number (take left (drop at (streamBits stream))))
+      let k : length rest % 8 ≡ left = omega arith in
+      rw (k, e, looked-bits stream at left (omega arith)) (zeros-number (take left rest))
 
-  pub ended-whole : x ≡ 0 → Whole ((at + 7) / 8) ≡ judgedAt (length (lookedAt stream)) (end (drop at (streamBits stream)))
+  pub ended-whole : x ≡ 0 → Whole ((at + 7) / 8) ≡ judgedAt (length (lookedAt stream)) (end rest)
   ended-whole z =
       let l = rest-length stream at in
-      let b : length (lookedAt stream) - length (drop at (streamBits stream)) / 8 ≡ (at + 7) / 8 = omega arith in
-      let t : zeros (take (length (drop at (streamBits stream)) % 8) (drop at (streamBits stream))) ≡ true = sym padding ∙ rw z in
+      let b : length (lookedAt stream) - length rest / 8 ≡ (at + 7) / 8 = omega arith in
+      let t : zeros (take (length rest % 8) rest) ≡ true = sym padding ∙ rw z in
       rw (t, b)
 
-  pub ended-bad : (x ≡ 0 → ⊥) → Module ≡ judgedAt (length (lookedAt stream)) (end (drop at (streamBits stream)))
-  ended-bad z =
-      let f : zeros (take (length (drop at (streamBits stream)) % 8) (drop at (streamBits stream))) ≡ false = sym padding ∙ ne-eqb x 0 z in
-      rw f
+  pub ended-bad : (x ≡ 0 → ⊥) → Module ≡ judgedAt (length (lookedAt stream)) (end rest)
+  ended-bad z = rw (sym padding ∙ ne-eqb x 0 z)
