@@ -6,7 +6,7 @@ use Prim.Native.Nat.{ℕ, _+_, _≤_, _<_}
 use native.Mathlib.Omega.{arith}
 use Rattle.rows.specs.Laws.Says.{says-no}
 use Rattle.line.specs.Definition.Guard.{guarded}
-use Rattle.modules.specs.Definition.Reading.{Taken, takenOf}
+use Rattle.modules.specs.Definition.Reading.{takenOf}
 use Rattle.modules.specs.Definition.Counter.{Put, putsAt, putsOf}
 use Rattle.modules.specs.Definition.Judging.{touches, judged, refusalOf}
 use Rattle.modules.specs.Laws.Tests.{says-fails, guarded-says}

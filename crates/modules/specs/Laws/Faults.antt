@@ -1,24 +1,21 @@
 -- What a stream is judged to be is what the definition of faults says in propositions: `judged` is refused exactly as `Refused` says.
--- A counter's offset is at most 16,384: the call asks that before, and every item without fault keeps it.
 use mathlib.Core.Path.{_≡_, refl, sym, _∙_}
 use mathlib.Core.Bool.{Bool, true, false, cond, false≢true}
 use mathlib.Core.List.{List, [], _∷_, _++_}
 use Prim.Native.Nat.{ℕ, zero, suc, pred, _%_, _≤_, _<_}
-use native.Mathlib.Nat.{not-suc-le-zero, le-of-suc-le-suc, le-refl, mod-lt}
+use native.Mathlib.Nat.{not-suc-le-zero, le-of-suc-le-suc, le-refl}
 use native.Mathlib.Omega.{arith}
-use borrow.Author.Tests.{ltb-false}
 use lib.ListN.{length, take, getD}
 use Rattle.rows.specs.Laws.Says.{Says, says-no}
 use Rattle.modules.specs.Definition.Bits.{Bit, O, I}
 use Rattle.modules.specs.Definition.Items.{endBits, illegalBits}
 use Rattle.modules.specs.Definition.Reading.{First, end, Taken, takenBy, first, takenIn, lookedAt, streamBits}
-use Rattle.modules.specs.Definition.Counter.{pageSize, landing, after}
+use Rattle.modules.specs.Definition.Counter.{after}
 use Rattle.modules.specs.Definition.Judging.{faultOr, judgedOr, zeros, judgedAt, judged, refusalOf}
 use Rattle.modules.specs.Definition.Faults.{RunsOut, Outside, Above, Touches, Faultless, Begins, Refused}
 use Rattle.modules.specs.Laws.Items.{first-item, first-end, first-illegal, item-stands, end-stands, illegal-stands, short-runs-out, runs-out-short, taken-step, begins-less}
 use Rattle.modules.specs.Laws.Tests.{says-fails, outside-says, above-says, touches-says}
 use Rattle.modules.specs.declared.Item.{Item}
-use Rattle.modules.specs.declared.Item.the-variants.{Byte, Word, SetPage, Restore, Move}
 use Rattle.modules.specs.declared.Counter.{Counter}
 use Rattle.modules.specs.declared.Target.{Target}
 use Rattle.modules.specs.declared.Judged.{Judged}

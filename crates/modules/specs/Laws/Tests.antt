@@ -1,11 +1,10 @@
 -- The tests of one item say what the definition of faults says in propositions.
 use mathlib.Core.Path.{_≡_, sym, _∙_}
-use mathlib.Core.Logic.{_≢_, _⊎_, inl, inr, ⊎-elim}
+use mathlib.Core.Logic.{_⊎_, inl, inr, ⊎-elim}
 use mathlib.Core.Bool.{Bool, true, false, false≢true}
 use Prim.Native.Nat.{ℕ, _+_, _/_, _≤_, _<_}
 use native.Mathlib.Decide.{decLe, decLt}
 use native.Mathlib.Omega.{arith}
-use lib.Dec.{ltb}
 use Rattle.rows.specs.Laws.Says.{Says, says-lt, says-eq, says-and, says-or, says-not, says-as, says-true}
 use Rattle.line.specs.Definition.Guard.{GuardedByte, guarded}
 use Rattle.modules.specs.Definition.Counter.{pageSize, landing, sizeOf}

@@ -10,7 +10,7 @@ use lib.Seq.{length-take-le, take-append-add, take-at}
 use Rattle.modules.specs.Definition.Bits.{Bit, O, I, bitsIn}
 use Rattle.modules.specs.Definition.Items.{itemBits, endBits, AllFit, allBits, IsModule}
 use Rattle.modules.specs.Definition.Reading.{First, Break, end, illegal-item, end-of-input, Taken, takenBy, first, takenIn, lookedAt, streamBits, takenOf}
-use Rattle.modules.specs.Definition.Counter.{pageSize, after}
+use Rattle.modules.specs.Definition.Counter.{after}
 use Rattle.modules.specs.Definition.Judging.{judgedOr, zeros, judgedAt, judged, refusalOf}
 use Rattle.modules.specs.Definition.Faults.{Faultless, FaultlessFrom, Begins}
 use Rattle.modules.specs.Laws.Stored.{passed}

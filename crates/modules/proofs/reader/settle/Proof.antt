@@ -1,13 +1,25 @@
 -- `reader::settle` meets its contract, stop by stop.
 use denote.Ref.{now}
-use mathlib.Core.Path.{refl, _∙_}
-use Prim.Native.Nat.{_/_}
+use mathlib.Core.Path.{_≡_, refl, _∙_}
+use Prim.Native.Nat.{_-_, _/_, _%_}
 use native.Mathlib.Omega.{arith}
+use lib.ListN.{take, drop}
+use Rattle.modules.specs.Definition.Bits.{numberOf, bitsIn}
 use Rattle.modules.specs.Laws.Positions.{looked-within, number-at}
 use Rattle.modules.specs.Laws.Padding.{ended-whole, ended-bad}
 use borrow.Author.Needs.{needs}
 use Rattle.modules.proofs.reader.settle.Statement.{statement}
 use Rattle.modules.proofs.reader.settle.Tie as tie
+
+-- the number of the bits behind the end item, in its last byte
+number : (c : tie.After-bits-of)
+    → let a = c .before .before .before .before .before .args in
+    c .bits-of .result ≡ numberOf 0 (take ((8 - a .at % 8) % 8) (drop (a .at) (bitsIn (now (a .stream)))))
+number c =
+    let s = c .before .before .before .before .before in
+    c .bits-of .ensures .0
+    ∙ number-at (now (s .args .stream)) (s .args .at / 8) (s .args .at) _ (omega (arith, s .pre, looked-within (now (s .args .stream)))) (omega arith) (omega arith) _ _
+    (c .before .window .ensures .0) (omega arith)
 
 enum-told : tie.Need-enum-told
 enum-told c = search needs
@@ -51,12 +63,12 @@ enum-told-6 c = search needs
 returns : tie.Need-returns
 returns c =
     let s = c .before .before .before .before .before .before in
-    rw (c .before .before .before .enum-told .given .1) (ended-whole (now (s .args .stream)) (s .args .at) _ (s .pre) refl _ (c .before .bits-of .ensures .0 ∙ number-at (now (s .args .stream)) (s .args .at / 8) (s .args .at) _ (omega (arith, s .pre, looked-within (now (s .args .stream)))) (omega arith) (omega arith) _ _ (c .before .before .window .ensures .0) (omega arith)) (c .if1 .taken))
+    rw (c .before .before .before .enum-told .given .1) (ended-whole (now (s .args .stream)) (s .args .at) _ (s .pre) refl _ (number (c .before)) (c .if1 .taken))
 
 returns-2 : tie.Need-returns-2
 returns-2 c =
     let s = c .before .before .before .before .before .before in
-    rw (c .before .before .before .enum-told .given .1) (ended-bad (now (s .args .stream)) (s .args .at) _ (s .pre) refl _ (c .before .bits-of .ensures .0 ∙ number-at (now (s .args .stream)) (s .args .at / 8) (s .args .at) _ (omega (arith, s .pre, looked-within (now (s .args .stream)))) (omega arith) (omega arith) _ _ (c .before .before .window .ensures .0) (omega arith)) (c .if1 .left))
+    rw (c .before .before .before .enum-told .given .1) (ended-bad (now (s .args .stream)) (s .args .at) _ (s .pre) refl _ (number (c .before)) (c .if1 .left))
 
 returns-3 : tie.Need-returns-3
 returns-3 c = search needs
