@@ -81,19 +81,21 @@ module _ (s : List ℕ) (i at k : ℕ) (h : at + k ≤ 8 * length s) (from : 8 *
       let e : 8 * i + skipped ≡ at = omega arith in
       rw (bytes-drop i s, drop-drop skipped (8 * i) (bitsIn s), e)
 
-  bits-window : (a b c d : ℕ) → a ≡ getD s i 0 → b ≡ getD s (i + 1) 0 → c ≡ getD s (i + 2) 0 → d ≡ getD s (i + 3) 0 → b < 256 → c < 256 → d < 256
-      → take k (drop at (bitsIn s)) ≡ take k (drop skipped (bitsOf 32 (16777216 * a + 65536 * b + 256 * c + d)))
-  bits-window a b c d p q r t l m n =
+  bits-window : getD s (i + 1) 0 < 256 → getD s (i + 2) 0 < 256 → getD s (i + 3) 0 < 256
+      → take k (drop at (bitsIn s)) ≡ take k (drop skipped (bitsOf 32 (windowAt s i)))
+  bits-window l m n =
       let u = drop i s in
       let f = first-four u in
+      let a = getD s i 0 in
+      let b = getD s (i + 1) 0 in
+      let c = getD s (i + 2) 0 in
+      let d = getD s (i + 3) 0 in
       let w = bitsOf 8 a ++ (bitsOf 8 b ++ (bitsOf 8 c ++ bitsOf 8 d)) in
       let zeros : List ℕ = 0 ∷ 0 ∷ 0 ∷ 0 ∷ [] in
       let z : i + 0 ≡ i = omega arith in
-      let a′ : getD u 0 0 ≡ a = getD-drop i s 0 0 ∙ rw (z, p) in
-      let b′ : getD u 1 0 ≡ b = getD-drop i s 1 0 ∙ sym q in
-      let c′ : getD u 2 0 ≡ c = getD-drop i s 2 0 ∙ sym r in
-      let d′ : getD u 3 0 ≡ d = getD-drop i s 3 0 ∙ sym t in
-      let all : bitsIn u ++ bitsIn zeros ≡ w ++ f .0 = sym (bytes-append u zeros) ∙ f .1 ∙ rw (a′, b′, c′, d′, append-assoc, append-assoc, append-assoc) in
+      let first : getD u 0 0 ≡ a = getD-drop i s 0 0 ∙ rw z in
+      let all : bitsIn u ++ bitsIn zeros ≡ w ++ f .0 = sym (bytes-append u zeros) ∙ f .1
+      ∙ rw (first, getD-drop i s 1 0, getD-drop i s 2 0, getD-drop i s 3 0, append-assoc, append-assoc, append-assoc) in
       let o : length (bitsIn u) ≡ 8 * (length s - i) = bytes-length u ∙ rw (length-drop i s) in
       let e : length w ≡ 32 = rw (length-append, length-append, length-append, bits-length 8 a, bits-length 8 b, bits-length 8 c, bits-length 8 d) in
       part-from ∙ sym (part-append skipped k (bitsIn u) (bitsIn zeros) (omega arith)) ∙ ap (λ (bits : List Bit). take k (drop skipped bits)) all
@@ -102,8 +104,8 @@ module _ (s : List ℕ) (i at k : ℕ) (h : at + k ≤ 8 * length s) (from : 8 *
   -- their number, out of what is held of the stream
   pub number-at : (x low : ℕ) → Window s i x → low ≡ 8 * i + 32 - (at + k) → x / 2 ^ low % 2 ^ k ≡ numberOf 0 (take k (drop at (bitsIn s)))
   number-at x low w e =
-      let b = bits-window (getD s i 0) (getD s (i + 1) 0) (getD s (i + 2) 0) (getD s (i + 3) 0) refl refl refl refl (w .second) (w .third) (w .fourth) in
-      rw (w .is) (sym (ap (λ (bits : List Bit). numberOf 0 bits) b ∙ bits-within skipped k low 32 (windowAt s i) (omega arith)))
+      rw (w .is)
+      (sym (ap (λ (bits : List Bit). numberOf 0 bits) (bits-window (w .second) (w .third) (w .fourth)) ∙ bits-within skipped k low 32 (windowAt s i) (omega arith)))
 
 -- ---- of the bytes that are looked at
 
