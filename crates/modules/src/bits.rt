@@ -33,18 +33,18 @@ pub fn bits_of(window: usize, low: usize, count: usize) -> usize
     (window >> low) % (1 << count)
 }
 
-// How many bits an item wants, once its bits so far are `code` behind a leading 1.
+// How many bits an item wants, once its bits so far, three at least, are `code` behind a leading 1.
 pub fn wanted(code: usize) -> usize
     ensures { λ r. ⌜ r ≡ wants code 0 ⌝ }
 {
+    if code <= 12 {
+        return if code < 12 { 6 } else { 16 };
+    }
     match code {
-        2 => 8,
-        3 => 2,
-        12 => 16,
-        13 => 1,
-        26 => 1,
-        27 => 16,
+        13 => 2,
         52 => 2,
+        54 => 15,
+        55 => 15,
         _ => 0,
     }
 }

@@ -90,7 +90,7 @@ pub fn read(stream: &[u8], start: Counter, target: Target, storing: bool, ram: &
         let first = at / 8;
         let held = window(stream, first);
         let mut code: usize = 1;
-        let mut left: usize = 1;
+        let mut left: usize = 3;
         while 0 < left {
             let next = at + left;
             if end < next {

@@ -5,8 +5,8 @@ use Prim.Native.Nat.{ℕ, _+_, _-_, _*_, _%_, _^_, _≤_, _<_}
 use native.Mathlib.Nat.{mul-le-mul-right}
 use native.Mathlib.Decide.{decLe}
 use native.Mathlib.Omega.{arith}
-use borrow.Author.Tests.{lt-ltb, le-ltb, ne-eqb, eqb-true}
-use lib.Dec.{eqb}
+use borrow.Author.Tests.{lt-ltb, le-ltb, ltb-true, ne-eqb, eqb-true}
+use lib.Dec.{ltb, eqb}
 use lib.Pow.{pow-mono, pow-add}
 use Rattle.modules.specs.Within.Codes.{wants, itemOf, Coded}
 use Rattle.modules.specs.declared.Item.the-variants.{Byte, Word, SetPage, Restore, Move}
@@ -15,21 +15,26 @@ pub wants-left : (code left : ℕ) → 0 < left → left ≡ wants code left
 unfolding wants
 wants-left code left h = rw (lt-ltb 0 left h)
 
-pub wants-key : (code left k r : ℕ) → left ≤ 0 → code ≡ k → r ≡ wants k 0 → r ≡ wants code left
+pub wants-byte : (code : ℕ) → code < 12 → 6 ≡ wants code 0
 unfolding wants
-wants-key code left k r h e q = rw (e, le-ltb 0 left h) q
+wants-byte code h = rw (lt-ltb code 12 h)
 
-pub wants-none : (code left : ℕ) → left ≤ 0 → (code ≡ 2 → ⊥) → (code ≡ 3 → ⊥) → (code ≡ 12 → ⊥) → (code ≡ 13 → ⊥) → (code ≡ 26 → ⊥) → (code ≡ 27 → ⊥)
-    → (code ≡ 52 → ⊥) → 0 ≡ wants code left
+pub wants-word : (code : ℕ) → code ≤ 12 → 12 ≤ code → 16 ≡ wants code 0
 unfolding wants
-wants-none code left h a b d e f g i =
-    rw (le-ltb 0 left h, ne-eqb code 2 a, ne-eqb code 3 b, ne-eqb code 12 d, ne-eqb code 13 e, ne-eqb code 26 f, ne-eqb code 27 g, ne-eqb code 52 i)
+wants-word code h l = let e : code ≡ 12 = omega arith in rw e
 
--- 52 is the highest code that wants a bit
-pub wants-high : (code : ℕ) → 53 ≤ code → wants code 0 ≡ 0
-wants-high code h =
-    let e = wants-none code 0 (omega arith) (λ q. omega arith) (λ q. omega arith) (λ q. omega arith) (λ q. omega arith) (λ q. omega arith) (λ q. omega arith) (λ q. omega arith) in
-    rw (← e)
+pub wants-key : (code k r : ℕ) → code ≡ k → r ≡ wants k 0 → r ≡ wants code 0
+wants-key code k r e q = rw e q
+
+pub wants-none : (code : ℕ) → 12 < code → (code ≡ 13 → ⊥) → (code ≡ 52 → ⊥) → (code ≡ 54 → ⊥) → (code ≡ 55 → ⊥) → 0 ≡ wants code 0
+unfolding wants
+wants-none code h a b d e =
+    let l : 12 ≤ code = omega arith in
+    rw (le-ltb code 12 l, ne-eqb code 12 (λ q. omega arith), ne-eqb code 13 a, ne-eqb code 52 b, ne-eqb code 54 d, ne-eqb code 55 e)
+
+-- 55 is the highest code that wants a bit
+pub wants-high : (code : ℕ) → 56 ≤ code → wants code 0 ≡ 0
+wants-high code h = rw (← wants-none code (omega arith) (λ q. omega arith) (λ q. omega arith) (λ q. omega arith) (λ q. omega arith))
 
 module _ (code : ℕ) where
   pub item-restore : code ≡ 53 → Restore ≡ itemOf code
@@ -57,35 +62,34 @@ module _ (code : ℕ) where
         rw (ne-eqb code 53 a, le-ltb code 256 j, le-ltb code 768 k, le-ltb code 851968 l)
 
 -- a code that wants bits is low
-wants-by : (code : ℕ) (a b c d e f g : Bool) → eqb code 2 ≡ a → eqb code 3 ≡ b → eqb code 12 ≡ c → eqb code 13 ≡ d → eqb code 26 ≡ e → eqb code 27 ≡ f
-    → eqb code 52 ≡ g → (wants code 0 ≤ 16) × (0 < wants code 0 → code ≤ 52)
+wants-by : (code : ℕ) (a b c d e f : Bool) → ltb code 12 ≡ a → eqb code 12 ≡ b → eqb code 13 ≡ c → eqb code 52 ≡ d → eqb code 54 ≡ e → eqb code 55 ≡ f
+    → (wants code 0 ≤ 16) × (0 < wants code 0 → code ≤ 55)
 unfolding wants
-wants-by code true b c d e f g p q r s t u v = rw (eqb-true code 2 p) (omega arith)
-wants-by code false true c d e f g p q r s t u v = rw (eqb-true code 3 q) (omega arith)
-wants-by code false false true d e f g p q r s t u v = rw (eqb-true code 12 r) (omega arith)
-wants-by code false false false true e f g p q r s t u v = rw (eqb-true code 13 s) (omega arith)
-wants-by code false false false false true f g p q r s t u v = rw (eqb-true code 26 t) (omega arith)
-wants-by code false false false false false true g p q r s t u v = rw (eqb-true code 27 u) (omega arith)
-wants-by code false false false false false false true p q r s t u v = rw (eqb-true code 52 v) (omega arith)
-wants-by code false false false false false false false p q r s t u v = rw (p, q, r, s, t, u, v) (omega arith, λ h. omega arith)
+wants-by code true b c d e f p q r s t u = let h = ltb-true code 12 p in rw p (omega arith, λ l. omega arith)
+wants-by code false true c d e f p q r s t u = rw (eqb-true code 12 q) (omega arith)
+wants-by code false false true d e f p q r s t u = rw (eqb-true code 13 r) (omega arith)
+wants-by code false false false true e f p q r s t u = rw (eqb-true code 52 s) (omega arith)
+wants-by code false false false false true f p q r s t u = rw (eqb-true code 54 t) (omega arith)
+wants-by code false false false false false true p q r s t u = rw (eqb-true code 55 u) (omega arith)
+wants-by code false false false false false false p q r s t u = rw (p, q, r, s, t, u) (omega arith, λ h. omega arith)
 
-wants-low : (code : ℕ) → (wants code 0 ≤ 16) × (0 < wants code 0 → code ≤ 52)
-wants-low code = wants-by code (eqb code 2) (eqb code 3) (eqb code 12) (eqb code 13) (eqb code 26) (eqb code 27) (eqb code 52) refl refl refl refl refl refl refl
+wants-low : (code : ℕ) → (wants code 0 ≤ 16) × (0 < wants code 0 → code ≤ 55)
+wants-low code = wants-by code (ltb code 12) (eqb code 12) (eqb code 13) (eqb code 52) (eqb code 54) (eqb code 55) refl refl refl refl refl refl
 
 module _ (taken code left : ℕ) (h : Coded taken code left) (some : 0 < left) where
   power-few : 2 ^ left ≤ 65536
   power-few = pow-mono {i = left} {j = 16} (h .few)
 
   -- the bits that a code wants fit behind it, in 64 bits
-  shifted-few : code * 2 ^ left ≤ 3407872
+  shifted-few : code * 2 ^ left ≤ 3604480
   shifted-few =
-      let m : code * 2 ^ left ≤ 52 * 2 ^ left = mul-le-mul-right (2 ^ left) (h .low some) in
+      let m : code * 2 ^ left ≤ 55 * 2 ^ left = mul-le-mul-right (2 ^ left) (h .low some) in
       omega (arith, power-few)
 
   pub shifted-is : code * 2 ^ left % 18446744073709551616 ≡ code * 2 ^ left
   shifted-is = omega (arith, shifted-few)
 
-  pub shifted-fits : code * 2 ^ left % 18446744073709551616 ≤ 3407872
+  pub shifted-fits : code * 2 ^ left % 18446744073709551616 ≤ 3604480
   shifted-fits = omega (arith, shifted-few)
 
   -- an item with those it wants has at most 21 bits
@@ -105,7 +109,7 @@ module _ (taken code left : ℕ) (h : Coded taken code left) (some : 0 < left) w
       record { leads = rw p (omega arith); few = rw f (l .0); low = rw f (l .1) }
 
 -- the same by positions: from where the item begins to where it is read
-pub coded-one : (at : ℕ) → Coded (at - at) 1 1
+pub coded-one : (at : ℕ) → Coded (at - at) 1 3
 coded-one at = let z : at - at ≡ 0 = omega arith in record { leads = rw z (omega arith); few = omega arith; low = λ h. omega arith }
 
 pub coded-on : (from at code left x y w : ℕ) → from ≤ at → Coded (at - from) code left → 0 < left → y ≡ code * 2 ^ left → w ≡ wants (y + x) 0

@@ -40,7 +40,7 @@ code-move x h =
 
 -- what stands first decides
 abbrev pub byFirst : (n : ℕ) → Target → Counter → First → Scan
-byFirst n g c (item i rest) = withItem g c i (scan n g (after (g .page) c i) 1 1 rest)
+byFirst n g c (item i rest) = withItem g c i (scan n g (after (g .page) c i) 1 3 rest)
 byFirst n g c (ends rest) = stops (judgedAt n (end rest))
 byFirst n g c illegal = stops (judgedAt n illegal-item)
 byFirst n g c runs-out = stops (judgedAt n end-of-input)
@@ -77,7 +77,7 @@ module _ (n : ℕ) (g : Target) (c : Counter) where
 
   -- a number behind an item's first bits
   number-item : (k code : ℕ) (made : ℕ → Item) (bits : List Bit)
-      → 0 < k → ((x : ℕ) → x < 2 ^ k → (53 ≤ code * 2 ^ k + x) × (itemOf (code * 2 ^ k + x) ≡ made x))
+      → 0 < k → ((x : ℕ) → x < 2 ^ k → (56 ≤ code * 2 ^ k + x) × (itemOf (code * 2 ^ k + x) ≡ made x))
       → scan n g c code k bits ≡ byFirst n g c (withNumber k made bits)
   unfolding whole withNumber
   number-item k code made bits some f = go (ltb (length bits) k) refl
@@ -95,18 +95,26 @@ module _ (n : ℕ) (g : Target) (c : Counter) where
           let high = h .0 in
           scan-take k code bits some m ∙ rw (z, wants-high y high, ne-eqb y 14 (λ q. omega arith), ne-eqb y 15 (λ q. omega arith), h .1)
 
-  pub scan-first : (bits : List Bit) → scan n g c 1 1 bits ≡ byFirst n g c (first bits)
+  pub scan-first : (bits : List Bit) → scan n g c 1 3 bits ≡ byFirst n g c (first bits)
   unfolding scan first wants whole itemOf
-  scan-first (O ∷ bits) = number-item 8 2 (λ x. Byte x) bits (omega arith) (λ x h. (omega arith, code-byte x h))
+  scan-first (O ∷ O ∷ O ∷ bits) = number-item 8 2 (λ x. Byte x) (O ∷ O ∷ bits) (omega arith) (λ x h. (omega arith, code-byte x h))
+  scan-first (O ∷ O ∷ I ∷ bits) = number-item 8 2 (λ x. Byte x) (O ∷ I ∷ bits) (omega arith) (λ x h. (omega arith, code-byte x h))
+  scan-first (O ∷ I ∷ O ∷ bits) = number-item 8 2 (λ x. Byte x) (I ∷ O ∷ bits) (omega arith) (λ x h. (omega arith, code-byte x h))
+  scan-first (O ∷ I ∷ I ∷ bits) = number-item 8 2 (λ x. Byte x) (I ∷ I ∷ bits) (omega arith) (λ x h. (omega arith, code-byte x h))
   scan-first (I ∷ O ∷ O ∷ bits) = number-item 16 12 (λ x. Word x) bits (omega arith) (λ x h. (omega arith, code-word x h))
   scan-first (I ∷ O ∷ I ∷ O ∷ O ∷ bits) = number-item 2 52 (λ x. SetPage x) bits (omega arith) (λ x h. (omega arith, code-page x h))
   scan-first (I ∷ O ∷ I ∷ O ∷ I ∷ bits) = refl
-  scan-first (I ∷ O ∷ I ∷ I ∷ bits) = number-item 16 27 (λ x. Move x) bits (omega arith) (λ x h. (omega arith, code-move x h))
+  scan-first (I ∷ O ∷ I ∷ I ∷ O ∷ bits) = number-item 16 27 (λ x. Move x) (O ∷ bits) (omega arith) (λ x h. (omega arith, code-move x h))
+  scan-first (I ∷ O ∷ I ∷ I ∷ I ∷ bits) = number-item 16 27 (λ x. Move x) (I ∷ bits) (omega arith) (λ x h. (omega arith, code-move x h))
   scan-first (I ∷ I ∷ O ∷ bits) = refl
   scan-first (I ∷ I ∷ I ∷ bits) = refl
+  scan-first (I ∷ O ∷ I ∷ I ∷ []) = refl
   scan-first (I ∷ O ∷ I ∷ O ∷ []) = refl
   scan-first (I ∷ O ∷ I ∷ []) = refl
+  scan-first (O ∷ O ∷ []) = refl
+  scan-first (O ∷ I ∷ []) = refl
   scan-first (I ∷ O ∷ []) = refl
   scan-first (I ∷ I ∷ []) = refl
+  scan-first (O ∷ []) = refl
   scan-first (I ∷ []) = refl
   scan-first [] = refl

@@ -31,14 +31,14 @@ with-item g c i false false true p q r j items = rw (p, q, r)
 with-item g c i false false false p q r j items = rw (p, q, r)
 
 module _ (n : ℕ) (g : Target) where
-  scan-in : (k : ℕ) (c : Counter) (bits : List Bit) → length bits ≤ k → scan n g c 1 1 bits ≡ taking n g c (takenIn k bits)
+  scan-in : (k : ℕ) (c : Counter) (bits : List Bit) → length bits ≤ k → scan n g c 1 3 bits ≡ taking n g c (takenIn k bits)
   unfolding takenIn judgedOr putsBefore scan
   scan-in zero c [] h = refl
   scan-in zero c (b ∷ bits) h = absurd (omega arith)
   scan-in (suc k) c bits h =
       scan-first n g c bits ∙ go (first bits) (first-stands bits) (λ d rest l. scan-in k d rest l)
     where
-      go : (f : First) → Stands bits f → ((d : Counter) (rest : List Bit) → length rest ≤ k → scan n g d 1 1 rest ≡ taking n g d (takenIn k rest))
+      go : (f : First) → Stands bits f → ((d : Counter) (rest : List Bit) → length rest ≤ k → scan n g d 1 3 rest ≡ taking n g d (takenIn k rest))
           → byFirst n g c f ≡ taking n g c (takenBy f (λ rest. takenIn k rest))
       go (item i rest) b more =
           let t = takenIn k rest in
@@ -51,7 +51,7 @@ module _ (n : ℕ) (g : Target) where
 
 -- of a whole stream
 pub scan-stream : (g : Target) (c : Counter) (stream : List ℕ)
-    → scan (length (lookedAt stream)) g c 1 1 (streamBits stream) ≡ record { judged = judged g c stream; puts = storedBefore g c stream }
+    → scan (length (lookedAt stream)) g c 1 3 (streamBits stream) ≡ record { judged = judged g c stream; puts = storedBefore g c stream }
 unfolding judged
 scan-stream g c stream = scan-in (length (lookedAt stream)) g (length (streamBits stream)) c (streamBits stream) (omega arith)
 

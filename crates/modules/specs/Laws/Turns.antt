@@ -61,9 +61,9 @@ whole-by n g c code rest more false false p q =
     rw (p, q) (item-act n g c x rest more (outside c x) (above g c x) (touches g c x) refl refl refl)
 
 whole-act : (n : ℕ) (g : Target) (c : Counter) (code left : ℕ) (rest : List Bit) (act : Act) → left ≤ 0 → act ≡ actOf g c code
-    → scanned n g c code left rest ≡ byAct n act c (itemOf code) rest (λ d. scan n g d 1 1 rest)
+    → scanned n g c code left rest ≡ byAct n act c (itemOf code) rest (λ d. scan n g d 1 3 rest)
 whole-act n g c code left rest act h e =
-    rw (eq-eqb left 0 (omega arith), e) (whole-by n g c code rest (λ d. scan n g d 1 1 rest) (eqb code 14) (eqb code 15) refl refl)
+    rw (eq-eqb left 0 (omega arith), e) (whole-by n g c code rest (λ d. scan n g d 1 3 rest) (eqb code 14) (eqb code 15) refl refl)
 
 -- what the reading will come to: what is judged, and the RAM
 abbrev pub Comes : (storing : Bool) (base : ℕ) (ram : List ℕ) → Scan → Judged → List ℕ → Type 0
@@ -92,16 +92,16 @@ module _ (stream : List ℕ) (n : ℕ) (g : Target) (c : Counter) (code left at 
 module _ (n : ℕ) (g : Target) (c : Counter) (code left : ℕ) (rest : List Bit) (act : Act) (l : left ≤ 0) (e : act ≡ actOf g c code)
     (storing : Bool) (base : ℕ) (ram ram₁ : List ℕ) (p : ram₁ ≡ putWhere storing base ram (actPuts act c (itemOf code))) (s : Scan)
     (i : scanned n g c code left rest ≡ s) (j : Judged) (final : List ℕ) (k : Comes storing base ram s j final) where
-  scanned-by : (a : Act) → act ≡ a → byAct n a c (itemOf code) rest (λ d. scan n g d 1 1 rest) ≡ s
+  scanned-by : (a : Act) → act ≡ a → byAct n a c (itemOf code) rest (λ d. scan n g d 1 3 rest) ≡ s
   scanned-by a q = sym (whole-act n g c code left rest a l (sym q ∙ e)) ∙ i
 
   stored-by : (a : Act) → act ≡ a → ram₁ ≡ putWhere storing base ram (actPuts a c (itemOf code))
   stored-by a q = p ∙ ap (λ (a : Act). putWhere storing base ram (actPuts a c (itemOf code))) q
 
   -- the item is whole, and the reading goes on
-  pub goes : (d : Counter) → act ≡ Next d → Comes storing base ram₁ (scan n g d 1 1 rest) j final
+  pub goes : (d : Counter) → act ≡ Next d → Comes storing base ram₁ (scan n g d 1 3 rest) j final
   goes d q =
-      let more = scan n g d 1 1 rest in
+      let more = scan n g d 1 3 rest in
       let w = scanned-by (Next d) q in (
         ap (λ (z : Scan). z .judged) w ∙ k .0,
         ap (λ (z : List ℕ). putWhere storing base z (more .puts)) (stored-by (Next d) q) ∙ put-more storing base ram (putsAt c (itemOf code)) (more .puts)
@@ -129,7 +129,7 @@ finished e h = (e ∙ h .0, h .1)
 
 -- the reading starts
 pub starts : (stream : List ℕ) (g : Target) (c : Counter) (storing : Bool) (base : ℕ) (ram : List ℕ)
-    → Comes storing base ram (scan (length (lookedAt stream)) g c 1 1 (drop 0 (streamBits stream))) (judged g c stream) (putWhere storing base ram (storedBefore g c stream))
+    → Comes storing base ram (scan (length (lookedAt stream)) g c 1 3 (drop 0 (streamBits stream))) (judged g c stream) (putWhere storing base ram (storedBefore g c stream))
 starts stream g c storing base ram =
     let e = scan-stream g c stream in
     (ap (λ (s : Scan). s .judged) e, ap (λ (s : Scan). putWhere storing base ram (s .puts)) e)

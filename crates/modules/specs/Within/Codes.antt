@@ -11,18 +11,17 @@ abbrev pub withBit : (code : ℕ) → Bit → ℕ
 withBit code O = 2 * code
 withBit code I = 2 * code + 1
 
--- how many bits are still wanted where the item's first bits wanted `left` more: `0` is 2, `1` is 3, `100` is 12, `101` is 13, `1010` is 26, `1011` is 27, and
--- `10100` is 52
+-- how many bits are still wanted. No item has less than three: `0xx`, of a byte, is 8 to 11 and wants six more, `100` is 12, `101` is 13; behind it `10100` is 52, and
+-- `10110` and `10111`, of a move, are 54 and 55
 unfoldable pub wants : (code left : ℕ) → ℕ
 wants code left =
     cond (ltb 0 left) left
-    (cond (eqb code 2) 8
-    (cond (eqb code 3) 2
+    (cond (ltb code 12) 6
     (cond (eqb code 12) 16
-    (cond (eqb code 13) 1
-    (cond (eqb code 26) 1
-    (cond (eqb code 27) 16
-    (cond (eqb code 52) 2 0)))))))
+    (cond (eqb code 13) 2
+    (cond (eqb code 52) 2
+    (cond (eqb code 54) 15
+    (cond (eqb code 55) 15 0))))))
 
 -- the item of all its bits, where they are neither the end item's (`110` is 14) nor illegal (`111` is 15): `10101` is 53, a page is from 208, a byte from 512,
 -- a word from 786,432 and a move from 1,769,472 on
@@ -37,4 +36,4 @@ itemOf code =
 pub record Coded (taken code left : ℕ) : Type 0 where
   pub leads : 2 ^ taken ≤ code
   pub few : left ≤ 16
-  pub low : 0 < left → code ≤ 52
+  pub low : 0 < left → code ≤ 55

@@ -41,11 +41,11 @@ scan n g c code left [] = stops (judgedAt n end-of-input)
 scan n g c code left (b ∷ bits) =
     let code′ = withBit code b in
     let left′ = wants code′ (left - 1) in
-    cond (eqb left′ 0) (whole n g c code′ bits (λ d. scan n g d 1 1 bits)) (scan n g c code′ left′ bits)
+    cond (eqb left′ 0) (whole n g c code′ bits (λ d. scan n g d 1 3 bits)) (scan n g c code′ left′ bits)
 
 -- the same once a bit is taken
 abbrev pub scanned : (n : ℕ) → Target → Counter → (code left : ℕ) → List Bit → Scan
-scanned n g c code left bits = cond (eqb left 0) (whole n g c code bits (λ d. scan n g d 1 1 bits)) (scan n g c code left bits)
+scanned n g c code left bits = cond (eqb left 0) (whole n g c code bits (λ d. scan n g d 1 3 bits)) (scan n g c code left bits)
 
 -- what items store before the first at fault
 unfoldable pub putsBefore : Target → Counter → List Item → List Put

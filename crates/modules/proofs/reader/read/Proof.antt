@@ -21,7 +21,7 @@ use Rattle.modules.proofs.reader.read.Tie as tie
 abbrev Inv-loop : tie.InvT-loop
 Inv-loop stream target storing ram end at₀ c first held code₀ left₀ at code left =
     (at ≤ end) × (at₀ ≤ at) × (at₀ < at + left) × Coded (at - at₀) code left
-    × (scanned (length (lookedAt stream)) target c code left (drop at (streamBits stream)) ≡ scan (length (lookedAt stream)) target c 1 1 (drop at₀ (streamBits stream)))
+    × (scanned (length (lookedAt stream)) target c code left (drop at (streamBits stream)) ≡ scan (length (lookedAt stream)) target c 1 3 (drop at₀ (streamBits stream)))
 
 abbrev μ-loop : tie.MeasureT-loop
 μ-loop stream target storing ram end at₀ c first held code₀ left₀ at code left = end - at
@@ -29,7 +29,7 @@ abbrev μ-loop : tie.MeasureT-loop
 abbrev Inv-reader : tie.InvT-reader
 Inv-reader stream target storing ram₀ end at₀ c₀ ram at c =
     (at ≤ end) × (length ram ≡ length ram₀) × Counts c
-    × Comes storing (16384 * target .row) ram (scan (length (lookedAt stream)) target c 1 1 (drop at (streamBits stream))) (judged target c₀ stream)
+    × Comes storing (16384 * target .row) ram (scan (length (lookedAt stream)) target c 1 3 (drop at (streamBits stream))) (judged target c₀ stream)
     (putWhere storing (16384 * target .row) ram₀ (storedBefore target c₀ stream))
 
 abbrev μ-reader : tie.MeasureT-reader
