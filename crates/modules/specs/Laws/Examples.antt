@@ -119,3 +119,43 @@ past-the-end g = refl
 relocated-word : putsIn 1 0 (130 ∷ 70 ∷ 152 ∷ []) ≡ put 0 52 ∷ put 1 82 ∷ []
 unfolding takenIn bitsIn
 relocated-word = refl
+
+-- ---- several items
+
+-- set page 3, word 0: from 1:0 the value is C000h
+page-set : putsIn 1 0 (167 ∷ 0 ∷ 0 ∷ 48 ∷ []) ≡ put 0 0 ∷ put 1 192 ∷ []
+unfolding takenIn bitsIn
+page-set = refl
+
+-- set page 3, restore, word 0: from 1:0 the value is 4000h
+page-restored : putsIn 1 0 (167 ∷ 88 ∷ 0 ∷ 1 ∷ 128 ∷ []) ≡ put 0 0 ∷ put 1 64 ∷ []
+unfolding takenIn bitsIn
+page-restored = refl
+
+-- byte AAh, move FFFFh, byte BBh: from offset 5 both stand at 5, the second last
+back-and-again : putsIn 0 5 (85 ∷ 95 ∷ 255 ∷ 250 ∷ 239 ∷ 0 ∷ []) ≡ put 5 170 ∷ put 5 187 ∷ []
+unfolding takenIn bitsIn
+back-and-again = refl
+
+back-and-again-whole : judged (record { row = 1; reach = 16384; page = 0 }) (counter 0 5) (85 ∷ 95 ∷ 255 ∷ 250 ∷ 239 ∷ 0 ∷ []) ≡ Whole 6
+unfolding judged takenIn bitsIn
+back-and-again-whole = refl
+
+-- move 0010h, word 1000h, byte 7Fh: from 2:4 at 20
+moved-on : putsIn 2 4 (176 ∷ 1 ∷ 8 ∷ 32 ∷ 0 ∷ 127 ∷ 192 ∷ []) ≡ put 20 20 ∷ put 21 144 ∷ put 22 127 ∷ []
+unfolding takenIn bitsIn
+moved-on = refl
+
+-- word FFFFh: at 3:16,382, FFFEh, the sum is FFFDh
+carry-dropped : putsIn 3 16382 (159 ∷ 255 ∷ 248 ∷ []) ≡ put 16382 253 ∷ put 16383 255 ∷ []
+unfolding takenIn bitsIn
+carry-dropped = refl
+
+-- set page 3, move FFFFh, byte 01h: from 0:5 at 4, for the move stays in the page that is set
+set-then-moved : putsIn 0 5 (167 ∷ 127 ∷ 255 ∷ 224 ∷ 28 ∷ []) ≡ put 4 1 ∷ []
+unfolding takenIn bitsIn
+set-then-moved = refl
+
+set-then-moved-whole : judged (record { row = 1; reach = 16384; page = 0 }) (counter 0 5) (167 ∷ 127 ∷ 255 ∷ 224 ∷ 28 ∷ []) ≡ Whole 5
+unfolding judged takenIn bitsIn
+set-then-moved-whole = refl
