@@ -1,4 +1,4 @@
--- Document 01, in its own order; answers come before the calls that give them, and a buffer lent on comes last, since it asks for tables that are ready.
+-- Document 01, in its own order, with the orders of document 02; answers come before the calls that give them, and a buffer lent on comes last, since it asks for tables that are ready.
 -- Its layouts stand with the theorems about them in the crate history, its event records in the crate events.
 pub mod Tables
 pub mod Good

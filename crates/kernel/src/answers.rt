@@ -1,4 +1,4 @@
-// The answers: 01's number and values for each, and what a refusal leaves.
+// The answers: 01's and 02's number and values for each, and what a refusal leaves.
 ghost use mathlib.Core.Path.{_≡_};
 ghost use Rattle.kernel.specs.Definition.Answers.{numberOf, aOf, bOf, gives};
 use super::Answer;

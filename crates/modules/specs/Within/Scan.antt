@@ -1,4 +1,4 @@
--- The reading bit by bit, as the reader goes.
+-- The reading bit by bit, to which the reader's fetches of several bits come.
 use mathlib.Core.Bool.{cond}
 use mathlib.Core.List.{List, [], _∷_, _++_}
 use Prim.Native.Nat.{ℕ, _-_}
