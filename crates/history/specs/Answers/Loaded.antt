@@ -2,33 +2,32 @@
 use mathlib.Core.Path.{_≡_, refl, sym, ap, _∙_}
 use mathlib.Core.Bool.{Bool, true, false, not, _||_}
 use mathlib.Core.List.{List, [], _∷_}
-use Prim.Native.Nat.{ℕ, _≤_, _<_}
+use Prim.Native.Nat.{ℕ, _<_}
 use native.Mathlib.Omega.{arith}
-use borrow.Author.Tests.{le-ltb, ltb-true, ltb-false, not-false}
+use borrow.Author.Tests.{le-ltb, ltb-false, not-false}
 use lib.Dec.{ltb, eqb}
 use lib.ListN.{length}
-use Rattle.modules.specs.Definition.Reading.{lookedAt, takenOf}
-use Rattle.modules.specs.Definition.Counter.{Counts, counter}
+use Rattle.modules.specs.Definition.Reading.{takenOf}
+use Rattle.modules.specs.Definition.Counter.{counter}
 use Rattle.modules.specs.Definition.Judging.{judged, refusalOf, usedOf}
 use Rattle.modules.specs.Laws.Stored.{none-refuses}
 use Rattle.modules.specs.Laws.Unique.{whole-module, whole-faultless, module-whole}
 use Rattle.modules.specs.declared.Judged.{Judged}
 use Rattle.modules.specs.declared.Judged.the-variants.{Whole, Module, Page, Range, Guard}
-use Rattle.rows.specs.Laws.Lists.{or-left, or-right, and-left}
-use Rattle.kernel.specs.Definition.Tables.{SEGMENT, ramSize, rowOf, classAt}
+use Rattle.rows.specs.Laws.Lists.{or-left, or-right}
+use Rattle.kernel.specs.Definition.Tables.{SEGMENT, rowOf}
 use Rattle.kernel.specs.Definition.Good.{Good}
 use Rattle.kernel.specs.Definition.Segments.{mayReach}
 use Rattle.kernel.specs.Definition.Answers.{numberOf, bOf, Decision, unless, _when_}
 use Rattle.kernel.specs.Definition.Calls.{load-module, targetOf, onLoadModule}
-use Rattle.kernel.specs.Definition.Step.{heard, decided, completed, step}
+use Rattle.kernel.specs.Definition.Step.{heard, completed, step}
 use Rattle.kernel.specs.Laws.Ready.{ready-heard}
 use Rattle.kernel.specs.declared.Tables.{Tables}
 use Rattle.kernel.specs.declared.Answer.{Answer}
 use Rattle.kernel.specs.declared.Answer.the-variants.{Done, BadCall, NotOwner, BadRange, Guarded, BadModule, BadPage}
-use Rattle.history.specs.Definition.Runs.{State, event}
 use Rattle.history.specs.Definition.Loads.{Loads, LoadsExactly}
 use Rattle.history.specs.Answers.Found.{in-list, list-one}
-use Rattle.history.specs.Answers.Rows.Bytes.{Reaches, reach-says}
+use Rattle.history.specs.Answers.Rows.Bytes.{reach-says}
 
 -- a call that is done has passed its refusals
 refused-not : (answer : Answer) (k b : ℕ) → numberOf answer ≡ k → 0 < k → answer ≡ Done 0 b → ⊥
