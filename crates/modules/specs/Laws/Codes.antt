@@ -1,9 +1,9 @@
 -- How many bits a code wants, and the item it is.
 use mathlib.Core.Path.{_≡_, refl}
 use mathlib.Core.Bool.{Bool, true, false}
-use Prim.Native.Nat.{ℕ, _+_, _-_, _*_, _%_, _^_, _≤_, _<_}
+use Prim.Native.Nat.{ℕ, _+_, _-_, _*_, _/_, _%_, _^_, _≤_, _<_}
 use native.Mathlib.Nat.{mul-le-mul-right}
-use native.Mathlib.Decide.{decLe}
+use native.Mathlib.Decide.{decLe, decLt}
 use native.Mathlib.Omega.{arith}
 use borrow.Author.Tests.{lt-ltb, le-ltb, ltb-true, ne-eqb, eqb-true}
 use lib.Dec.{ltb, eqb}
@@ -15,13 +15,13 @@ pub wants-left : (code left : ℕ) → 0 < left → left ≡ wants code left
 unfolding wants
 wants-left code left h = rw (lt-ltb 0 left h)
 
-pub wants-byte : (code : ℕ) → code < 12 → 6 ≡ wants code 0
+pub wants-few : (code : ℕ) → code ≤ 12 → 6 + 10 * (code / 12) ≡ wants code 0
 unfolding wants
-wants-byte code h = rw (lt-ltb code 12 h)
-
-pub wants-word : (code : ℕ) → code ≤ 12 → 12 ≤ code → 16 ≡ wants code 0
-unfolding wants
-wants-word code h l = let e : code ≡ 12 = omega arith in rw e
+wants-few code h =
+    elim (decLt code 12) [
+      | yes l ↦ let z : code / 12 ≡ 0 = omega arith in rw (lt-ltb code 12 l, z)
+      | no l ↦ let e : code ≡ 12 = omega arith in rw e
+    ]
 
 pub wants-key : (code k r : ℕ) → code ≡ k → r ≡ wants k 0 → r ≡ wants code 0
 wants-key code k r e q = rw e q
