@@ -5,7 +5,7 @@
  * contracts, the definition that they cite and the proofs are in antt, the language of Rattle's proof checker (.antt files).
  *
  * Every buffer belongs to the caller, before, in and after a call. The library keeps no pointer and no state of its own,
- * and takes no memory but stack: of this a call took at most 12,663 bytes and a replay 11,719, found by paint below the
+ * and takes no memory but stack: of this a call took at most 12,856 bytes and a replay 11,752, found by paint below the
  * caller's frame over the logs of logs/ and 18,000 records drawn at random. No theorem bounds it: leave it 16 KB.
  * A pointer is never null, even where its length is 0, and no two buffers of a call overlap. Nothing is asked of the bytes
  * in them: any image, any RAM, any record. Numbers of two bytes are little-endian.
@@ -58,15 +58,17 @@ extern "C" {
  * a device's RAM; flags are bit 4 for channels, 5 for devices too, 6 for user segments.
  *
  * Load module stores the items of a stream at a location counter. page (0 to 3) and offset (0 to 16,384, past the end) are
- * where the counter starts; its value is page * 16,384 + offset. The stream is read from bit 7 of its first byte on, each
- * field's highest bit first. Sums drop a carry out of 16 bits.
+ * where the counter starts; its value is page * 16,384 + offset. Bytes go to the segment at the offset: the page enters
+ * words' values alone. The stream, at most 4,090 bytes in a record, is read from bit 7 of its first byte on, each field's
+ * highest bit first. Sums drop a carry out of 16 bits.
  *
  *   0, 8 bits       stores a byte at the offset, which grows by 1
  *   100, 16 bits    stores a word, low byte first, with the counter's value added; the offset grows by 2
  *   10100, 2 bits   sets the page, and leaves the offset
  *   10101           sets the page back to the one of the body
  *   1011, 16 bits   is added to the counter's value, which must stay in its page
- *   110             ends the module, with zeros up to the end of that byte
+ *   110             ends the module, with zeros up to the end of that byte; b counts up to there, and what follows is not
+ *                   looked at
  *   111             is illegal
  *
  * A module that is refused stores nothing. */
