@@ -1,5 +1,6 @@
 //! Reads a line of words from left to right.
 
+use super::one_of;
 use crate::mistakes::Mistake;
 
 /// A line, and how far it is read.
@@ -45,6 +46,10 @@ impl<'a> Reader<'a> {
             if is_end(word) {
                 return Ok(bytes);
             }
+            // such a word, as "end", may begin with hex digits
+            if !bytes.is_empty() && !word.iter().all(u8::is_ascii_hexdigit) {
+                return Err(self.mistake(hex_or(ends)));
+            }
             for _ in 0..word.len().div_ceil(2) {
                 bytes.push(self.pair()?);
             }
@@ -68,7 +73,7 @@ impl<'a> Reader<'a> {
         }
     }
 
-    /// Reads a string from its double quote on.
+    /// Reads a string from its double quote on, and nothing may touch its last.
     pub(super) fn string(&mut self) -> Result<Vec<u8>, Mistake> {
         const PRINTABLE: &str = "a printable byte or \\x and two hex digits";
         self.take(1);
@@ -86,7 +91,12 @@ impl<'a> Reader<'a> {
             }
         }
         self.take(1);
-        Ok(bytes)
+        match self.line.get(self.at) {
+            Some(&byte) if !ends_word(byte) => {
+                Err(self.mistake("a blank or the end of the line".to_string()))
+            }
+            _ => Ok(bytes),
+        }
     }
 
     /// Reads `\\`, `\"`, or `\x` and two hex digits.
@@ -117,8 +127,8 @@ impl<'a> Reader<'a> {
     pub(super) fn peek(&mut self) -> &'a [u8] {
         self.skip_blanks();
         let rest = &self.line[self.at..];
-        let end = |&byte: &u8| is_blank(byte) || byte == b'#';
-        &rest[..rest.iter().position(end).unwrap_or(rest.len())]
+        let end = rest.iter().position(|&byte| ends_word(byte));
+        &rest[..end.unwrap_or(rest.len())]
     }
 
     /// Skips blanks; whether the line ends here or a comment begins.
@@ -176,6 +186,21 @@ impl<'a> Reader<'a> {
 
 fn is_blank(byte: u8) -> bool {
     matches!(byte, b' ' | b'\t')
+}
+
+/// Whether a byte ends a word: a blank, or what begins a comment.
+fn ends_word(byte: u8) -> bool {
+    is_blank(byte) || byte == b'#'
+}
+
+/// What may stand behind pairs of hex digits.
+fn hex_or(ends: &[&str]) -> String {
+    let ends = if ends.is_empty() {
+        &["the end of the line"]
+    } else {
+        ends
+    };
+    one_of(&[&["pairs of hex digits"], ends].concat())
 }
 
 /// The most bytes of a word that a message repeats.
