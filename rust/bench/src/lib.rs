@@ -25,6 +25,12 @@ impl Log {
         self.records += 1;
     }
 
+    /// Adds the records of another log.
+    pub fn append(&mut self, other: &Log) {
+        self.bytes.extend(&other.bytes);
+        self.records += other.records;
+    }
+
     /// A log that begins with a start of this many segments.
     pub fn started(r: u16, segments: u8) -> Log {
         let mut log = Log::default();

@@ -1,11 +1,12 @@
 //! (e): the stack that a log's calls use.
 
 use crate::measure::Side;
-use exos_bench::mixed;
+use exos_bench::{mixed, modules};
 
 /// A table of the sides.
 pub fn print() {
-    let log = mixed(2_000, 8);
+    let mut log = mixed(2_000, 8);
+    log.append(&modules(1, 1_024));
     let [held, tested, rust] = Side::all(8).map(|mut side| {
         stack_of(|| {
             side.replay(&log);

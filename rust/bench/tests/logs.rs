@@ -23,6 +23,15 @@ fn a_close_before_a_long_record_is_done() {
 }
 
 #[test]
+fn a_module_is_loaded_after_a_mixed_log() {
+    let mut log = mixed(2_000, 8);
+    log.append(&modules(1, 1_024));
+    let ran = run(&mut vec![0; 8 * 16_384], &mut [0; 4_096], &log.bytes);
+    assert_eq!(ran.answers.iter().sum::<usize>(), log.records);
+    assert_eq!((ran.last.number, ran.last.b), (0, 1_024));
+}
+
+#[test]
 fn every_module_is_loaded_and_used_whole() {
     for bytes in [16, 17, 18, 19, 20, 4_090] {
         let log = modules(3, bytes);

@@ -14,6 +14,12 @@ pub struct Target {
 }
 
 impl Target {
+    /// A segment that is the user's whole.
+    pub const WHOLE: Target = Target {
+        reach: SEGMENT,
+        is_page_zero: false,
+    };
+
     /// A segment, if it is the user's.
     pub fn of(view: View, segment: u8) -> Option<Target> {
         Some(Target {

@@ -56,14 +56,14 @@ impl What {
         }
     }
 
-    /// How many bits tell it.
-    pub fn begins(self) -> usize {
+    /// How many bits tell it from the others.
+    pub fn prefix_length(self) -> usize {
         self.form().0.len()
     }
 
     /// How many bits it has in all.
     pub fn length(self) -> usize {
-        self.begins() + self.form().1
+        self.prefix_length() + self.form().1
     }
 
     /// Whether it breaks off the reading.
@@ -161,11 +161,11 @@ impl Item {
     /// The item that some bits begin with, if it is whole.
     pub(crate) fn first(bits: &[bool]) -> Option<Item> {
         let whole = |&what: &What| {
-            let begins = Item { what, value: 0 }.bits().take(what.begins());
-            bits.len() >= what.length() && begins.eq(bits[..what.begins()].iter().copied())
+            let begins = Item { what, value: 0 }.bits().take(what.prefix_length());
+            bits.len() >= what.length() && begins.eq(bits[..what.prefix_length()].iter().copied())
         };
         let what = What::ALL.into_iter().find(whole)?;
-        let follow = bits[what.begins()..what.length()].iter();
+        let follow = bits[what.prefix_length()..what.length()].iter();
         let value = follow.fold(0, |value, &bit| value << 1 | u16::from(bit));
         Some(Item { what, value })
     }

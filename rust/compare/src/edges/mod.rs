@@ -18,6 +18,8 @@ use crate::quietly::is_good;
 use crate::view::View;
 use exos_kernel::{decode, Call, Tables, ROWS_OF_SEGMENTS, SEGMENT};
 
+#[cfg(test)]
+pub use modules::ModuleEdge;
 pub use sentences::ram_length_for;
 pub use words::{all_edges, Edge};
 

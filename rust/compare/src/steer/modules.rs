@@ -14,10 +14,7 @@ const MANY: usize = 2_400;
 impl Steer<'_> {
     pub(super) fn load_module(&mut self) -> Request {
         let segment = self.segment(&[class::NONE, class::USER, class::SHARED]);
-        let target = Target::of(self.view(), segment as u8).unwrap_or(Target {
-            reach: SEGMENT,
-            is_page_zero: false,
-        });
+        let target = Target::of(self.view(), segment as u8).unwrap_or(Target::WHOLE);
         let page = match self.random.below(30) {
             0 => self.random.pick(&[4, 4, 255]),
             _ => self.random.below(4),

@@ -83,12 +83,24 @@ fn mistakes_in_items() {
         "1:28: expected a word as four hex digits, found \"12345\""
     );
     assert_eq!(
+        mistake("load module 253 0 256 word 0x1234 end"),
+        "1:28: expected a word as four hex digits (without 0x), found \"0x1234\""
+    );
+    assert_eq!(
         mistake("load module 253 0 256 move -1 end"),
-        "1:28: expected a move as four hex digits, found \"-1\""
+        "1:28: expected a move as four hex digits (-1 is ffff), found \"-1\""
     );
     assert_eq!(
         mistake("load module 253 0 256 bytes end"),
         "1:29: expected data as pairs of hex digits or in double quotes, found \"end\""
+    );
+    assert_eq!(
+        mistake("load module 253 0 256 bytes 3e byte 01 end"),
+        format!("1:32: expected pairs of hex digits, {items}, found \"byte\"")
+    );
+    assert_eq!(
+        mistake("load module 253 0 256 bytes \"x\"end"),
+        "1:32: expected a blank or the end of the line, found \"end\""
     );
     assert_eq!(
         mistake("load module 253 0 256 bytes 100 end"),
@@ -104,11 +116,17 @@ fn mistakes_in_items() {
 fn mistakes_in_the_rest() {
     assert_eq!(
         mistake("load module 253 0 256 bytes 01 rest 80"),
-        "1:37: expected a first byte 00 to 7f, for the 7 bits left of one, found 80"
+        "1:37: expected a first byte 00 to 7f, for the 7 bits that the items leave of their last byte, \
+         found 80"
     );
     assert_eq!(
         mistake("load module 253 0 256 page 0 rest \"\""),
-        "1:35: expected a first byte 00 to 01, for the 1 bit left of one, found no byte"
+        "1:35: expected a first byte 00 to 01, for the 1 bit that the items leave of their last byte, \
+         found no byte"
+    );
+    assert_eq!(
+        mistake("load module 253 0 256 end rest 00 end"),
+        "1:35: expected pairs of hex digits or the end of the line, found \"end\""
     );
     assert_eq!(
         mistake("load module 253 0 256 end rest"),

@@ -64,13 +64,18 @@ impl Reader<'_> {
         let digits = self.peek();
         let is_whole = digits.len() == 4 && digits.iter().all(u8::is_ascii_hexdigit);
         if !is_whole {
-            return Err(self.mistake(format!("{what} as four hex digits")));
+            let help = match digits {
+                [b'0', b'x', ..] => " (without 0x)",
+                [b'-', ..] => " (-1 is ffff)",
+                _ => "",
+            };
+            return Err(self.mistake(format!("{what} as four hex digits{help}")));
         }
         Ok(u16::from_be_bytes([self.pair()?, self.pair()?]))
     }
 
     /// Reads the rest behind the items, to the stream of both. The first byte
-    /// has no more than the bits that the items leave of one.
+    /// has no more than the bits that the items leave of their last byte.
     fn module_rest(&mut self, module: &Module) -> Result<Vec<u8>, Mistake> {
         let start = self.place();
         let rest = self.data()?;
@@ -82,7 +87,9 @@ impl Reader<'_> {
             _ => return Ok(with_rest(module, &rest)),
         };
         let bits = counted(left, "bit");
-        let expected = format!("a first byte 00 to {most:02x}, for the {bits} left of one");
+        let expected = format!(
+            "a first byte 00 to {most:02x}, for the {bits} that the items leave of their last byte"
+        );
         Err(self.mistake_since(start, expected, found))
     }
 }

@@ -167,8 +167,9 @@ fn names_are_quoted() {
     );
     assert_eq!(
         mistake("default 0 \"NET\"x"),
-        "1:16: expected the end of the line, found \"x\""
+        "1:16: expected a blank or the end of the line, found \"x\""
     );
+    assert_eq!(encode(b"default 0 \"NET\"#x"), encode(b"default 0 \"NET\""));
 }
 
 #[test]
@@ -184,6 +185,14 @@ fn data_is_pairs_of_hex_digits() {
     assert_eq!(
         mistake("write 5 98 aag5"),
         "1:14: expected a hex digit, found \"g\""
+    );
+    assert_eq!(
+        mistake("write 5 98 aa bad"),
+        "1:18: expected the second hex digit of a byte, found the end of the line"
+    );
+    assert_eq!(
+        mistake("write 5 98 aa end"),
+        "1:15: expected pairs of hex digits or the end of the line, found \"end\""
     );
     assert_eq!(
         mistake("write 5 98 aa5 5"),

@@ -62,7 +62,7 @@ impl<Met: FnMut(Edge)> Meeting<'_, Met> {
         for what in What::LEGAL {
             let is_cut = !nothing && what.may_begin(rest);
             self.module(19, is_cut, ModuleEdge::Cut(what, rest.len()));
-            let is_known = is_cut && rest.len() >= what.begins();
+            let is_known = is_cut && rest.len() >= what.prefix_length();
             let mut whole = loading.counter;
             let refusal = whole.take(Item { what, value: 0 }, loading.target);
             if let Some(other) = refusal.filter(|_| is_known) {

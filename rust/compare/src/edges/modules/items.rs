@@ -70,6 +70,12 @@ impl<Met: FnMut(Edge)> Meeting<'_, Met> {
         self.module(13, up_to(What::Byte, past), ModuleEdge::BoundaryBytePast);
         self.module(0, up_to(What::Word, before), ModuleEdge::BoundaryWord);
         self.module(13, up_to(What::Word, past), ModuleEdge::BoundaryWordAcross);
+        self.module(
+            13,
+            up_to(What::Word, past + 1),
+            ModuleEdge::BoundaryWordPast,
+        );
+        self.module(13, target.reach == 0, ModuleEdge::BoundaryZero);
     }
 
     fn module_move(&mut self, loading: &Loading, step: &Step) {
@@ -80,9 +86,12 @@ impl<Met: FnMut(Edge)> Meeting<'_, Met> {
         self.module(20, to == SEGMENT && by > 0, ModuleEdge::MovePast);
         self.module(20, to == 65_535, ModuleEdge::MoveBefore);
         self.module(0, from == SEGMENT, ModuleEdge::MoveBack);
+        // the value of the counter, 65,536, is 0 in 16 bits
+        let is_at_carry = from == SEGMENT && step.counter.page == 3;
+        self.module(0, is_at_carry, ModuleEdge::MoveBackCarry);
         self.module(0, by == 0, ModuleEdge::MoveNowhere);
         self.module(20, by == 0, ModuleEdge::MoveNowherePast);
-        self.module(0, to > loading.target.reach, ModuleEdge::BoundaryMove);
+        self.module(0, to >= loading.target.reach, ModuleEdge::BoundaryMove);
     }
 
     /// Words that the page of the counter counts for.

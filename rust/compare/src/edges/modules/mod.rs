@@ -86,15 +86,25 @@ impl<Met: FnMut(Edge)> Meeting<'_, Met> {
         self.module(2, past, ModuleEdge::PastOffset);
         self.module_segment(segment);
         let target = Target::of(self.view, segment);
-        let wrong = [(11, target.is_none()), (19, stream.is_empty())];
-        self.both(30, &wrong);
+        let (counter, module) = (Counter::start(page, offset), Module::of(stream));
+        self.both_of_module(target, counter, &module);
         if let (Some(target), 0..=3, 0..=SEGMENT) = (target, page, offset) {
-            let counter = Counter::start(page, offset);
-            let loading = Loading::new(target, counter, Module::of(stream));
+            let loading = Loading::new(target, counter, module);
             self.module_items(&loading);
             self.module_end(&loading);
             self.module_faults(&loading);
         }
+    }
+
+    /// Refusals that come before all items, and the first item's.
+    fn both_of_module(&mut self, target: Option<Target>, mut counter: Counter, module: &Module) {
+        let first = match module.items.first() {
+            Some(item) => counter.take(*item, target.unwrap_or(Target::WHOLE)),
+            None => Some(19),
+        };
+        let held = [13, 14, 19, 20].map(|refusal| (refusal, first == Some(refusal)));
+        self.both(30, &[(11, target.is_none())]);
+        self.both(30, &held);
     }
 
     fn module_segment(&mut self, segment: u8) {

@@ -16,9 +16,11 @@ pub(super) const GUARD: &[(What, usize, u16)] = &[
     (What::Byte, 0x5C, 0),
     (What::Word, 0x2E, 0),
     (What::Word, 0x2F, 14),
+    (What::Word, 0x30, 14),
     (What::Word, 0x3C, 14),
     (What::Word, 0x3D, 0),
     (What::Word, 0x3E, 14),
+    (What::Word, 0x3F, 14),
     (What::Word, 0x5B, 14),
     (What::Word, 0x5C, 0),
 ];
@@ -123,6 +125,7 @@ name_edges! {
     MovePast "a move to 16,384: 20"
     MoveBefore "a move to one before 0: 20"
     MoveBack "a move from 16,384 into the page"
+    MoveBackCarry "a move from 16,384 of page 3 into the page"
     MoveNowhere "a move by 0"
     MoveNowherePast "a move by 0 from 16,384: 20"
     Carry "a word whose sum with the counter has a carry, in page 3"
@@ -133,6 +136,8 @@ name_edges! {
     BoundaryBytePast "a byte at the user boundary: 13"
     BoundaryWord "a word up to the user boundary"
     BoundaryWordAcross "a word over the user boundary: 13"
+    BoundaryWordPast "a word at the user boundary: 13"
+    BoundaryZero "a store, the user boundary being 0: 13"
     BoundaryStart "a start at the user boundary, and no store"
-    BoundaryMove "a move past the user boundary, and no store there"
+    BoundaryMove "a move to the user boundary or past it, and no store there"
 }

@@ -1,5 +1,7 @@
 //! Reads a line of words from left to right.
 
+mod data;
+
 use crate::mistakes::Mistake;
 
 /// A line, and how far it is read.
@@ -31,79 +33,6 @@ impl<'a> Reader<'a> {
         Ok(self.number(what, u8::MAX.into())? as u8)
     }
 
-    /// Reads pairs of hex digits, with blanks between pairs or none, up to one of
-    /// these words or the line's end.
-    pub(super) fn hex(&mut self, what: &str, ends: &[&str]) -> Result<Vec<u8>, Mistake> {
-        let is_end = |word: &[u8]| word.is_empty() || ends.iter().any(|end| end.as_bytes() == word);
-        let first = self.peek();
-        if is_end(first) || !first[0].is_ascii_hexdigit() {
-            return Err(self.mistake(what.to_string()));
-        }
-        let mut bytes = Vec::new();
-        loop {
-            let word = self.peek();
-            if is_end(word) {
-                return Ok(bytes);
-            }
-            for _ in 0..word.len().div_ceil(2) {
-                bytes.push(self.pair()?);
-            }
-        }
-    }
-
-    pub(super) fn pair(&mut self) -> Result<u8, Mistake> {
-        let high = self.digit("a hex digit")?;
-        let low = self.digit("the second hex digit of a byte")?;
-        Ok(high << 4 | low)
-    }
-
-    fn digit(&mut self, what: &str) -> Result<u8, Mistake> {
-        let byte = self.line.get(self.at).copied();
-        match byte.and_then(|byte| char::from(byte).to_digit(16)) {
-            Some(digit) => {
-                self.take(1);
-                Ok(digit as u8)
-            }
-            None => Err(self.mistake_in_word(what, 1)),
-        }
-    }
-
-    /// Reads a string from its double quote on.
-    pub(super) fn string(&mut self) -> Result<Vec<u8>, Mistake> {
-        const PRINTABLE: &str = "a printable byte or \\x and two hex digits";
-        self.take(1);
-        let mut bytes = Vec::new();
-        loop {
-            match self.line.get(self.at) {
-                Some(b'"') => break,
-                Some(b'\\') => bytes.push(self.escape()?),
-                Some(&byte @ b' '..=b'~') => {
-                    bytes.push(byte);
-                    self.take(1);
-                }
-                Some(_) => return Err(self.mistake_in_word(PRINTABLE, 1)),
-                None => return Err(self.mistake_in_word("a closing double quote", 1)),
-            }
-        }
-        self.take(1);
-        Ok(bytes)
-    }
-
-    /// Reads `\\`, `\"`, or `\x` and two hex digits.
-    fn escape(&mut self) -> Result<u8, Mistake> {
-        match self.line.get(self.at + 1) {
-            Some(&byte @ (b'\\' | b'"')) => {
-                self.take(2);
-                Ok(byte)
-            }
-            Some(b'x') => {
-                self.take(2);
-                self.pair()
-            }
-            _ => Err(self.mistake_in_word("\\\\, \\\" or \\x and two hex digits", 2)),
-        }
-    }
-
     /// Nothing more may stand on the line.
     pub(super) fn end(&mut self) -> Result<(), Mistake> {
         if self.is_at_end() {
@@ -117,8 +46,8 @@ impl<'a> Reader<'a> {
     pub(super) fn peek(&mut self) -> &'a [u8] {
         self.skip_blanks();
         let rest = &self.line[self.at..];
-        let end = |&byte: &u8| is_blank(byte) || byte == b'#';
-        &rest[..rest.iter().position(end).unwrap_or(rest.len())]
+        let end = rest.iter().position(|&byte| ends_word(byte));
+        &rest[..end.unwrap_or(rest.len())]
     }
 
     /// Skips blanks; whether the line ends here or a comment begins.
@@ -176,6 +105,11 @@ impl<'a> Reader<'a> {
 
 fn is_blank(byte: u8) -> bool {
     matches!(byte, b' ' | b'\t')
+}
+
+/// Whether a byte ends a word: a blank, or what begins a comment.
+fn ends_word(byte: u8) -> bool {
+    is_blank(byte) || byte == b'#'
 }
 
 /// The most bytes of a word that a message repeats.
