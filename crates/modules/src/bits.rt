@@ -37,7 +37,7 @@ pub fn bits_of(window: usize, low: usize, count: usize) -> usize
 pub fn wanted(code: usize) -> usize
     ensures { λ r. ⌜ r ≡ wants code 0 ⌝ }
 {
-    // 6 of a byte, 16 of a word: a sum, for a branch here is guessed wrong as often as bytes and words take turns.
+    // 6 of a byte, 16 of a word
     if code <= 12 {
         return 6 + 10 * (code / 12);
     }

@@ -1,10 +1,9 @@
 // An item of its bits, and what it does at the location counter.
 ghost use mathlib.Core.Path.{_≡_};
-ghost use Prim.Native.Nat.{_+_, _≤_, _<_};
+ghost use Prim.Native.Nat.{_+_, _≤_};
 ghost use lib.ListN.{length};
-ghost use Rattle.modules.specs.Definition.Counter.{Counts, sizeOf, after, putsAt, putEach};
-ghost use Rattle.modules.specs.Definition.Judging.{leaves};
-ghost use Rattle.modules.specs.Within.Acts.{Counting, Inside, Paged, itemAct, putWhere};
+ghost use Rattle.modules.specs.Definition.Counter.{Counts, sizeOf, putsAt, putEach};
+ghost use Rattle.modules.specs.Within.Acts.{Counting, Inside, Paged, itemAct, putAct, moveAct, putWhere};
 ghost use Rattle.modules.specs.Within.Codes.{itemOf};
 use super::Act;
 use super::Counter;
@@ -33,62 +32,6 @@ pub fn item_of(code: usize) -> Item
         return Item::Word((code % 65536) as u16);
     }
     Item::Move((code % 65536) as u16)
-}
-
-// How many bytes it stores.
-pub fn size_of(item: Item) -> usize
-    ensures { λ r. ⌜ (r ≡ sizeOf item) × (r ≤ 2) ⌝ }
-{
-    match item {
-        Item::Byte(_) => 1,
-        Item::Word(_) => 2,
-        Item::SetPage(_) => 0,
-        Item::Restore => 0,
-        Item::Move(_) => 0,
-    }
-}
-
-// It is a move that lands in another page.
-pub fn leaves_page(c: Counter, item: Item) -> bool
-    requires { ⌜ c .page ≤ 3 ⌝ }
-    ensures { λ r. ⌜ r ≡ leaves c item ⌝ }
-{
-    match item {
-        Item::Byte(_) => false,
-        Item::Word(_) => false,
-        Item::SetPage(_) => false,
-        Item::Restore => false,
-        Item::Move(x) => land(c, x) / 16384 != c.page as u16,
-    }
-}
-
-// The counter after it; `start` is the start page.
-pub fn next(start: u8, c: Counter, item: Item) -> Counter
-    requires { ⌜ (c .page ≤ 3) × (c .offset + sizeOf item ≤ 16384) ⌝ }
-    ensures { λ r. ⌜ r ≡ after start c item ⌝ }
-{
-    match item {
-        Item::Byte(_) => Counter {
-            page: c.page,
-            offset: c.offset + 1,
-        },
-        Item::Word(_) => Counter {
-            page: c.page,
-            offset: c.offset + 2,
-        },
-        Item::SetPage(page) => Counter {
-            page,
-            offset: c.offset,
-        },
-        Item::Restore => Counter {
-            page: start,
-            offset: c.offset,
-        },
-        Item::Move(x) => Counter {
-            page: c.page,
-            offset: land(c, x) % 16384,
-        },
-    }
 }
 
 // Its bytes go to the segment that starts at `base`.
@@ -122,23 +65,64 @@ pub fn store_where(storing: bool, ram: &mut [u8], base: usize, c: Counter, item:
     }
 }
 
-// What comes of it: "at one item that order".
-pub fn judge_item(item: Item, c: Counter, target: Target) -> Act
-    requires { ⌜ Counts c × (target .page ≤ 3) × Paged item ⌝ }
-    ensures acts { λ r. ⌜ r ≡ itemAct target c item ⌝ }
+// What comes of a store of so many bytes: "at one item that order".
+fn put_act(size: usize, c: Counter, target: Target) -> Act
+    requires { ⌜ Counts c × (1 ≤ size) × (size ≤ 2) ⌝ }
+    ensures acts { λ r. ⌜ r ≡ putAct target c size ⌝ }
     ensures counts { λ r. ⌜ Counting r ⌝ }
-    ensures inside { λ r. ⌜ Inside r c item ⌝ }
+    ensures inside { λ r. ⌜ Inside r c size ⌝ }
 {
     let from = wide16(c.offset);
-    let size = size_of(item);
-    if leaves_page(c, item) | (16384 < from + size) {
+    let end = from + size;
+    if 16384 < end {
         return Act::Halt(Stop::Page);
     }
-    if (0 < size) & (target.reach < from + size) {
+    if target.reach < end {
         return Act::Halt(Stop::Range);
     }
     if guards(target.row, from, size) {
         return Act::Halt(Stop::Guard);
     }
-    Act::Next(next(target.page, c, item))
+    Act::Next(Counter {
+        page: c.page,
+        offset: end as u16,
+    })
+}
+
+// What comes of a move, which must land in the same page.
+fn move_act(c: Counter, x: u16) -> Act
+    requires { ⌜ Counts c ⌝ }
+    ensures acts { λ r. ⌜ r ≡ moveAct c x ⌝ }
+    ensures counts { λ r. ⌜ Counting r ⌝ }
+{
+    let to = land(c, x);
+    if to / 16384 != c.page as u16 {
+        return Act::Halt(Stop::Page);
+    }
+    Act::Next(Counter {
+        page: c.page,
+        offset: to % 16384,
+    })
+}
+
+// What comes of it.
+pub fn judge_item(item: Item, c: Counter, target: Target) -> Act
+    requires { ⌜ Counts c × (target .page ≤ 3) × Paged item ⌝ }
+    ensures acts { λ r. ⌜ r ≡ itemAct target c item ⌝ }
+    ensures counts { λ r. ⌜ Counting r ⌝ }
+    ensures inside { λ r. ⌜ Inside r c (sizeOf item) ⌝ }
+{
+    match item {
+        Item::Byte(_) => put_act(1, c, target),
+        Item::Word(_) => put_act(2, c, target),
+        Item::SetPage(page) => Act::Next(Counter {
+            page,
+            offset: c.offset,
+        }),
+        Item::Restore => Act::Next(Counter {
+            page: target.page,
+            offset: c.offset,
+        }),
+        Item::Move(x) => move_act(c, x),
+    }
 }

@@ -1,18 +1,16 @@
 -- What comes of an item, as the code finds it: one law a branch.
-use mathlib.Core.Path.{_≡_, refl, sym, ap, _∙_}
-use mathlib.Core.Bool.{Bool, true, false, _&&_, _||_}
+use mathlib.Core.Path.{_≡_, refl, sym, _∙_}
+use mathlib.Core.Bool.{Bool, true, false, cond, _&&_, _||_}
 use mathlib.Core.List.{List, []}
-use Prim.Native.Nat.{ℕ, _+_, _≤_}
-use native.Mathlib.Decide.{decLt}
+use Prim.Native.Nat.{ℕ, _+_, _/_, _%_, _≤_, _<_}
 use native.Mathlib.Omega.{arith}
-use borrow.Author.Tests.{lt-ltb, le-ltb, ne-eqb, ltb-false}
+use borrow.Author.Tests.{lt-ltb, le-ltb, eq-eqb, ne-eqb}
 use lib.Dec.{ltb, eqb}
-use Rattle.rows.specs.Laws.Lists.{or-right}
 use Rattle.line.specs.Definition.Guard.{guarded}
-use Rattle.modules.specs.Definition.Counter.{Counts, sizeOf, landing, after, putsAt}
-use Rattle.modules.specs.Definition.Judging.{leaves, outside, above, touches}
+use Rattle.modules.specs.Definition.Counter.{Counts, counter, sizeOf, landing, after, putsAt}
+use Rattle.modules.specs.Definition.Judging.{leaves}
 use Rattle.modules.specs.Within.Codes.{itemOf}
-use Rattle.modules.specs.Within.Acts.{itemAct, actOf, actPuts, putWhere, Inside, Paged}
+use Rattle.modules.specs.Within.Acts.{itemAct, putAct, moveAct, actOf, actPuts, putWhere, Inside, Paged}
 use Rattle.modules.specs.declared.Item.{Item}
 use Rattle.modules.specs.declared.Item.the-variants.{Byte, Word, SetPage, Restore, Move}
 use Rattle.modules.specs.declared.Counter.{Counter}
@@ -22,61 +20,76 @@ use Rattle.modules.specs.declared.Act.the-variants.{Next, Halt}
 use Rattle.modules.specs.declared.Stop.{Stop}
 use Rattle.modules.specs.declared.Stop.the-variants.{End, Illegal, Page, Range, Guard}
 
--- an item inside the page leaves a counter
-after-counts : (start : ℕ) (c : Counter) (i : Item) → Counts c → start ≤ 3 → Paged i → c .offset + sizeOf i ≤ 16384 → Counts (after start c i)
-after-counts start c (Byte x) k s p h = record { page = k .page; offset = h }
-after-counts start c (Word x) k s p h = record { page = k .page; offset = h }
-after-counts start c (SetPage page) k s p h = record { page = p; offset = k .offset }
-after-counts start c Restore k s p h = record { page = s; offset = k .offset }
-after-counts start c (Move x) k s p h = let y = landing c x in record { page = k .page; offset = omega arith }
+-- of a store, as the code finds it
+module _ (g : Target) (c : Counter) (size from : ℕ) (e : from ≡ c .offset) where
+  pub put-page : 16384 < from + size → Halt Page ≡ putAct g c size
+  put-page h = rw (← e, lt-ltb 16384 (from + size) h)
 
--- what stores nothing does not end outside the page
-store-alone : (from size : ℕ) → from ≤ 16384 → ltb 16384 (from + size) ≡ ltb 0 size && ltb 16384 (from + size)
-store-alone from size h =
-    elim (decLt 0 size) [
-      | yes p ↦ rw (lt-ltb 0 size p)
-      | no p ↦ let z : size ≤ 0 = omega arith in rw (le-ltb 0 size z, le-ltb 16384 (from + size) (omega arith))
-    ]
+  module _ (inside : from + size ≤ 16384) where
+    pub put-inside : c .offset + size ≤ 16384
+    put-inside = rw (← e) inside
 
--- what the code has of an item before it tests it
-pub record Seen (c : Counter) (i : Item) (from size : ℕ) (leave : Bool) : Type 0 where
-  pub within : c .offset ≤ 16384
-  pub offset : from ≡ c .offset
-  pub stores : size ≡ sizeOf i
-  pub moved : leave ≡ leaves c i
+    pub put-range : g .reach < from + size → Halt Range ≡ putAct g c size
+    put-range h = rw (← e, le-ltb 16384 (from + size) inside, lt-ltb (g .reach) (from + size) h)
 
-module _ {c : Counter} {i : Item} {from size : ℕ} {leave : Bool} (x : Seen c i from size leave) where
-  out-is : leave || ltb 16384 (from + size) ≡ outside c i
-  out-is = rw (x .offset, x .stores, x .moved) (ap (λ (b : Bool). leaves c i || b) (store-alone (c .offset) (sizeOf i) (x .within)))
+    module _ (below : from + size ≤ g .reach) (hit : Bool) (q : hit ≡ guarded (g .row) from size) where
+      pub put-guard : hit ≡ true → Halt Guard ≡ putAct g c size
+      put-guard h = rw (← e, le-ltb 16384 (from + size) inside, le-ltb (g .reach) (from + size) below, sym q ∙ h)
 
-  pub judge-page : (g : Target) → leave || ltb 16384 (from + size) ≡ true → Halt Page ≡ itemAct g c i
-  judge-page g e = rw (sym out-is ∙ e)
+      pub put-next : hit ≡ false → Next (counter (c .page) (from + size)) ≡ putAct g c size
+      put-next h = rw (← e, le-ltb 16384 (from + size) inside, le-ltb (g .reach) (from + size) below, sym q ∙ h)
 
-  module _ (out : leave || ltb 16384 (from + size) ≡ false) where
-    pub page-inside : from + size ≤ 16384
-    page-inside = ltb-false 16384 (from + size) (or-right leave (ltb 16384 (from + size)) out)
+-- of a move
+module _ (c : Counter) (x to : ℕ) (e : to ≡ landing c x) where
+  pub move-page : (to / 16384 ≡ c .page → ⊥) → Halt Page ≡ moveAct c x
+  move-page h = rw (← e, ne-eqb (to / 16384) (c .page) h)
 
-    pub item-inside : c .offset + sizeOf i ≤ 16384
-    item-inside = rw (← x .offset, ← x .stores) page-inside
+  pub move-next : to / 16384 ≡ c .page → Next (counter (c .page) (to % 16384)) ≡ moveAct c x
+  move-next h = rw (← e, eq-eqb (to / 16384) (c .page) h)
 
-    above-is : (g : Target) → ltb 0 size && ltb (g .reach) (from + size) ≡ above g c i
-    above-is g = rw (x .offset, x .stores)
+  pub move-counts : Counts c → Counts (counter (c .page) (to % 16384))
+  move-counts k = record { page = k .page; offset = omega arith }
 
-    pub judge-range : (g : Target) → ltb 0 size && ltb (g .reach) (from + size) ≡ true → Halt Range ≡ itemAct g c i
-    judge-range g e = rw (sym out-is ∙ out, sym (above-is g) ∙ e)
+-- what stores nothing touches nothing
+touches-nothing : (row offset : ℕ) → guarded row offset 0 ≡ false
+touches-nothing row offset = go (eqb row 0)
+  where
+    go : (b : Bool) → b && false && ((ltb offset 61 && ltb 48 (offset + 0)) || (ltb offset 92 && ltb 63 (offset + 0))) ≡ false
+    go true = refl
+    go false = refl
 
-    module _ (g : Target) (low : ltb 0 size && ltb (g .reach) (from + size) ≡ false) (hit : Bool) (q : hit ≡ guarded (g .row) from size) where
-      touch-is : hit ≡ touches g c i
-      touch-is = rw (q, x .offset, x .stores)
+-- of an item
+module _ (g : Target) (c : Counter) (i : Item) (act : Act) where
+  pub act-byte : (x : ℕ) → i ≡ Byte x → act ≡ putAct g c 1 → act ≡ itemAct g c i
+  act-byte x e h = rw e h
 
-      pub judge-guard : hit ≡ true → Halt Guard ≡ itemAct g c i
-      judge-guard e = rw (sym out-is ∙ out, sym (above-is g) ∙ low, sym touch-is ∙ e)
+  pub act-word : (x : ℕ) → i ≡ Word x → act ≡ putAct g c 2 → act ≡ itemAct g c i
+  act-word x e h = rw e h
 
-      pub judge-next : hit ≡ false → (d : Counter) → d ≡ after (g .page) c i → Next d ≡ itemAct g c i
-      judge-next e d z = rw (sym out-is ∙ out, sym (above-is g) ∙ low, sym touch-is ∙ e, z)
+  pub act-set : (page : ℕ) → i ≡ SetPage page → act ≡ Next (counter page (c .offset)) → act ≡ itemAct g c i
+  act-set page e h = rw (e, touches-nothing (g .row) (c .offset)) h
 
-pub next-counts : (g : Target) (c d : Counter) (i : Item) → d ≡ after (g .page) c i → Counts c → g .page ≤ 3 → Paged i → c .offset + sizeOf i ≤ 16384 → Counts d
-next-counts g c d i z k s p h = rw z (after-counts (g .page) c i k s p h)
+  pub act-restore : i ≡ Restore → act ≡ Next (counter (g .page) (c .offset)) → act ≡ itemAct g c i
+  act-restore e h = rw (e, touches-nothing (g .row) (c .offset)) h
+
+  pub act-move : (x : ℕ) → i ≡ Move x → act ≡ moveAct c x → act ≡ itemAct g c i
+  act-move x e h = rw e (go (leaves c (Move x)) h)
+    where
+      go : (b : Bool) → act ≡ cond b (Halt Page) (Next (after (g .page) c (Move x)))
+          → act ≡ cond (b || false) (Halt Page) (cond (guarded (g .row) (c .offset) 0) (Halt Guard) (Next (after (g .page) c (Move x))))
+      go true k = k
+      go false k = rw (touches-nothing (g .row) (c .offset)) k
+
+pub inside-as : (act : Act) (c : Counter) (i : Item) (size : ℕ) → sizeOf i ≡ size → Inside act c size → Inside act c (sizeOf i)
+inside-as act c i size e h = rw e h
+
+pub set-paged : (i : Item) (page : ℕ) → i ≡ SetPage page → Paged i → page ≤ 3
+set-paged i page e h = rw e at h
+
+-- what stores nothing lies inside the page
+pub inside-none : (act : Act) (c : Counter) → Counts c → Inside act c 0
+inside-none (Next d) c k = let h = k .offset in omega arith
+inside-none (Halt why) c k = tt
 
 -- a page in a code has two bits
 paged-by : (code : ℕ) (a b d e : Bool) → eqb code 53 ≡ a → ltb code 256 ≡ b → ltb code 768 ≡ d → ltb code 851968 ≡ e → Paged (itemOf code)
@@ -117,5 +130,5 @@ pub put-halted : (storing : Bool) (base : ℕ) (ram : List ℕ) (c : Counter) (c
     → ram ≡ putWhere storing base ram (actPuts act c (itemOf code))
 put-halted storing base ram c code act why e = rw e (put-none storing base ram)
 
-pub act-inside : (act : Act) (d c : Counter) (i : Item) → act ≡ Next d → Inside act c i → c .offset + sizeOf i ≤ 16384
+pub act-inside : (act : Act) (d c : Counter) (i : Item) → act ≡ Next d → Inside act c (sizeOf i) → c .offset + sizeOf i ≤ 16384
 act-inside act d c i e h = rw e at h

@@ -1,17 +1,14 @@
--- What an item stores, and where a move lands, as the code does it: one law a branch.
+-- What an item stores, as the code does it: one law a branch.
 use mathlib.Core.Path.{_≡_, _∙_}
-use mathlib.Core.Bool.{not}
 use mathlib.Core.List.{List, [], _∷_, append-assoc}
 use Prim.Native.Nat.{ℕ, _+_, _/_, _%_, _≤_, _<_}
 use native.Mathlib.Omega.{arith}
-use lib.Dec.{eqb}
 use lib.ListN.{length, set, take, drop, length-set}
 use lib.Seq.{sets-eq}
 use Rattle.line.specs.Definition.Ram.{putAt}
-use Rattle.modules.specs.Definition.Counter.{landing, sizeOf, relocated, after, counter, putsAt, putEach}
-use Rattle.modules.specs.Definition.Judging.{leaves}
+use Rattle.modules.specs.Definition.Counter.{sizeOf, relocated, putsAt, putEach}
 use Rattle.modules.specs.declared.Item.{Item}
-use Rattle.modules.specs.declared.Item.the-variants.{Byte, Word, Move}
+use Rattle.modules.specs.declared.Item.the-variants.{Byte, Word}
 use Rattle.modules.specs.declared.Counter.{Counter}
 
 -- one byte put is one element set
@@ -20,12 +17,6 @@ unfolding putAt
 set-put ram at x h = sets-eq (x ∷ []) ram at (omega arith) ∙ append-assoc (take at ram) (x ∷ []) (drop (at + 1) ram)
 
 module _ (c : Counter) (i : Item) where
-  pub leaves-by : (x l : ℕ) → i ≡ Move x → l ≡ landing c x → not (eqb (l / 16384) (c .page)) ≡ leaves c i
-  leaves-by x l e q = rw (e, q)
-
-  pub moves-by : (start x l : ℕ) → i ≡ Move x → l ≡ landing c x → counter (c .page) (l % 16384) ≡ after start c i
-  moves-by start x l e q = rw (e, q)
-
   module _ (ram : List ℕ) (base from : ℕ) (q : from ≡ c .offset) (inside : c .offset + sizeOf i ≤ 16384) (room : base + 16384 ≤ length ram) where
     pub byte-room : (x : ℕ) → i ≡ Byte x → base + from < length ram
     byte-room x e = let h : c .offset + 1 ≤ 16384 = rw e at inside in omega arith

@@ -1,12 +1,13 @@
 -- What comes of an item, and of the stop that the reading yields.
 use mathlib.Core.Bool.{Bool, cond}
 use mathlib.Core.List.{List, []}
-use Prim.Native.Nat.{ℕ, _+_, _≤_}
-use lib.Dec.{eqb}
+use Prim.Native.Nat.{ℕ, _+_, _%_, _≤_}
+use lib.Dec.{ltb, eqb}
+use Rattle.line.specs.Definition.Guard.{guarded}
 use Rattle.modules.specs.Definition.Bits.{Bit}
 use Rattle.modules.specs.Definition.Reading.{end, illegal-item, end-of-input}
-use Rattle.modules.specs.Definition.Counter.{Counts, sizeOf, after, Put, putsAt, putEach}
-use Rattle.modules.specs.Definition.Judging.{outside, above, touches, judgedAt}
+use Rattle.modules.specs.Definition.Counter.{pageSize, Counts, counter, landing, after, Put, putsAt, putEach}
+use Rattle.modules.specs.Definition.Judging.{leaves, outside, above, touches, judgedAt}
 use Rattle.modules.specs.Within.Codes.{itemOf}
 use Rattle.modules.specs.declared.Item.{Item}
 use Rattle.modules.specs.declared.Item.the-variants.{Byte, Word, SetPage, Restore, Move}
@@ -27,6 +28,17 @@ itemAct g c i =
     (cond (above g c i) (Halt stop.Range)
     (cond (touches g c i) (Halt stop.Guard) (Next (after (g .page) c i))))
 
+-- of a store of so many bytes
+abbrev pub putAct : Target → Counter → (size : ℕ) → Act
+putAct g c size =
+    cond (ltb pageSize (c .offset + size)) (Halt stop.Page)
+    (cond (ltb (g .reach) (c .offset + size)) (Halt stop.Range)
+    (cond (guarded (g .row) (c .offset) size) (Halt stop.Guard) (Next (counter (c .page) (c .offset + size)))))
+
+-- of a move
+abbrev pub moveAct : Counter → (x : ℕ) → Act
+moveAct c x = cond (leaves c (Move x)) (Halt stop.Page) (Next (counter (c .page) (landing c x % pageSize)))
+
 unfoldable pub actOf : Target → Counter → (code : ℕ) → Act
 actOf g c code = cond (eqb code 14) (Halt End) (cond (eqb code 15) (Halt Illegal) (itemAct g c (itemOf code)))
 
@@ -44,10 +56,10 @@ abbrev pub Counting : Act → Type 0
 Counting (Next d) = Counts d
 Counting (Halt why) = Unit {0}
 
--- an item that does not halt stores inside the page
-abbrev pub Inside : Act → Counter → Item → Type 0
-Inside (Next d) c i = c .offset + sizeOf i ≤ 16384
-Inside (Halt why) c i = Unit {0}
+-- what does not halt stores its bytes inside the page
+abbrev pub Inside : Act → Counter → (size : ℕ) → Type 0
+Inside (Next d) c size = c .offset + size ≤ 16384
+Inside (Halt why) c size = Unit {0}
 
 -- a page that is set is one
 abbrev pub Paged : Item → Type 0

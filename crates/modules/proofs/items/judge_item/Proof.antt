@@ -1,74 +1,85 @@
--- `items::judge_item` meets its contract, test by test.
-use Rattle.modules.specs.Laws.Acts.{Seen, judge-page, judge-range, judge-guard, judge-next, page-inside, item-inside, next-counts}
+-- `items::judge_item` meets its contract, item by item.
+use mathlib.Core.Path.{refl, ap}
+use Rattle.modules.specs.Definition.Counter.{counter, sizeOf}
+use Rattle.modules.specs.declared.Act.the-variants.{Next}
+use Rattle.modules.specs.Laws.Acts.{act-byte, act-word, act-set, act-restore, act-move, set-paged, inside-as, inside-none}
 use borrow.Author.Needs.{needs}
 use Rattle.modules.proofs.items.judge_item.Statement.{statement}
 use Rattle.modules.proofs.items.judge_item.Tie as tie
 
--- what the tests ask of
-seen : (c : tie.After-leaves-page)
-    → let a = c .before .before .before .args in
-    Seen (a .c) (a .item) (c .before .before .wide16 .result) (c .before .size-of .result) (c .leaves-page .result)
-seen c = record { within = c .before .before .before .pre .0 .offset; offset = c .before .before .wide16 .ensures .0; stores = c .before .size-of .ensures .0; moved = c .leaves-page .ensures }
+enum-told : tie.Need-enum-told
+enum-told c = search needs
 
-wide16-requires : tie.Need-wide16-requires
-wide16-requires c κs = search needs
+put-act-requires : tie.Need-put-act-requires
+put-act-requires c κs = search needs
 
-size-of-requires : tie.Need-size-of-requires
-size-of-requires c κs = search needs
+enum-told-2 : tie.Need-enum-told-2
+enum-told-2 c = search needs
 
-leaves-page-requires : tie.Need-leaves-page-requires
-leaves-page-requires c κs = search needs
+put-act-requires-2 : tie.Need-put-act-requires-2
+put-act-requires-2 c κs = search needs
 
-add-if1 : tie.Need-add-if1
-add-if1 c = search needs
+enum-known-item : tie.Need-enum-known-item
+enum-known-item c = search needs
+
+enum-told-3 : tie.Need-enum-told-3
+enum-told-3 c = search needs
+
+enum-known-item-2 : tie.Need-enum-known-item-2
+enum-known-item-2 c = search needs
+
+move-act-requires : tie.Need-move-act-requires
+move-act-requires c κs = search needs
 
 returns : tie.Need-returns
-returns c = (judge-page (seen (c .before)) (c .before .before .before .before .args .target) (c .if1 .taken), (tt, tt))
-
-add-if2 : tie.Need-add-if2
-add-if2 c = search needs
+returns c =
+    let s = c .before .before .before in
+    let e = c .before .enum-told .given .1 in
+    let p = c .put-act .ensures in
+    (act-byte (s .args .target) (s .args .c) (s .args .item) _ _ e (p .0), (p .1 .0, inside-as (c .put-act .result) (s .args .c) (s .args .item) 1 (ap sizeOf e) (p .1 .1)))
 
 returns-2 : tie.Need-returns-2
 returns-2 c =
-    let l = c .before .before in
-    (judge-range (seen (l .before)) (l .if1 .left) (l .before .before .before .before .args .target) (c .if2 .taken), (tt, tt))
-
-guards-requires : tie.Need-guards-requires
-guards-requires c κs = page-inside (seen (c .before .before .before)) (c .before .before .if1 .left)
+    let s = c .before .before .before in
+    let e = c .before .enum-told2 .given .1 in
+    let p = c .put-act2 .ensures in
+    (act-word (s .args .target) (s .args .c) (s .args .item) _ _ e (p .0), (p .1 .0, inside-as (c .put-act2 .result) (s .args .c) (s .args .item) 2 (ap sizeOf e) (p .1 .1)))
 
 returns-3 : tie.Need-returns-3
 returns-3 c =
-    let l = c .before .before .before .before in
-    let g = l .before .before .before .before .args .target in
-    (judge-guard (seen (l .before)) (l .if1 .left) g (c .before .before .if2 .left) _ (c .before .guards .ensures) (c .if3 .taken), (tt, tt))
-
-next-requires : tie.Need-next-requires
-next-requires c κs =
-    let l = c .before .before .before .before in
-    (l .before .before .before .before .pre .0 .page, item-inside (seen (l .before)) (l .if1 .left))
+    let s = c .before .before .before in
+    let e = c .before .item .given .1 in
+    let d = Next (counter (c .before .item .given .0 .0) (s .args .c .offset)) in
+    (act-set (s .args .target) (s .args .c) (s .args .item) _ _ e refl, (record { page = set-paged (s .args .item) _ e (s .pre .2); offset = s .pre .0 .offset }, inside-as d (s .args .c) (s .args .item) 0 (ap sizeOf e) (inside-none d (s .args .c) (s .pre .0))))
 
 returns-4 : tie.Need-returns-4
 returns-4 c =
-    let l = c .before .before .before .before .before in
-    let s = l .before .before .before .before in
-    let h = item-inside (seen (l .before)) (l .if1 .left) in (
-      judge-next (seen (l .before)) (l .if1 .left) (s .args .target) (c .before .before .before .if2 .left) _ (c .before .before .guards .ensures) (c .before .if3 .left) _
-          (c .next .ensures),
-      (next-counts (s .args .target) (s .args .c) _ (s .args .item) (c .next .ensures) (s .pre .0) (s .pre .1) (s .pre .2) h, h),
-    )
+    let s = c .before .before in
+    let e = c .enum-told3 .given .1 in
+    let d = Next (counter (s .args .target .page) (s .args .c .offset)) in
+    (act-restore (s .args .target) (s .args .c) (s .args .item) _ e refl, (record { page = s .pre .1; offset = s .pre .0 .offset }, inside-as d (s .args .c) (s .args .item) 0 (ap sizeOf e) (inside-none d (s .args .c) (s .pre .0))))
+
+returns-5 : tie.Need-returns-5
+returns-5 c =
+    let s = c .before .before .before .before in
+    let e = c .before .before .item2 .given .1 in
+    let m = c .move-act .ensures in
+    (act-move (s .args .target) (s .args .c) (s .args .item) _ _ e (m .0), (m .1, inside-as (c .move-act .result) (s .args .c) (s .args .item) 0 (ap sizeOf e) (inside-none (c .move-act .result) (s .args .c) (s .pre .0))))
 
 pub judge-item-spec : {M : Type 1} → statement M
 judge-item-spec =
     tie.close
     (tie.spec
-    wide16-requires
-    size-of-requires
-    leaves-page-requires
-    add-if1
+    enum-told
+    put-act-requires
+    enum-told-2
+    put-act-requires-2
+    enum-known-item
+    enum-told-3
+    enum-known-item-2
+    move-act-requires
     returns
-    add-if2
     returns-2
-    guards-requires
     returns-3
-    next-requires
-    returns-4)
+    returns-4
+    returns-5)
