@@ -23,7 +23,7 @@ pub fn item_of(code: usize) -> Item
         return Item::Restore;
     }
     if code < 256 {
-        return Item::SetPage((code % 4) as u8);
+        return Item::SetPage((code % 4) as u16);
     }
     if code < 768 {
         return Item::Byte((code % 256) as u8);
@@ -116,7 +116,7 @@ pub fn judge_item(item: Item, c: Counter, target: Target) -> Act
         Item::Byte(_) => put_act(1, c, target),
         Item::Word(_) => put_act(2, c, target),
         Item::SetPage(page) => Act::Next(Counter {
-            page,
+            page: page as u8,
             offset: c.offset,
         }),
         Item::Restore => Act::Next(Counter {

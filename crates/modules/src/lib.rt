@@ -2,14 +2,14 @@
 
 mod bits; // what is held of the stream, bits of it, and how many an item wants
 mod location; // the location counter: relocation and moves
-mod items; // an item of its bits, and what it does
+pub mod items; // an item of its bits, and what it does
 pub mod reader; // the reader
 
 // What a stream holds before its end item.
 pub enum Item {
     Byte(u8),
     Word(u16),
-    SetPage(u8),
+    SetPage(u16),
     Restore,
     Move(u16),
 }

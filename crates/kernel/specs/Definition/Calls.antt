@@ -7,7 +7,7 @@ use Prim.Native.Nat.{ℕ, _+_, _-_}
 use lib.Dec.{leb, ltb, eqb}
 use lib.ListN.{length}
 use Rattle.line.specs.Definition.Guard.{guarded}
-use Rattle.modules.specs.Definition.Counter.{counter}
+use Rattle.modules.specs.Definition.Counter.{pastRange, counter}
 use Rattle.modules.specs.Definition.Judging.{judged, putsIn, refusalOf, usedOf}
 use Rattle.modules.specs.declared.Target.{Target}
 use Rattle.names.specs.Definition.Grammar.{Reading}
@@ -230,7 +230,7 @@ onLoadModule t segment page offset stream =
     let target = targetOf t row page in
     let verdict = judged target (counter page offset) stream in
     unless
-    (BadCall when (ltb 3 page || ltb SEGMENT offset)
+    (BadCall when (pastRange page offset)
     ∷ NotOwner when not (mayReach t row)
     ∷ BadRange when eqb (refusalOf verdict) 13
     ∷ Guarded when eqb (refusalOf verdict) 14

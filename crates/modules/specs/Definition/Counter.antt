@@ -1,6 +1,8 @@
 -- The location counter, and what an item makes of it and stores at it.
+use mathlib.Core.Bool.{Bool, _||_}
 use mathlib.Core.List.{List, [], _∷_, _++_}
 use Prim.Native.Nat.{ℕ, _+_, _*_, _/_, _%_, _≤_}
+use lib.Dec.{ltb}
 use Rattle.line.specs.Definition.Ram.{putAt}
 use Rattle.modules.specs.declared.Item.{Item}
 use Rattle.modules.specs.declared.Item.the-variants.{Byte, Word, SetPage, Restore, Move}
@@ -14,6 +16,10 @@ pageSize = 16384
 pub record Counts (c : Counter) : Type 0 where
   pub page : c .page ≤ 3
   pub offset : c .offset ≤ pageSize
+
+-- "a start page or offset past its range"
+abbrev pub pastRange : (page offset : ℕ) → Bool
+pastRange page offset = ltb 3 page || ltb pageSize offset
 
 abbrev pub counter : (page offset : ℕ) → Counter
 counter page offset = record { page = page; offset = offset }

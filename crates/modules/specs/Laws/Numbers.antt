@@ -73,11 +73,11 @@ number-fits n bits e = rw (← e) (number-less bits)
 
 -- ---- the bits of bytes
 
-bytes-cons : (x : ℕ) (bytes : List ℕ) → bitsIn (x ∷ bytes) ≡ bitsOf 8 x ++ bitsIn bytes
+pub bytes-cons : (x : ℕ) (bytes : List ℕ) → bitsIn (x ∷ bytes) ≡ bitsOf 8 x ++ bitsIn bytes
 unfolding bitsIn
 bytes-cons x bytes = refl
 
-bytes-none : bitsIn [] ≡ []
+pub bytes-none : bitsIn [] ≡ []
 unfolding bitsIn
 bytes-none = refl
 

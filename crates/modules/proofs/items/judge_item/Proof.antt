@@ -3,6 +3,7 @@ use mathlib.Core.Path.{refl, ap}
 use Rattle.modules.specs.Definition.Counter.{counter, sizeOf}
 use Rattle.modules.specs.declared.Act.the-variants.{Next}
 use Rattle.modules.specs.Laws.Acts.{act-byte, act-word, act-set, act-restore, act-move, set-paged, inside-as, inside-none}
+use native.Mathlib.Omega.{arith}
 use borrow.Author.Needs.{needs}
 use Rattle.modules.proofs.items.judge_item.Statement.{statement}
 use Rattle.modules.proofs.items.judge_item.Tie as tie
@@ -21,6 +22,12 @@ put-act-requires-2 c κs = search needs
 
 enum-known-item : tie.Need-enum-known-item
 enum-known-item c = search needs
+
+cast-t7 : tie.Need-cast-t7
+cast-t7 c =
+    let s = c .before .before .before in
+    let h = set-paged (s .args .item) _ (c .before .item .given .1) (s .pre .2) in
+    omega arith
 
 enum-told-3 : tie.Need-enum-told-3
 enum-told-3 c = search needs
@@ -75,6 +82,7 @@ judge-item-spec =
     enum-told-2
     put-act-requires-2
     enum-known-item
+    cast-t7
     enum-told-3
     enum-known-item-2
     move-act-requires
