@@ -3,9 +3,10 @@
 //!
 //! A log is event records: "length in 2 bytes counting kind and body (2 to
 //! 4,096), kind in 2 bytes, body". [`decode`] gives any bytes in words, one
-//! record a line, and [`encode`] gives exactly these bytes back. Sentences in
-//! quotation marks are those of the definition (document 01) and of the orders
-//! (document 02).
+//! record a line, and [`encode`] gives exactly these bytes back. [`item_list`]
+//! reads the items of a module in words, for the proved writer, and
+//! [`module_words`] shows a module's. Sentences in quotation marks are those of
+//! the definition (document 01) and of the orders (document 02).
 
 mod answers;
 mod diff;
@@ -25,8 +26,9 @@ pub use diff::{diff, Listing};
 pub use exos_kernel::hex;
 pub use grammar::{form_of, Field, Form, Misfit, FORMS};
 pub use map::{map, Boundary, Class, LineRecord, Map, PastTheEnd, Ram, Region, Segment, What};
-pub use mistakes::Mistake;
-pub use parse::encode;
+pub use mistakes::{Mistake, Place};
+pub use module::{module_words, ItemList, NoModule, PageFault, MOST_ITEMS};
+pub use parse::{begins_with_items, encode, item_list};
 pub use records::{records, Record, Records, LONGEST};
 pub use replay::answer_to;
 pub use svg::svg;

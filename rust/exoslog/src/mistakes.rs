@@ -1,17 +1,24 @@
-//! Mistakes in a log in words, and how they are shown.
+//! Mistakes in words, and how they are shown.
 
 use crate::without_mark;
 use std::fmt;
 
-/// A mistake: where it is, what was expected and what was found.
-#[derive(Clone, Debug, PartialEq, Eq)]
-pub struct Mistake {
+/// A place in a text.
+#[derive(Clone, Copy, Debug, PartialEq, Eq)]
+pub struct Place {
     /// The line, from 1.
     pub line: usize,
     /// The column, from 1.
     pub column: usize,
     /// How many columns are in question.
     pub width: usize,
+}
+
+/// A mistake: where it is, what was expected and what was found.
+#[derive(Clone, Debug, PartialEq, Eq)]
+pub struct Mistake {
+    /// Where it is.
+    pub place: Place,
     /// What was expected.
     pub expected: String,
     /// What was found.
@@ -20,12 +27,8 @@ pub struct Mistake {
 
 impl fmt::Display for Mistake {
     fn fmt(&self, f: &mut fmt::Formatter) -> fmt::Result {
-        let Mistake { line, column, .. } = self;
-        write!(
-            f,
-            "{line}:{column}: expected {}, found {}",
-            self.expected, self.found
-        )
+        let Place { line, column, .. } = self.place;
+        write!(f, "{line}:{column}: {}", self.words())
     }
 }
 
@@ -35,14 +38,29 @@ const WINDOW: usize = 72;
 impl Mistake {
     /// The message with the file's name, the line and a mark under the place.
     pub fn show(&self, file: &str, text: &[u8]) -> String {
+        self.place.show(file, text, &self.words())
+    }
+
+    fn words(&self) -> String {
+        format!("expected {}, found {}", self.expected, self.found)
+    }
+}
+
+impl Place {
+    /// What is said of a place, with the file's name, the line and a mark under
+    /// the place.
+    pub fn show(&self, file: &str, text: &[u8], said: &str) -> String {
         let mut lines = without_mark(text).split(|&byte| byte == b'\n');
-        let line = lines.nth(self.line - 1);
-        let line = plain(line.unwrap_or_default());
-        let (shown, before) = window(&line, self.column - 1);
+        let shown = plain(lines.nth(self.line - 1).unwrap_or_default());
+        let (shown, before) = window(&shown, self.column - 1);
         let width = self.width.min(shown.len().saturating_sub(before)).max(1);
         let marks = "^".repeat(width);
         let shown: String = shown.iter().collect();
-        format!("{file}:{self}\n    {shown}\n    {:before$}{marks}\n", "")
+        let Place { line, column, .. } = self;
+        format!(
+            "{file}:{line}:{column}: {said}\n    {shown}\n    {:before$}{marks}\n",
+            ""
+        )
     }
 }
 
@@ -75,9 +93,11 @@ mod tests {
 
     fn mistake(line: usize, column: usize, width: usize) -> Mistake {
         Mistake {
-            line,
-            column,
-            width,
+            place: Place {
+                line,
+                column,
+                width,
+            },
             expected: "x".to_string(),
             found: "y".to_string(),
         }

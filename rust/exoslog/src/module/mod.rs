@@ -1,7 +1,16 @@
 //! The stream of a relocatable module: its items, and the rest behind them.
 
+mod list;
+mod page_rule;
 #[cfg(test)]
 mod tests;
+mod whole;
+
+pub(crate) use list::Start;
+pub use list::{ItemList, MOST_ITEMS};
+pub use page_rule::PageFault;
+pub(crate) use page_rule::LAST_PAGE;
+pub use whole::{module_words, NoModule};
 
 use crate::words::data;
 use exos_kernel::hex;

@@ -1,15 +1,19 @@
-//! Words to event records.
+//! Words to event records, and to a list of items.
 
+mod items;
+mod list;
 mod module;
 mod reader;
 #[cfg(test)]
 mod tests;
 
 use crate::grammar::{Field, Form, FORMS};
-use crate::mistakes::Mistake;
+use crate::mistakes::{Mistake, Place};
 use crate::records::{put_record, LONGEST};
 use crate::without_mark;
-use reader::Reader;
+use reader::{Behind, Reader, NOTHING};
+
+pub use list::{begins_with_items, item_list};
 
 /// The most bytes of a body.
 const LONGEST_BODY: usize = LONGEST - 2;
@@ -17,19 +21,29 @@ const LONGEST_BODY: usize = LONGEST - 2;
 /// The event records of a log in words, or every line's first mistake.
 pub fn encode(text: &[u8]) -> Result<Vec<u8>, Vec<Mistake>> {
     let mut log = Vec::new();
-    let mut mistakes = Vec::new();
-    let lines = without_mark(text).split(|&byte| byte == b'\n');
-    for (row, line) in lines.enumerate() {
-        let mut reader = Reader::new(row + 1, line);
-        if let Err(mistake) = reader.record(&mut log) {
-            mistakes.push(mistake);
-        }
-    }
+    each_line(text, |reader| reader.record(&mut log))?;
+    Ok(log)
+}
+
+/// Reads every line of a text, or gives every line's first mistake.
+fn each_line(
+    text: &[u8],
+    mut read: impl FnMut(&mut Reader) -> Result<(), Mistake>,
+) -> Result<(), Vec<Mistake>> {
+    let mistakes: Vec<Mistake> = lines(text)
+        .filter_map(|mut reader| read(&mut reader).err())
+        .collect();
     if mistakes.is_empty() {
-        Ok(log)
+        Ok(())
     } else {
         Err(mistakes)
     }
+}
+
+/// The lines of a text.
+fn lines(text: &[u8]) -> impl Iterator<Item = Reader<'_>> {
+    let lines = without_mark(text).split(|&byte| byte == b'\n');
+    (1..).zip(lines).map(|(row, line)| Reader::new(row, line))
 }
 
 impl Reader<'_> {
@@ -39,7 +53,8 @@ impl Reader<'_> {
             b"" => return Ok(()),
             b"raw" => {
                 self.take(b"raw".len());
-                log.extend(self.hex("bytes as pairs of hex digits", &[])?);
+                let put = |byte, _| log.push(byte);
+                self.hex("bytes as pairs of hex digits", NOTHING, put)?;
             }
             b"kind" => {
                 self.take(b"kind".len());
@@ -152,23 +167,28 @@ impl Reader<'_> {
     }
 
     fn name(&mut self) -> Result<Vec<u8>, Mistake> {
-        if self.peek().first() == Some(&b'"') {
-            self.string()
-        } else {
-            Err(self.mistake("a name in double quotes".to_string()))
+        if self.peek().first() != Some(&b'"') {
+            return Err(self.mistake("a name in double quotes".to_string()));
         }
+        let mut name = Vec::new();
+        self.string(|byte, _| name.push(byte))?;
+        Ok(name)
     }
 
     fn data(&mut self) -> Result<Vec<u8>, Mistake> {
-        self.data_before(&[])
+        let mut data = Vec::new();
+        self.data_before(NOTHING, |byte, _| data.push(byte))?;
+        Ok(data)
     }
 
-    /// Reads data up to one of these words or the line's end.
-    fn data_before(&mut self, words: &[&str]) -> Result<Vec<u8>, Mistake> {
+    /// Reads data up to what may stand behind it, and hands each byte on with its
+    /// place.
+    fn data_before(&mut self, behind: Behind, put: impl FnMut(u8, Place)) -> Result<(), Mistake> {
         if self.peek().first() == Some(&b'"') {
-            self.string()
+            self.string(put)
         } else {
-            self.hex("data as pairs of hex digits or in double quotes", words)
+            let what = "data as pairs of hex digits or in double quotes";
+            self.hex(what, behind, put)
         }
     }
 }

@@ -1,32 +1,53 @@
 //! Reads data: pairs of hex digits, and strings.
 
 use super::{ends_word, Reader};
-use crate::mistakes::Mistake;
+use crate::mistakes::{Mistake, Place};
 use crate::parse::one_of;
 
+/// What may stand behind pairs of hex digits.
+#[derive(Clone, Copy)]
+pub(in crate::parse) struct Behind<'a> {
+    /// The words that end them, as the line's end does.
+    pub(in crate::parse) words: &'a [&'a str],
+    /// What a message says may stand there.
+    pub(in crate::parse) told: &'a [&'a str],
+}
+
+/// Nothing stands behind them on the line.
+pub(in crate::parse) const NOTHING: Behind = Behind {
+    words: &[],
+    told: &["the end of the line"],
+};
+
 impl Reader<'_> {
-    /// Reads pairs of hex digits, with blanks between pairs or none, up to one of
-    /// these words or the line's end.
-    pub(in crate::parse) fn hex(&mut self, what: &str, ends: &[&str]) -> Result<Vec<u8>, Mistake> {
-        let is_end = |word: &[u8]| word.is_empty() || ends.iter().any(|end| end.as_bytes() == word);
-        let first = self.peek();
-        if is_end(first) || !first[0].is_ascii_hexdigit() {
+    /// Reads pairs of hex digits, with blanks between pairs or none, and hands
+    /// each byte on with its place.
+    pub(in crate::parse) fn hex(
+        &mut self,
+        what: &str,
+        behind: Behind,
+        mut put: impl FnMut(u8, Place),
+    ) -> Result<(), Mistake> {
+        let is_end =
+            |word: &[u8]| word.is_empty() || behind.words.iter().any(|end| end.as_bytes() == word);
+        let mut word = self.peek();
+        if is_end(word) || !word[0].is_ascii_hexdigit() {
             return Err(self.mistake(what.to_string()));
         }
-        let mut bytes = Vec::new();
-        loop {
-            let word = self.peek();
-            if is_end(word) {
-                return Ok(bytes);
-            }
-            // a word that is no data may begin with a hex digit: "end"
-            if !bytes.is_empty() && !word.iter().all(u8::is_ascii_hexdigit) {
-                return Err(self.mistake(hex_or(ends)));
-            }
+        while !is_end(word) {
             for _ in 0..word.len().div_ceil(2) {
-                bytes.push(self.pair()?);
+                let start = self.at;
+                let byte = self.pair()?;
+                put(byte, self.place_since(start));
+            }
+            word = self.peek();
+            // a word that is no data may begin with a hex digit: "end"
+            if !is_end(word) && !word.iter().all(u8::is_ascii_hexdigit) {
+                let pairs = &["pairs of hex digits"];
+                return Err(self.mistake(one_of(&[pairs, behind.told].concat())));
             }
         }
+        Ok(())
     }
 
     pub(in crate::parse) fn pair(&mut self) -> Result<u8, Mistake> {
@@ -46,30 +67,37 @@ impl Reader<'_> {
         }
     }
 
-    /// Reads a string from its double quote on. With the closing one the word
-    /// ends.
-    pub(in crate::parse) fn string(&mut self) -> Result<Vec<u8>, Mistake> {
-        const PRINTABLE: &str = "a printable byte or \\x and two hex digits";
+    /// Reads a string from its double quote on, and hands each byte on with its
+    /// place. With the closing quote the word ends.
+    pub(in crate::parse) fn string(
+        &mut self,
+        mut put: impl FnMut(u8, Place),
+    ) -> Result<(), Mistake> {
         self.take(1);
-        let mut bytes = Vec::new();
-        loop {
-            match self.line.get(self.at) {
-                Some(b'"') => break,
-                Some(b'\\') => bytes.push(self.escape()?),
-                Some(&byte @ b' '..=b'~') => {
-                    bytes.push(byte);
-                    self.take(1);
-                }
-                Some(_) => return Err(self.mistake_in_word(PRINTABLE, 1)),
-                None => return Err(self.mistake_in_word("a closing double quote", 1)),
-            }
+        while self.line.get(self.at) != Some(&b'"') {
+            let start = self.at;
+            let byte = self.string_byte()?;
+            put(byte, self.place_since(start));
         }
         self.take(1);
         match self.line.get(self.at) {
             Some(&byte) if !ends_word(byte) => {
                 Err(self.mistake("a blank or the end of the line".to_string()))
             }
-            _ => Ok(bytes),
+            _ => Ok(()),
+        }
+    }
+
+    fn string_byte(&mut self) -> Result<u8, Mistake> {
+        const PRINTABLE: &str = "a printable byte or \\x and two hex digits";
+        match self.line.get(self.at) {
+            Some(b'\\') => self.escape(),
+            Some(&byte @ b' '..=b'~') => {
+                self.take(1);
+                Ok(byte)
+            }
+            Some(_) => Err(self.mistake_in_word(PRINTABLE, 1)),
+            None => Err(self.mistake_in_word("a closing double quote", 1)),
         }
     }
 
@@ -87,14 +115,4 @@ impl Reader<'_> {
             _ => Err(self.mistake_in_word("\\\\, \\\" or \\x and two hex digits", 2)),
         }
     }
-}
-
-/// What may stand behind pairs of hex digits.
-fn hex_or(ends: &[&str]) -> String {
-    let ends = if ends.is_empty() {
-        &["the end of the line"]
-    } else {
-        ends
-    };
-    one_of(&[&["pairs of hex digits"], ends].concat())
 }

@@ -2,7 +2,9 @@
 
 mod data;
 
-use crate::mistakes::Mistake;
+pub(super) use data::{Behind, NOTHING};
+
+use crate::mistakes::{Mistake, Place};
 
 /// A line, and how far it is read.
 pub(super) struct Reader<'a> {
@@ -82,10 +84,9 @@ impl<'a> Reader<'a> {
     fn mistake_in_word(&self, expected: &str, length: usize) -> Mistake {
         let rest = &self.line[self.at..];
         let found = &rest[..length.min(rest.len())];
+        let width = String::from_utf8_lossy(found).chars().count().max(1);
         Mistake {
-            line: self.row,
-            column: self.at + 1,
-            width: String::from_utf8_lossy(found).chars().count().max(1),
+            place: self.place_of(self.at, width),
             expected: expected.to_string(),
             found: found_words(found),
         }
@@ -94,11 +95,22 @@ impl<'a> Reader<'a> {
     /// What was read from a place on is not what was expected.
     pub(super) fn mistake_since(&self, start: usize, expected: String, found: String) -> Mistake {
         Mistake {
-            line: self.row,
-            column: start + 1,
-            width: self.at - start,
+            place: self.place_since(start),
             expected,
             found,
+        }
+    }
+
+    /// Where what was read from a place on stands.
+    pub(super) fn place_since(&self, start: usize) -> Place {
+        self.place_of(start, self.at - start)
+    }
+
+    fn place_of(&self, start: usize, width: usize) -> Place {
+        Place {
+            line: self.row,
+            column: start + 1,
+            width,
         }
     }
 }

@@ -1,0 +1,95 @@
+//! A whole module in words, in the form that a list of items has.
+
+use super::list::MOST_ITEMS;
+use super::{has_bad_padding, is_broken_off, items_words};
+use crate::words::{counted, cut};
+use exos_kernel::hex;
+use exos_modules::{Item, Module, What, END, ILLEGAL};
+use std::fmt::{self, Display, Formatter};
+
+/// The bytes that are looked at: in so many there are more items than a list
+/// has, or the end item.
+const LOOKED_AT: usize = (MOST_ITEMS + 1) * LONGEST_ITEM / 8 + 1;
+
+/// The bits of a move, the longest item.
+const LONGEST_ITEM: usize = 20;
+
+/// The most columns of a line with a comment.
+const WIDTH: usize = 80;
+
+/// Why bytes are no whole module.
+#[derive(Clone, Debug, PartialEq, Eq)]
+pub struct NoModule {
+    /// At which bit, from 0.
+    pub bit: usize,
+    /// Which item is at fault, from 1, and why.
+    pub why: String,
+}
+
+/// "Bits are read from bit 7 of the first byte."
+impl Display for NoModule {
+    fn fmt(&self, to: &mut Formatter<'_>) -> fmt::Result {
+        let NoModule { bit, why } = self;
+        write!(to, "byte {} (from 0), bit {}: {why}", bit / 8, 7 - bit % 8)
+    }
+}
+
+/// A module in words, an item or a run of bytes a line; a comment tells of bytes
+/// behind the end item.
+pub fn module_words(bytes: &[u8]) -> Result<String, NoModule> {
+    let module = Module::of(&bytes[..bytes.len().min(LOOKED_AT)]);
+    if let Some(fault) = fault(&module) {
+        return Err(fault);
+    }
+    let mut text = items_words(&module.items).join("\n");
+    let behind = &bytes[module.length().div_ceil(8)..];
+    if !behind.is_empty() {
+        text.push_str(&comment(behind));
+    }
+    Ok(text + "\n")
+}
+
+fn comment(behind: &[u8]) -> String {
+    let count = counted(behind.len(), "byte");
+    // no more than a line can show
+    let shown = hex(&behind[..behind.len().min(WIDTH)]);
+    let comment = format!(" # {count} behind the end item: {shown}");
+    cut(&comment, WIDTH - "end".len())
+}
+
+/// What is first at fault, if anything.
+fn fault(module: &Module) -> Option<NoModule> {
+    let items = &module.items;
+    let (count, end) = (items.len(), module.length());
+    let (bit, why) = if items.get(MOST_ITEMS).is_some_and(|item| *item != END) {
+        let too_many = format!("item {} is one too many", MOST_ITEMS + 1);
+        (length(&items[..MOST_ITEMS]), too_many)
+    } else if items.last() == Some(&ILLEGAL) {
+        let illegal = format!("item {count} is illegal: 111");
+        (end - What::Illegal.length(), illegal)
+    } else if !is_broken_off(module) {
+        (end, runs_out(count + 1, module.rest.len()))
+    } else if has_bad_padding(module) {
+        let zeros = module.rest.iter().take_while(|bit| !**bit).count();
+        let padding = format!("item {count}, the end item, has padding that is not zero");
+        (end + zeros, padding)
+    } else {
+        return None;
+    };
+    Some(NoModule { bit, why })
+}
+
+/// "Input that runs out", so many bits into an item.
+fn runs_out(item: usize, bits: usize) -> String {
+    match bits {
+        0 => format!("the input ends where item {item} is due, without an end item"),
+        _ => format!(
+            "the input ends within item {item}, {} into it",
+            counted(bits, "bit")
+        ),
+    }
+}
+
+fn length(items: &[Item]) -> usize {
+    items.iter().map(|item| item.what.length()).sum()
+}
