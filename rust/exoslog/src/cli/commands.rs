@@ -1,19 +1,15 @@
-//! What each command does, to an exit status.
+//! What each command over logs does, to an exit status.
 
 use super::args::Arguments;
-use super::streams::{print, write, Input, LogForm};
+use super::streams::{keep_from_terminal, print, write, Input, LogForm};
 use super::trouble::{say, Trouble, DONE, NOT_RIGHT};
 use exoslog::{counted, is_in_words, svg, terminal, PastTheEnd};
 use std::ffi::OsStr;
-use std::io::{self, IsTerminal};
 
 pub(super) fn encode(arguments: &Arguments) -> Result<u8, Trouble> {
     let file = arguments.operands(&[], 1)?.first();
     let output = arguments.value("--output");
-    if output.is_none() && io::stdout().is_terminal() {
-        let what = "event records are binary: give -o OUT, or send the output to a file or a pipe";
-        return Err(Trouble::Usage(what.to_string()));
-    }
+    keep_from_terminal(output, "event records")?;
     let input = Input::read(file)?;
     write(output, &input.log(LogForm::Words)?)?;
     Ok(DONE)

@@ -1,7 +1,8 @@
 //! What `--help` prints.
 
 pub const EXOSLOG: &str = "\
-exoslog: logs of EXOS calls in words, as pictures, and their listings compared
+exoslog: logs of EXOS calls in words, as pictures, and their listings compared;
+modules in words
 
 usage: exoslog COMMAND [ARGUMENT...]
 
@@ -10,13 +11,15 @@ commands:
   decode   event records to words
   map      the RAM after a log, or after its k-th record, as a picture
   diff     two listings: the first record that differs
+  module   items in words to a module, and a module to words
 
 exoslog COMMAND --help tells more of a command; exoslog --version tells the
 version. No FILE, or -, is standard input. In this repository a log in words is
 NAME.words, and one of event records NAME.log.
 
 exit status: 0 done (diff: the same), 1 the input is not right (diff: they
-differ), 2 a wrong use, or a file that cannot be read or written.
+differ), 2 a wrong use, or a file that cannot be read or written. module --with
+has more: those of the program that it runs.
 ";
 
 pub const ENCODE: &str = "\
@@ -102,4 +105,54 @@ noted above that, the first of each sort. One of the files may be -, standard
 input.
 
 exit status: 0 the same byte by byte, 1 they differ, 2 trouble.
+";
+
+pub const MODULE: &str = "\
+exoslog module: items in words to a module, and a module to words
+
+usage: exoslog module [--with PROGRAM] [FILE] [-o OUT]
+       exoslog module --decode [FILE] [-o OUT]
+
+  --with PROGRAM     have PROGRAM, as ./exos-module, make the module
+  --decode           a module to words
+  -o, --output OUT   write to OUT (- is standard output, a terminal too)
+
+Without --with or --decode the output is what exos-module reads: the start page
+in a byte, the start offset in two, and three bytes an item. Both of these make
+boot.module:
+
+  exoslog module boot.words | ./exos-module > boot.module
+  exoslog module --with ./exos-module boot.words -o boot.module
+
+Words stand one item a line or several; # begins a comment; blank lines are
+skipped. Numbers are decimal, or hex with 0x.
+
+  start PAGE OFFSET   may stand first, a line of its own; without it 0 0
+  bytes DATA          an item a byte
+  word HHHH           a word
+  page P              sets the page
+  restore             restores the page
+  move HHHH           moves the counter: move ffff goes back by 1
+  end                 may stand last: the program adds the end item anyway
+
+  DATA  pairs of hex digits, blanks between pairs or none; or in double quotes,
+        with \\\\ and \\\" and \\xHH for any byte
+  HHHH  four hex digits
+
+exoslog refuses what is not in these words, what the three bytes cannot hold (a
+PAGE above 255, an OFFSET or P above 65535) and more than 104857 items. Mistakes
+are told as FILE:LINE:COLUMN, every line's first; then nothing is written.
+PROGRAM refuses with 20 PAGE a start page above 3, a start offset above 16384, a
+P above 3, and a store or a move outside the page; with 13 RANGE a module of
+more than 65536 bytes. exoslog adds where and why, by its own reading.
+
+--decode prints an item or a run of bytes a line, without a start, which a
+module does not tell. Bytes behind the end item are told in a comment. Of what
+is no whole module the first item at fault is told, with the byte, from 0, and
+the bit, 7 to 0, and nothing is written.
+
+exit status: 0 done, 1 the input is not right, 2 a wrong use, a file that cannot
+be read or written, a PROGRAM that cannot be run, or one that is done and did
+not give the module of the items; else that of PROGRAM (20 PAGE, 13 RANGE), and
+128 and the signal's number where a signal ended it.
 ";

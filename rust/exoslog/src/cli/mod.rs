@@ -3,6 +3,8 @@
 mod args;
 mod commands;
 mod help;
+mod module;
+mod program;
 mod streams;
 mod trouble;
 
@@ -21,7 +23,7 @@ struct Command {
     run: fn(&Arguments) -> Result<u8, Trouble>,
 }
 
-const COMMANDS: [Command; 4] = [
+const COMMANDS: [Command; 5] = [
     Command {
         name: "encode",
         help: help::ENCODE,
@@ -46,6 +48,12 @@ const COMMANDS: [Command; 4] = [
         choices: &[HELP, FROM],
         run: commands::diff,
     },
+    Command {
+        name: "module",
+        help: help::MODULE,
+        choices: &[HELP, OUTPUT, WITH, DECODE],
+        run: module::module,
+    },
 ];
 
 const HELP: Choice = Choice::switch(&["-h", "--help"]);
@@ -54,6 +62,8 @@ const AT: Choice = Choice::value(&["--at"]);
 const SVG: Choice = Choice::value(&["--svg"]);
 const TEXT: Choice = Choice::switch(&["--text"]);
 const FROM: Choice = Choice::value(&["--from"]);
+const WITH: Choice = Choice::value(&["--with"]);
+const DECODE: Choice = Choice::switch(&["--decode"]);
 
 /// Runs the command that the arguments ask for.
 pub fn run(mut arguments: impl Iterator<Item = OsString>) -> ExitCode {

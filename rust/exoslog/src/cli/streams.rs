@@ -2,10 +2,11 @@
 
 use super::args::Arguments;
 use super::trouble::Trouble;
-use exoslog::{encode, form_of, is_in_words, records, Listing, Mistake, Record};
+use exoslog::{begins_with_items, encode, form_of, is_in_words, item_list, module_words, records};
+use exoslog::{ItemList, Listing, Mistake, Record};
 use std::ffi::{OsStr, OsString};
 use std::fs;
-use std::io::{self, ErrorKind, Read, Write};
+use std::io::{self, ErrorKind, IsTerminal, Read, Write};
 
 /// What a log is said to be.
 #[derive(Clone, Copy)]
@@ -69,6 +70,22 @@ impl Input {
         encode(&self.bytes).map_err(|mistakes| self.mistakes(&mistakes))
     }
 
+    /// The list of items that the words are.
+    pub(super) fn item_list(&self) -> Result<ItemList, Trouble> {
+        item_list(&self.bytes).map_err(|mistakes| {
+            if !begins_with_items(&self.bytes) && module_words(&self.bytes).is_ok() {
+                return self.looks_like("a module; exoslog module --decode");
+            }
+            self.mistakes(&mistakes)
+        })
+    }
+
+    /// The input is in another form, which another command reads.
+    fn looks_like(&self, other: &str) -> Trouble {
+        let name = &self.name;
+        Trouble::Input(format!("exoslog: {name} looks like {other} reads those\n"))
+    }
+
     /// Whether a whole record of a known kind comes first.
     fn begins_with_a_record(&self) -> bool {
         match records(&self.bytes).next() {
@@ -79,10 +96,7 @@ impl Input {
 
     fn mistakes(&self, mistakes: &[Mistake]) -> Trouble {
         if self.begins_with_a_record() {
-            let name = &self.name;
-            return Trouble::Input(format!(
-                "exoslog: {name} looks like event records; exoslog decode reads those\n"
-            ));
+            return self.looks_like("event records; exoslog decode");
         }
         let mut said = String::new();
         for mistake in mistakes.iter().take(MOST_SHOWN) {
@@ -101,6 +115,16 @@ impl Input {
             text: &self.bytes,
         }
     }
+}
+
+/// Bytes that are no text go to a terminal only where `-` asks for it.
+pub(super) fn keep_from_terminal(output: Option<&OsStr>, what: &str) -> Result<(), Trouble> {
+    if output.is_none() && io::stdout().is_terminal() {
+        let what =
+            format!("{what} are binary: give -o OUT, or send the output to a file or a pipe");
+        return Err(Trouble::Usage(what));
+    }
+    Ok(())
 }
 
 /// Writes to a file; none, or `-`, is standard output.

@@ -101,3 +101,59 @@ impl ItemList {
         self.items.iter().map(|placed| placed.item)
     }
 }
+
+#[cfg(test)]
+mod tests {
+    use super::*;
+    use crate::item_list;
+
+    fn list(text: &str) -> ItemList {
+        item_list(text.as_bytes()).unwrap()
+    }
+
+    #[test]
+    fn the_programs_input() {
+        assert_eq!(list("").input(), [0, 0, 0]);
+        assert_eq!(
+            list("start 3 0x4001\nbytes 0aff word 1234 page 3 page 65535 restore move fff3 end")
+                .input(),
+            [
+                3, 0x01, 0x40, 0, 0x0A, 0, 0, 0xFF, 0, 1, 0x34, 0x12, 2, 3, 0, 2, 0xFF, 0xFF, 3, 0,
+                0, 4, 0xF3, 0xFF
+            ]
+        );
+    }
+
+    #[test]
+    fn the_module_of_the_items() {
+        let modules: [(&str, &[u8]); 6] = [
+            ("", &[0xC0]),
+            ("bytes 01", &[0x00, 0xE0]),
+            ("word 1234", &[0x82, 0x46, 0x98]),
+            ("page 3", &[0xA7, 0x80]),
+            ("restore", &[0xAE]),
+            ("move 4000", &[0xB4, 0x00, 0x0C]),
+        ];
+        for (text, module) in modules {
+            let list = list(text);
+            assert_eq!(list.module_length(), module.len(), "{text}");
+            for (other, bytes) in modules {
+                assert_eq!(list.is_module(bytes), text == other, "{text} {other}");
+            }
+            assert!(!list.is_module(&[module, &[0]].concat()));
+            assert!(!list.is_module(&module[1..]));
+            let mut padded = module.to_vec();
+            *padded.last_mut().unwrap() |= 1;
+            assert!(!list.is_module(&padded), "{text}");
+        }
+        // what two bits hold of page 7
+        assert!(!list("page 7").is_module(&[0xA7, 0x80]));
+    }
+
+    #[test]
+    fn the_most_restores_fill_the_programs_buffer() {
+        let list = list(&"restore\n".repeat(MOST_ITEMS));
+        assert_eq!(list.module_length(), 65_536);
+        assert_eq!(list.input().len(), 3 + 3 * MOST_ITEMS);
+    }
+}

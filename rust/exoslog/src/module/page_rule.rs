@@ -84,3 +84,89 @@ fn behind_move(value: u16, offset: u16) -> Result<u16, String> {
         "move {value:04x} from offset {offset} lands at {landing}, and a page ends with {last}"
     ))
 }
+
+#[cfg(test)]
+mod tests {
+    use super::*;
+    use crate::item_list;
+
+    fn why(text: &str) -> Option<String> {
+        let fault = item_list(text.as_bytes()).unwrap().page_fault();
+        fault.map(|PageFault { place, why }| format!("{}:{}: {why}", place.line, place.column))
+    }
+
+    #[track_caller]
+    fn refuses(text: &str, said: &str) {
+        assert_eq!(why(text).as_deref(), Some(said));
+    }
+
+    #[test]
+    fn what_the_page_holds() {
+        for text in [
+            "",
+            "start 3 16384",
+            "start 3 16384\nrestore page 3",
+            "start 0 16383\nbytes 01",
+            "start 0 16382\nword ffff restore",
+            "move 3fff bytes 01",
+            "start 0 1\nmove ffff",
+            "start 0 16384\nmove c000 word 0000",
+            "start 0 16384\nmove ffff bytes 01",
+        ] {
+            assert_eq!(why(text), None, "{text}");
+        }
+    }
+
+    #[test]
+    fn starts_out_of_range() {
+        refuses("start 4 0", "1:1: start page 4 is above 3");
+        refuses("\n start 255 65535", "2:2: start page 255 is above 3");
+        refuses("start 0 16385", "1:1: start offset 16385 is above 16384");
+    }
+
+    #[test]
+    fn pages_above_3() {
+        for page in [4, 256, 65_535] {
+            refuses(
+                &format!("page 3 restore\npage {page}"),
+                &format!("2:1: item 3: page {page} is above 3"),
+            );
+        }
+    }
+
+    #[test]
+    fn stores_outside_the_page() {
+        refuses(
+            "start 0 16384\nbytes 01",
+            "2:7: item 1: a byte at offset 16384 stores up to offset 16384, and a page ends with 16383",
+        );
+        refuses(
+            "start 0 16382\nbytes 010203 word 0000",
+            "2:11: item 3: a byte at offset 16384 stores up to offset 16384, and a page ends with 16383",
+        );
+        refuses(
+            "start 0 16382\nbytes \"a\\x62c\"",
+            "2:13: item 3: a byte at offset 16384 stores up to offset 16384, and a page ends with 16383",
+        );
+        refuses(
+            "start 0 16383\nword 0000",
+            "2:1: item 1: a word at offset 16383 stores up to offset 16384, and a page ends with 16383",
+        );
+    }
+
+    #[test]
+    fn moves_outside_the_page() {
+        refuses(
+            "move 4000",
+            "1:1: item 1: move 4000 from offset 0 lands at 16384, and a page ends with 16383",
+        );
+        refuses(
+            "word 0000 move fffd",
+            "1:11: item 2: move fffd from offset 2 lands at 65535, and a page ends with 16383",
+        );
+        refuses(
+            "start 0 16384\nmove 0000",
+            "2:1: item 1: move 0000 from offset 16384 lands at 16384, and a page ends with 16383",
+        );
+    }
+}

@@ -93,3 +93,97 @@ fn runs_out(item: usize, bits: usize) -> String {
 fn length(items: &[Item]) -> usize {
     items.iter().map(|item| item.what.length()).sum()
 }
+
+#[cfg(test)]
+mod tests {
+    use super::*;
+    use exos_modules::{byte, cut, move_by, set_page, stream, word, RESTORE};
+
+    fn no_module(bytes: &[u8]) -> String {
+        module_words(bytes).unwrap_err().to_string()
+    }
+
+    #[test]
+    fn an_item_or_a_run_a_line() {
+        let items = [
+            byte(0x3E),
+            byte(1),
+            word(0x1234),
+            set_page(3),
+            RESTORE,
+            move_by(0xFFF3),
+            byte(0xC9),
+            END,
+        ];
+        assert_eq!(
+            module_words(&stream(&items)).as_deref(),
+            Ok("bytes 3e01\nword 1234\npage 3\nrestore\nmove fff3\nbytes c9\nend\n")
+        );
+        assert_eq!(module_words(&[0xC0]).as_deref(), Ok("end\n"));
+    }
+
+    #[test]
+    fn bytes_behind_the_end_item() {
+        assert_eq!(
+            module_words(&[0xAE, 0xFF]).as_deref(),
+            Ok("restore\nend # 1 byte behind the end item: ff\n")
+        );
+        let text = module_words(&[&[0xC0][..], &[0x5A; 1_000_000]].concat()).unwrap();
+        assert!(text.starts_with("end # 1000000 bytes behind the end item: 5a5a"));
+        assert!(text.len() == WIDTH + 1 && text.ends_with("...\n"), "{text}");
+    }
+
+    #[test]
+    fn the_place_of_a_fault() {
+        assert_eq!(
+            no_module(&[0xE0, 0xC0]),
+            "byte 0 (from 0), bit 7: item 1 is illegal: 111"
+        );
+        assert_eq!(
+            no_module(&[0x00, 0xF0]),
+            "byte 1 (from 0), bit 6: item 2 is illegal: 111"
+        );
+        assert_eq!(
+            no_module(&[]),
+            "byte 0 (from 0), bit 7: the input ends where item 1 is due, without an end item"
+        );
+        assert_eq!(
+            no_module(&[0; 9]),
+            "byte 9 (from 0), bit 7: the input ends where item 9 is due, without an end item"
+        );
+        assert_eq!(
+            no_module(&cut(&[], word(0), 8)),
+            "byte 0 (from 0), bit 7: the input ends within item 1, 8 bits into it"
+        );
+        assert_eq!(
+            no_module(&[0xAC]),
+            "byte 0 (from 0), bit 2: the input ends within item 2, 3 bits into it"
+        );
+        assert_eq!(
+            no_module(&[0xC1]),
+            "byte 0 (from 0), bit 0: item 1, the end item, has padding that is not zero"
+        );
+        assert_eq!(
+            no_module(&[0x00, 0xEC, 0xFF]),
+            "byte 1 (from 0), bit 3: item 2, the end item, has padding that is not zero"
+        );
+    }
+
+    #[test]
+    fn as_many_items_as_a_list_has() {
+        for item in [RESTORE, move_by(0)] {
+            let mut items = vec![item; MOST_ITEMS];
+            items.push(END);
+            let text = module_words(&stream(&items)).unwrap();
+            assert_eq!(text.lines().count(), MOST_ITEMS + 1);
+            items.insert(0, item);
+            let bit = MOST_ITEMS * item.what.length();
+            let why = "item 104858 is one too many".to_string();
+            assert_eq!(module_words(&stream(&items)), Err(NoModule { bit, why }));
+        }
+        assert_eq!(
+            What::ALL.map(What::length).into_iter().max(),
+            Some(LONGEST_ITEM)
+        );
+    }
+}

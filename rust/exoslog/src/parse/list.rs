@@ -111,3 +111,133 @@ impl Reader<'_> {
         })
     }
 }
+
+#[cfg(test)]
+mod tests {
+    use super::*;
+
+    /// The program's input.
+    fn input(text: &str) -> Vec<u8> {
+        item_list(text.as_bytes()).unwrap().input()
+    }
+
+    #[track_caller]
+    fn mistakes(text: &str, expected: &[&str]) {
+        let mistakes = item_list(text.as_bytes()).unwrap_err();
+        let said: Vec<String> = mistakes.iter().map(Mistake::to_string).collect();
+        assert_eq!(said, expected);
+    }
+
+    #[test]
+    fn one_a_line_or_several() {
+        let plain = input("start 1 512\nbytes 3e01cd word 1234 page 3 restore move ffff\n");
+        for text in [
+            "start 1 512\nbytes 3e\nbytes 01\nbytes cd\nword 1234\npage 3\nrestore\nmove ffff\nend",
+            "\u{feff}# a start\r\n\r\n\tstart 0x1 0x0200 # in hex\r\nbytes 3E 01\r\n\
+             bytes \"\\xcd\" word 1234 # so\r\npage 0x3 restore\r\nmove FFFF end # last\r\n\r\n",
+        ] {
+            assert_eq!(input(text), plain, "{text}");
+        }
+    }
+
+    #[test]
+    fn no_items() {
+        for text in ["", "end", "start 0 0", "# nothing\n\n", "bytes \"\"\nend\n"] {
+            assert_eq!(input(text), [0, 0, 0], "{text}");
+        }
+    }
+
+    #[test]
+    fn what_the_three_bytes_hold() {
+        assert_eq!(input("start 255 65535"), [255, 255, 255]);
+        assert_eq!(input("page 65535"), [0, 0, 0, 2, 255, 255]);
+        mistakes(
+            "start 256 0\npage 65536\nword 123\nmove -1",
+            &[
+                "1:7: expected a start page 0 to 255, found \"256\"",
+                "2:6: expected a page 0 to 65535, found \"65536\"",
+                "3:6: expected a word as four hex digits, found \"123\"",
+                "4:6: expected a move as four hex digits (-1 is ffff), found \"-1\"",
+            ],
+        );
+        mistakes(
+            "start 0 65536",
+            &["1:9: expected a start offset 0 to 65535, found \"65536\""],
+        );
+    }
+
+    #[test]
+    fn words_that_are_no_items() {
+        mistakes(
+            "# a list\nbyte 01\nbyte 01\nbytes 01 byte",
+            &[
+                "2:1: expected start, bytes, word, page, restore, move or end, found \"byte\"",
+                "3:1: expected bytes, word, page, restore, move or end, found \"byte\"",
+                "4:10: expected pairs of hex digits, bytes, word, page, restore, move, end or \
+                 the end of the line, found \"byte\"",
+            ],
+        );
+        mistakes(
+            "restore illegal\nbytes 01 rest 00",
+            &[
+                "1:9: expected bytes, word, page, restore, move or end \
+                 (illegal and rest are no items of a writer), found \"illegal\"",
+                "2:10: expected bytes, word, page, restore, move or end \
+                 (illegal and rest are no items of a writer), found \"rest\"",
+            ],
+        );
+    }
+
+    #[test]
+    fn a_start_stands_first_on_a_line_of_its_own() {
+        mistakes(
+            "start 0 0 word 1234\nstart 0 0\nbytes 01 start 0 0",
+            &[
+                "1:11: expected the end of the line, found \"word\"",
+                "2:1: expected bytes, word, page, restore, move or end (start stands first), \
+                 found \"start\"",
+                "3:10: expected bytes, word, page, restore, move or end (start stands first), \
+                 found \"start\"",
+            ],
+        );
+    }
+
+    #[test]
+    fn nothing_stands_behind_the_end() {
+        mistakes(
+            "end end",
+            &["1:5: expected nothing behind end, found \"end\""],
+        );
+        mistakes(
+            "restore\nend\n\nword 1234\nword 1\nend",
+            &[
+                "4:1: expected nothing behind end, found \"word\"",
+                "5:6: expected a word as four hex digits, found \"1\"",
+            ],
+        );
+    }
+
+    #[test]
+    fn one_item_too_many() {
+        let most = "restore\n".repeat(MOST_ITEMS - 2) + "bytes 0102";
+        assert_eq!(input(&most).len(), 3 + 3 * MOST_ITEMS);
+        mistakes(
+            &(most.clone() + "0304\nend"),
+            &["104856:11: expected at most 104857 items, found one more"],
+        );
+        mistakes(
+            &(most + "\npage 1 page 1"),
+            &["104857:1: expected at most 104857 items, found one more"],
+        );
+    }
+
+    #[test]
+    fn the_first_word_tells_a_list() {
+        for text in ["end", "\n# so\n  bytes 01", "\u{feff}start 0 0", "word"] {
+            assert!(begins_with_items(text.as_bytes()), "{text}");
+        }
+        for text in ["", "# end", "ending", "illegal", "\u{82}F\u{98}"] {
+            assert!(!begins_with_items(text.as_bytes()), "{text}");
+        }
+    }
+}

@@ -74,6 +74,7 @@ fn help_and_version() {
         (&["decode", "-h"], "exoslog decode: event records"),
         (&["map", "--help"], "exoslog map: the RAM after a log"),
         (&["diff", "--help"], "exoslog diff: two listings"),
+        (&["module", "--help"], "exoslog module: items in words"),
         (&["--version"], "exoslog 0.1.0\n"),
         (&["-V"], "exoslog 0.1.0\n"),
     ] {
@@ -122,6 +123,10 @@ fn wrong_uses_end_with_2() {
         (
             &["diff", "-", "-"],
             "exoslog: standard input is given twice\nTry exoslog diff --help.\n",
+        ),
+        (
+            &["module", "--decode", "--with", "x"],
+            "exoslog: --decode and --with are given\nTry exoslog module --help.\n",
         ),
     ] {
         let ran = run(arguments, b"");

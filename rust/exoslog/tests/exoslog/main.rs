@@ -5,9 +5,11 @@ mod command;
 mod logs;
 mod modules;
 mod pictures;
+mod programs;
 mod replays;
 mod round_trips;
 mod runs;
 mod transcript;
+mod writing;
 
 use exos_random as random;

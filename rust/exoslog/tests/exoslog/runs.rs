@@ -3,7 +3,7 @@
 use std::fs;
 use std::io::Write;
 use std::path::PathBuf;
-use std::process::{Child, Command, Output, Stdio};
+use std::process::{Command, Output, Stdio};
 
 /// What a run printed, and its exit status.
 #[derive(Debug, PartialEq, Eq)]
@@ -23,32 +23,66 @@ impl From<Output> for Ran {
     }
 }
 
+/// A run ended so, and printed this.
+#[track_caller]
+pub fn holds(ran: Ran, status: i32, out: &[u8], err: &str) {
+    assert_eq!((ran.status, ran.err.as_str()), (status, err));
+    assert_eq!(ran.out, out);
+}
+
 impl Ran {
     pub fn text(&self) -> &str {
         std::str::from_utf8(&self.out).unwrap()
     }
 }
 
-fn spawn(arguments: &[&str]) -> Child {
+fn exoslog(arguments: &[&str]) -> Command {
     let mut command = Command::new(env!("CARGO_BIN_EXE_exoslog"));
     command
         .args(arguments)
         .stdin(Stdio::piped())
         .stdout(Stdio::piped())
         .stderr(Stdio::piped());
-    command.spawn().unwrap()
+    command
 }
 
-pub fn run(arguments: &[&str], input: &[u8]) -> Ran {
-    let mut child = spawn(arguments);
+fn ran(mut command: Command, input: &[u8]) -> Ran {
+    let mut child = command.spawn().unwrap();
     // a run that reads no input may have ended
     let _ = child.stdin.take().unwrap().write_all(input);
     child.wait_with_output().unwrap().into()
 }
 
+pub fn run(arguments: &[&str], input: &[u8]) -> Ran {
+    ran(exoslog(arguments), input)
+}
+
+/// A program that does what STAND_IN says.
+pub const STAND_IN: &str = concat!(env!("CARGO_MANIFEST_DIR"), "/tests/data/stand-in");
+
+/// A run of `module --with` a program that does what some shell says.
+pub fn run_with(does: &str, arguments: &[&str], input: &[u8]) -> Ran {
+    ran(module_with(does, arguments), input)
+}
+
+fn module_with(does: &str, arguments: &[&str]) -> Command {
+    let mut command = exoslog(&["module", "--with", STAND_IN]);
+    command.args(arguments).env("STAND_IN", does);
+    command
+}
+
 /// A run whose output nobody reads, from before its input is there.
 pub fn run_unread(arguments: &[&str], input: &[u8]) -> Ran {
-    let mut child = spawn(arguments);
+    ran_unread(exoslog(arguments), input)
+}
+
+/// Such a run of `module --with` a program.
+pub fn run_with_unread(does: &str, input: &[u8]) -> Ran {
+    ran_unread(module_with(does, &[]), input)
+}
+
+fn ran_unread(mut command: Command, input: &[u8]) -> Ran {
+    let mut child = command.spawn().unwrap();
     drop(child.stdout.take());
     child.stdin.take().unwrap().write_all(input).unwrap();
     child.wait_with_output().unwrap().into()
