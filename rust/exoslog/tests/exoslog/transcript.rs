@@ -21,10 +21,20 @@ fn transcript(document: &str, section: &str) -> Vec<String> {
     lines.map(str::to_string).collect()
 }
 
+/// Whether the commands ask for a listing, and so for the proved program.
+fn asks_for_a_listing(transcript: &[String]) -> bool {
+    let mut commands = transcript.iter().filter(|line| line.starts_with("$ "));
+    commands.any(|command| command.contains("exos-list"))
+}
+
 /// A script that prints each command and runs it. The first listing, which
 /// may have something to say on how the program was built, comes before.
 fn script(transcript: &[String]) -> String {
-    let mut script = "exos-list - </dev/null >&2\nexec 2>&1\n".to_string();
+    let mut script = String::new();
+    if asks_for_a_listing(transcript) {
+        script.push_str("exos-list - </dev/null >&2\n");
+    }
+    script.push_str("exec 2>&1\n");
     for command in transcript.iter().filter_map(|line| line.strip_prefix("$ ")) {
         let quoted = command.replace('\'', r"'\''");
         script.push_str(&format!("printf '$ %s\\n' '{quoted}'\n{command}\n"));
@@ -36,7 +46,7 @@ fn script(transcript: &[String]) -> String {
 /// stands below them.
 fn holds(transcript: &[String], room: &str) {
     let root = root();
-    if !root.join("target/bin/exos_list").exists() {
+    if asks_for_a_listing(transcript) && !root.join("target/bin/exos_list").exists() {
         eprintln!("left out: this needs target/bin/exos_list, which ./exos-list builds");
         return;
     }
@@ -75,4 +85,9 @@ fn the_example_of_a_listing() {
 #[test]
 fn the_example_of_a_module() {
     holds(&transcript("docs/LOGS.md", "A module"), "module");
+}
+
+#[test]
+fn the_example_of_writing_a_module() {
+    holds(&transcript("docs/LOGS.md", "Writing a module"), "writing");
 }
