@@ -2,7 +2,7 @@
 
 use super::items::Around;
 use super::reader::{Behind, Reader};
-use super::{each_line, lines};
+use super::{each_line, lines, module};
 use crate::mistakes::{Mistake, Place};
 use crate::module::{ItemList, Start, MOST_ITEMS};
 use std::mem;
@@ -10,16 +10,14 @@ use std::mem;
 /// The words of items, and the one that ends the list.
 const WORDS: [&str; 6] = ["bytes", "word", "page", "restore", "move", "end"];
 
-/// The words that may come first.
-const FIRST: [&str; 7] = ["start", "bytes", "word", "page", "restore", "move", "end"];
+/// The word that may come first.
+const START: &[u8] = b"start";
 
-/// In a list. Words that stand elsewhere end data too, so that a message can say
-/// so.
+/// In a list. The words that stand in a stream alone end data too, so that a
+/// message can say so.
 const AROUND: Around = Around {
     behind_data: Behind {
-        words: &[
-            "bytes", "word", "page", "restore", "move", "end", "illegal", "rest", "start",
-        ],
+        words: &module::WORDS,
         told: &[
             "bytes",
             "word",
@@ -33,7 +31,8 @@ const AROUND: Around = Around {
     last_page: u16::MAX,
 };
 
-/// The list of items in words, or every line's first mistake.
+/// The list of items in words, or every line's first mistake. Items are counted
+/// where no line has one.
 pub fn item_list(text: &[u8]) -> Result<ItemList, Vec<Mistake>> {
     let mut reading = Reading::default();
     each_line(text, |reader| reader.list_line(&mut reading))?;
@@ -51,7 +50,7 @@ pub fn item_list(text: &[u8]) -> Result<ItemList, Vec<Mistake>> {
 pub fn begins_with_items(text: &[u8]) -> bool {
     let mut words = lines(text).map(|mut reader| reader.peek());
     let first = words.find(|word| !word.is_empty()).unwrap_or_default();
-    FIRST.iter().any(|word| word.as_bytes() == first)
+    first == START || WORDS.iter().any(|word| word.as_bytes() == first)
 }
 
 /// A list, and how far it is read.
@@ -75,11 +74,12 @@ impl Reader<'_> {
                 return Err(self.mistake("nothing behind end".to_string()));
             }
             let start = self.place();
+            if !has_begun && self.peek() == START {
+                self.take(START.len());
+                reading.list.start = self.list_start(start)?;
+                return self.end();
+            }
             match self.list_word(has_begun)? {
-                "start" => {
-                    reading.list.start = self.list_start(start)?;
-                    self.end()?;
-                }
                 "end" => reading.has_ended = true,
                 word => self.items(word, start, &AROUND, |item, place| {
                     if !reading.list.put(item, place) {
@@ -94,10 +94,11 @@ impl Reader<'_> {
     fn list_word(&mut self, has_begun: bool) -> Result<&'static str, Mistake> {
         let help = match self.peek() {
             b"illegal" | b"rest" => " (illegal and rest are no items of a writer)",
-            b"start" => " (start stands first)",
+            START => " (start stands first)",
+            _ if !has_begun => " (start may stand first)",
             _ => "",
         };
-        self.one_word(if has_begun { &WORDS } else { &FIRST }, help)
+        self.one_word(&WORDS, help)
     }
 
     /// Reads the page and the offset of the start whose word stands at `start`.
@@ -171,7 +172,8 @@ mod tests {
         mistakes(
             "# a list\nbyte 01\nbyte 01\nbytes 01 byte",
             &[
-                "2:1: expected start, bytes, word, page, restore, move or end, found \"byte\"",
+                "2:1: expected bytes, word, page, restore, move or end (start may stand first), \
+                 found \"byte\"",
                 "3:1: expected bytes, word, page, restore, move or end, found \"byte\"",
                 "4:10: expected pairs of hex digits, bytes, word, page, restore, move, end or \
                  the end of the line, found \"byte\"",
@@ -196,8 +198,8 @@ mod tests {
                 "1:11: expected the end of the line, found \"word\"",
                 "2:1: expected bytes, word, page, restore, move or end (start stands first), \
                  found \"start\"",
-                "3:10: expected bytes, word, page, restore, move or end (start stands first), \
-                 found \"start\"",
+                "3:10: expected pairs of hex digits, bytes, word, page, restore, move, end or \
+                 the end of the line, found \"start\"",
             ],
         );
     }

@@ -8,7 +8,7 @@ use crate::words::counted;
 use exos_modules::Module;
 
 /// The words that begin an item, or the rest behind the items.
-const WORDS: [&str; 8] = [
+pub(super) const WORDS: [&str; 8] = [
     "bytes", "word", "page", "restore", "move", "end", "illegal", "rest",
 ];
 
