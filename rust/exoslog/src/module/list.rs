@@ -70,7 +70,8 @@ impl ItemList {
         let mut input = vec![self.start.page];
         input.extend(self.start.offset.to_le_bytes());
         for Item { what, value } in self.items() {
-            input.extend((0..).zip(TAGS).find(|tag| tag.1 == what).map(|tag| tag.0));
+            let tag = TAGS.iter().take_while(|tagged| **tagged != what).count();
+            input.push(tag as u8);
             input.extend(value.to_le_bytes());
         }
         input

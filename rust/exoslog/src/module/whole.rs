@@ -4,7 +4,7 @@ use super::list::MOST_ITEMS;
 use super::{has_bad_padding, is_broken_off, items_words};
 use crate::words::{counted, cut};
 use exos_kernel::hex;
-use exos_modules::{Item, Module, What, END, ILLEGAL};
+use exos_modules::{Item, Module, What, ILLEGAL};
 use std::fmt::{self, Display, Formatter};
 
 /// The bytes that are looked at: in so many there are more items than a list
@@ -61,7 +61,8 @@ fn comment(behind: &[u8]) -> String {
 fn fault(module: &Module) -> Option<NoModule> {
     let items = &module.items;
     let (count, end) = (items.len(), module.length());
-    let (bit, why) = if items.get(MOST_ITEMS).is_some_and(|item| *item != END) {
+    let beyond = items.get(MOST_ITEMS);
+    let (bit, why) = if beyond.is_some_and(|item| !item.what.is_last()) {
         let too_many = format!("item {} is one too many", MOST_ITEMS + 1);
         (length(&items[..MOST_ITEMS]), too_many)
     } else if items.last() == Some(&ILLEGAL) {
@@ -97,7 +98,7 @@ fn length(items: &[Item]) -> usize {
 #[cfg(test)]
 mod tests {
     use super::*;
-    use exos_modules::{byte, cut, move_by, set_page, stream, word, RESTORE};
+    use exos_modules::{byte, cut, move_by, set_page, stream, word, END, RESTORE};
 
     fn no_module(bytes: &[u8]) -> String {
         module_words(bytes).unwrap_err().to_string()
@@ -176,6 +177,12 @@ mod tests {
             items.push(END);
             let text = module_words(&stream(&items)).unwrap();
             assert_eq!(text.lines().count(), MOST_ITEMS + 1);
+            items[MOST_ITEMS] = ILLEGAL;
+            let illegal = no_module(&stream(&items));
+            assert!(
+                illegal.ends_with(": item 104858 is illegal: 111"),
+                "{illegal}"
+            );
             items.insert(0, item);
             let bit = MOST_ITEMS * item.what.length();
             let why = "item 104858 is one too many".to_string();
