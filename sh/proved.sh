@@ -9,6 +9,11 @@
 #   nothing, cut     how it says that nothing is written, or not all
 # Then it calls take_arguments, run_program and, for an end that is not its own, tell_end.
 
+# What --help says of it.
+how_built="\
+The program is proved before it is built. Where it is missing, or its sources or the kit have changed since, it is
+built first, which takes some minutes: a line tells each crate that is proved. It needs the Rattle kit's \`rt\` on the path."
+
 say() { printf '%s: %s\n' "$script" "$*" >&2; }
 
 die() { # STATUS WORDS...
