@@ -1,5 +1,5 @@
 # What the scripts share that run a proved program, exos-list and exos-module: how one is called, how its program is
-# proved and built where the tree has another, and what every program's end means.
+# proved and built where there is none of the tree's sources, and what the ends are that every program has.
 # shellcheck shell=sh
 #
 # A script finds its own folder, `here`, and sources this file. It sets these, and has two functions, usage and
@@ -9,7 +9,7 @@
 #   nothing, cut     how it says that nothing is written, or not all
 # Then it calls take_arguments, run_program and, for an end that is not its own, tell_end.
 
-# What --help says of it.
+# What --help says of the build.
 how_built="\
 The program is proved before it is built. Where it is missing, or its sources or the kit have changed since, it is
 built first, which takes some minutes: a line tells each crate that is proved. It needs the Rattle kit's \`rt\` on the path."
