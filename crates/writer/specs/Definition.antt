@@ -3,3 +3,4 @@ pub mod Entries
 pub mod Bytes
 pub mod Writing
 pub mod Refusals
+pub mod ReadBack

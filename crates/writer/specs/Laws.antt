@@ -6,3 +6,8 @@ pub mod Bytes
 pub mod Pages
 pub mod Packing
 pub mod Writing
+pub mod Refusals
+pub mod Fits
+pub mod ReadBack
+pub mod Examples
+pub mod One

@@ -181,6 +181,10 @@ whole-faultless g c stream b e = items-faultless g c (takenOf stream .items) _ (
 pub module-items : (stream : List ℕ) (items : List Item) (b : ℕ) → IsModule (lookedAt stream) items b → takenOf stream .items ≡ items
 module-items stream items b m = ap (λ (t : Taken). t .items) (module-taken (lookedAt stream) items b m (length (streamBits stream)) (le-refl _))
 
+-- the same of a stream of any length
+pub module-read : (stream : List ℕ) (items : List Item) (b : ℕ) → IsModule stream items b → takenIn (length (bitsIn stream)) (bitsIn stream) .items ≡ items
+module-read stream items b m = ap (λ (t : Taken). t .items) (module-taken stream items b m (length (bitsIn stream)) (le-refl _))
+
 faultless-else : (g : Target) (c : Counter) (items : List Item) (else : Judged) → FaultlessFrom g c items → judgedOr g c items else ≡ else
 unfolding judgedOr
 faultless-else g c [] else l = refl
