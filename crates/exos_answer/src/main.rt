@@ -1,4 +1,4 @@
-// Answers a stream of calls: requests on standard input, replies on standard output. What fails it says on standard error.
+// Answers a stream of calls and of lists for the writer of modules: requests on standard input, replies on standard output. What fails it says on standard error.
 ghost use mathlib.Core.Path.{_≡_};
 ghost use Prim.Native.Nat.{_+_, _≤_};
 ghost use lib.ListN.{length};
@@ -35,7 +35,7 @@ fn renewed(h: Machine, ram: &mut [u8], bytes: &[u8]) -> Machine
     requires { ⌜ (h .size ≤ 524288) × (length (now ram) ≡ 524288) × (1 ≤ length (now bytes)) × Brings (now bytes) ⌝ }
     ensures { λ r. ⌜ r .size ≤ 524288 ⌝ }
 {
-    if bytes[0] == 0 {
+    if bytes[0] != 1 {
         return h;
     }
     bring(ram, bytes)
@@ -60,6 +60,7 @@ fn answer(
     let h = renewed(h, ram, bytes);
     let size = h.size;
     let tables = reply(
+        bytes[0],
         h.tables,
         &mut ram[..size],
         &bytes[start..end],

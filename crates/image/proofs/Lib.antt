@@ -2,3 +2,4 @@
 pub mod Known
 pub mod Rows
 pub mod Made
+pub mod Wide

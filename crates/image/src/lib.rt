@@ -8,7 +8,7 @@ use fields::put_u16;
 use kernel::Answer;
 
 pub mod offsets; // where each field stands
-pub mod fields; // a number of two bytes, a run of bytes
+pub mod fields; // numbers of two and of eight bytes, a run of bytes
 pub mod channels; // the rows of channels
 pub mod devices; // the rows of devices
 pub mod tables; // encode and decode

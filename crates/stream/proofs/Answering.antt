@@ -1,17 +1,16 @@
 -- Laws of what a request brings, and of the reply to it.
 use mathlib.Core.Path.{_≡_, refl, ap, _∙_}
 use mathlib.Core.List.{List, _++_}
-use Prim.Native.Nat.{ℕ, zero, suc, _+_, _-_, _≤_}
+use Prim.Native.Nat.{ℕ, zero, suc, _+_, _≤_}
 use lib.ListN.{length, take, drop, replicate}
 use lib.Seq.{take-at, drop-at, length-take-le}
 use Rattle.kernel.specs.Definition.Step.{Result, result}
 use Rattle.kernel.specs.declared.Tables.{Tables}
 use Rattle.kernel.specs.declared.Outcome.{Outcome}
 use Rattle.text.specs.Definition.Put.{Put}
-use Rattle.events.specs.Definition.Records.{u16At, stepOf}
-use Rattle.image.specs.Laws.Bytes.{body-is}
 use Rattle.stream.specs.Definition.Seed.{next, seeded}
-use Rattle.stream.specs.Definition.Replies.{stepBlank, channelIn, replyBytes, Replied}
+use Rattle.stream.specs.Definition.Asked.{askedOf}
+use Rattle.stream.specs.Definition.Replies.{askedBlank, channelIn, replyBytes, Replied}
 
 seeded-length : (n x : ℕ) → length (seeded n x) ≡ n
 seeded-length zero x = refl
@@ -30,12 +29,12 @@ behind ram part rest size seed h p =
     let l : length (take size ram) ≡ size = length-take-le size ram h in
     drop-at part rest size (ap length p ∙ seeded-length (length (take size ram)) seed ∙ l)
 
-pub replied : (t : Tables) (ram event out text : List ℕ) (at : ℕ) (blank : List ℕ) (kind : ℕ) (o : Outcome) (ram′ out′ : List ℕ) (channel : ℕ) (text′ : List ℕ) (r : ℕ)
-    → blank ≡ replicate (length out) 165 → kind ≡ u16At event 0 → result o ram′ out′ ≡ stepOf t ram kind (take (length event - 2) (drop 2 event)) blank
+pub replied : (first : ℕ) (t : Tables) (ram event out text : List ℕ) (at : ℕ) (blank : List ℕ) (o : Outcome) (ram′ out′ : List ℕ) (channel : ℕ) (text′ : List ℕ) (r : ℕ)
+    → blank ≡ replicate (length out) 165 → result o ram′ out′ ≡ askedOf first t ram event blank
     → channel ≡ channelIn event → Put text text′ at r (replyBytes (result o ram′ out′) channel) → r ≡ at + 46
-    → Replied t ram event out text at (o .tables) ram′ out′ text′
-replied t ram event out text at blank kind o ram′ out′ channel text′ r b k s n p e =
-    let h : result o ram′ out′ ≡ stepBlank t ram event (length out) = s ∙ rw (body-is event, k, b) in
+    → Replied first t ram event out text at (o .tables) ram′ out′ text′
+replied first t ram event out text at blank o ram′ out′ channel text′ r b s n p e =
+    let h : result o ram′ out′ ≡ askedBlank first t ram event (length out) = s ∙ rw b in
     record {
       tables-is = ap (λ (x : Result). x .tables) h;
       ram-is = ap (λ (x : Result). x .ram) h;

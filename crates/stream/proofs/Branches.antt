@@ -39,23 +39,30 @@ module _ (bytes : List ℕ) where
     goes-on a = rw (le-ltb (length bytes) 1 h, eq-eqb (u8At bytes 0) 0 a)
 
     module _ (a : u8At bytes 0 ≡ 0 → ⊥) where
-      pub unknown : (u8At bytes 0 ≡ 1 → ⊥) → Bad ≡ requestIn bytes
+      pub writes : u8At bytes 0 ≡ 2 → callAt bytes 1 ≡ requestIn bytes
       unfolding requestIn
-      unknown b = rw (le-ltb (length bytes) 1 h, ne-eqb (u8At bytes 0) 0 a, ne-eqb (u8At bytes 0) 1 b)
+      writes d = rw (le-ltb (length bytes) 1 h, ne-eqb (u8At bytes 0) 0 a, eq-eqb (u8At bytes 0) 2 d)
 
-      module _ (b : u8At bytes 0 ≡ 1) where
-        pub image-cut : length bytes < CALL → Part ≡ requestIn bytes
+      module _ (d : u8At bytes 0 ≡ 2 → ⊥) where
+        pub unknown : (u8At bytes 0 ≡ 1 → ⊥) → Bad ≡ requestIn bytes
         unfolding requestIn
-        image-cut l = rw (le-ltb (length bytes) 1 h, ne-eqb (u8At bytes 0) 0 a, eq-eqb (u8At bytes 0) 1 b, lt-ltb (length bytes) CALL l)
+        unknown b = rw (le-ltb (length bytes) 1 h, ne-eqb (u8At bytes 0) 0 a, ne-eqb (u8At bytes 0) 2 d, ne-eqb (u8At bytes 0) 1 b)
 
-        module _ (l : CALL ≤ length bytes) (n : ℕ) (e : n ≡ u32At bytes RAM) where
-          pub too-large : 524288 < n → Bad ≡ requestIn bytes
+        module _ (b : u8At bytes 0 ≡ 1) where
+          pub image-cut : length bytes < CALL → Part ≡ requestIn bytes
           unfolding requestIn
-          too-large k = rw (← e, le-ltb (length bytes) 1 h, ne-eqb (u8At bytes 0) 0 a, eq-eqb (u8At bytes 0) 1 b, le-ltb (length bytes) CALL l, lt-ltb 524288 n k)
+          image-cut l = rw (le-ltb (length bytes) 1 h, ne-eqb (u8At bytes 0) 0 a, ne-eqb (u8At bytes 0) 2 d, eq-eqb (u8At bytes 0) 1 b, lt-ltb (length bytes) CALL l)
 
-          pub brings : n ≤ 524288 → callAt bytes CALL ≡ requestIn bytes
-          unfolding requestIn
-          brings k = rw (← e, le-ltb (length bytes) 1 h, ne-eqb (u8At bytes 0) 0 a, eq-eqb (u8At bytes 0) 1 b, le-ltb (length bytes) CALL l, le-ltb 524288 n k)
+          module _ (l : CALL ≤ length bytes) (n : ℕ) (e : n ≡ u32At bytes RAM) where
+            pub too-large : 524288 < n → Bad ≡ requestIn bytes
+            unfolding requestIn
+            too-large k =
+                rw (← e, le-ltb (length bytes) 1 h, ne-eqb (u8At bytes 0) 0 a, ne-eqb (u8At bytes 0) 2 d, eq-eqb (u8At bytes 0) 1 b, le-ltb (length bytes) CALL l, lt-ltb 524288 n k)
+
+            pub brings : n ≤ 524288 → callAt bytes CALL ≡ requestIn bytes
+            unfolding requestIn
+            brings k =
+                rw (← e, le-ltb (length bytes) 1 h, ne-eqb (u8At bytes 0) 0 a, ne-eqb (u8At bytes 0) 2 d, eq-eqb (u8At bytes 0) 1 b, le-ltb (length bytes) CALL l, le-ltb 524288 n k)
 
 -- a call that lies in the bytes is a request's
 pub call-lies-in : (bytes : List ℕ) (r : Found) → CallLiesIn bytes r → 1 ≤ length bytes → Brings bytes → LiesIn bytes r

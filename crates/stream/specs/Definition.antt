@@ -3,4 +3,5 @@ pub mod Numbers
 pub mod Digest
 pub mod Seed
 pub mod Requests
+pub mod Asked
 pub mod Replies

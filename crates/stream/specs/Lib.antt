@@ -1,3 +1,4 @@
--- The stream that is compared: the definition, and the laws about it.
+-- The stream that is compared: the definition, words for functions within, and laws.
 pub mod Definition
+pub mod Within
 pub mod Laws

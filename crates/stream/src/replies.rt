@@ -1,6 +1,6 @@
-// A request's call, and the reply to it.
+// What a request brings, and the reply to it.
 ghost use mathlib.Core.Path.{_≡_};
-ghost use Prim.Native.Nat.{_+_, _≤_};
+ghost use Prim.Native.Nat.{_+_, _≤_, _<_};
 ghost use lib.ListN.{length};
 ghost use Rattle.kernel.specs.Definition.Step.{result};
 ghost use Rattle.kernel.specs.Definition.Lend.{partOn};
@@ -11,7 +11,7 @@ ghost use Rattle.stream.specs.Definition.Numbers.{u32At};
 ghost use Rattle.stream.specs.Definition.Requests.{RAM, CALL};
 ghost use Rattle.stream.specs.Definition.Replies.{Replied, Brought, channelIn, startOf, lentBytes, replyBytes};
 use super::Machine;
-use super::bytes::put_u64;
+use super::asked::ask;
 use super::bytes::u32_at;
 use super::digest::digest;
 use super::fill::blank;
@@ -19,8 +19,7 @@ use super::fill::fill;
 use super::requests::IMAGE;
 use super::requests::RAM;
 use super::requests::SEED;
-use events::call;
-use events::fields::u16_at;
+use image::fields::put_u64;
 use image::offsets::SIZE;
 use image::put_answer;
 use image::tables::decode;
@@ -37,7 +36,7 @@ fn image_digest(t: Tables) -> u64
     digest(&image)
 }
 
-// The byte that a record's body begins with.
+// A record's third byte.
 fn channel_in(record: &[u8]) -> u8
     ensures { λ r. ⌜ r ≡ channelIn (now («record» .entry)) ⌝ }
 {
@@ -88,8 +87,9 @@ fn put_reply(o: Outcome, ram: &[u8], out: &[u8], channel: u8, text: &mut [u8], a
     put_lent(next, ram, channel, text, m)
 }
 
-// The call of an event record on an output that is all 165: the next tables, and 46 bytes of reply.
+// What comes of a record on an output that is all 165: the next tables, and 46 bytes of reply.
 pub fn reply(
+    first: u8,
     t: Tables,
     ram: &mut [u8],
     record: &[u8],
@@ -97,12 +97,11 @@ pub fn reply(
     text: &mut [u8],
     at: usize,
 ) -> Tables
-    requires { ⌜ (2 ≤ length (now «record»)) × (at + 46 ≤ length (now text)) ⌝ }
-    ensures { λ r. ⌜ Replied t (now (ram .entry)) (now («record» .entry)) (now (out .entry)) (now (text .entry)) at r (now (ram .exit)) (now (out .exit)) (now (text .exit)) ⌝ }
+    requires { ⌜ (2 ≤ length (now «record»)) × (length (now out) < 65536) × (at + 46 ≤ length (now text)) ⌝ }
+    ensures { λ r. ⌜ Replied first t (now (ram .entry)) (now («record» .entry)) (now (out .entry)) (now (text .entry)) at r (now (ram .exit)) (now (out .exit)) (now (text .exit)) ⌝ }
 {
     blank(out, 165);
-    let kind = u16_at(record, 0);
-    let o = call(t, ram, kind, &record[2..], out);
+    let o = ask(first, t, ram, record, out);
     put_reply(o, ram, out, channel_in(record), text, at);
     o.tables
 }

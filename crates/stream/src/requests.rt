@@ -18,7 +18,7 @@ pub const SEED: usize = RAM + 4;
 
 pub const CALL: usize = SEED + 4;
 
-// The output's length, the event record's length and the event record.
+// The output's length, the record's length and the record.
 fn call_at(bytes: &[u8], at: usize) -> Found
     requires { ⌜ at ≤ CALL ⌝ }
     ensures { λ r. ⌜ (r ≡ callAt (now (bytes .entry)) at) × CallLiesIn (now (bytes .entry)) r ⌝ }
@@ -46,6 +46,9 @@ pub fn request(bytes: &[u8]) -> Found
     }
     let first = bytes[0];
     if first == 0 {
+        return call_at(bytes, 1);
+    }
+    if first == 2 {
         return call_at(bytes, 1);
     }
     if first != 1 {

@@ -19,6 +19,14 @@ u8Bytes x = x ∷ []
 abbrev pub u16Bytes : ℕ → List ℕ
 u16Bytes x = x % 256 ∷ x / 256 ∷ []
 
+-- the n lowest bytes, the lowest first
+abbrev pub lowBytes : (n x : ℕ) → List ℕ
+lowBytes zero x = []
+lowBytes (suc n) x = x % 256 ∷ lowBytes n (x / 256)
+
+unfoldable pub u64Bytes : ℕ → List ℕ
+u64Bytes x = lowBytes 8 x
+
 abbrev pub bitOf : Bool → ℕ
 bitOf true = 1
 bitOf false = 0

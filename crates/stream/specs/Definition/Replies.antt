@@ -1,4 +1,4 @@
--- What a request brings, its call, and the reply to it.
+-- What a request brings, what comes of its record, and the reply to it.
 use mathlib.Core.Path.{_≡_}
 use mathlib.Core.List.{List, _++_}
 use Prim.Native.Nat.{ℕ, _+_}
@@ -9,13 +9,14 @@ use Rattle.kernel.specs.Definition.Lend.{lentOn, partOn}
 use Rattle.line.specs.declared.Lent.{Lent}
 use Rattle.line.specs.declared.Lent.the-variants.{Part, Nothing}
 use Rattle.text.specs.Definition.Put.{Put}
-use Rattle.events.specs.Definition.Records.{u8At, u16At, stepOf}
+use Rattle.events.specs.Definition.Records.{u8At}
 use Rattle.image.specs.Definition.Offsets.{SIZE}
-use Rattle.image.specs.Definition.Image.{runAt, imageOf, tablesOf, answerBytes}
+use Rattle.image.specs.Definition.Image.{runAt, u64Bytes, imageOf, tablesOf, answerBytes}
 use Rattle.stream.specs.Definition.Digest.{digestOf}
 use Rattle.stream.specs.Definition.Seed.{seeded}
-use Rattle.stream.specs.Definition.Numbers.{u32At, u64Bytes}
+use Rattle.stream.specs.Definition.Numbers.{u32At}
 use Rattle.stream.specs.Definition.Requests.{IMAGE, RAM, SEED}
+use Rattle.stream.specs.Definition.Asked.{askedOf}
 use Rattle.stream.specs.declared.Machine.{Machine}
 
 -- the tables of the image, and the RAM by its length and the seed, at the front of what is lent for it
@@ -25,11 +26,11 @@ pub record Brought (ram bytes : List ℕ) (m : Machine) (ram′ : List ℕ) : Ty
   pub ram-is : take (m .size) ram′ ≡ seeded (u32At bytes RAM) (u32At bytes SEED)
   pub behind : drop (m .size) ram′ ≡ drop (m .size) ram
 
--- the call of an event record on n bytes of output, all 165
-abbrev pub stepBlank : Tables → (ram event : List ℕ) (n : ℕ) → Result
-stepBlank t ram event n = stepOf t ram (u16At event 0) (drop 2 event) (replicate n 165)
+-- what comes of a record on n bytes of output, all 165
+abbrev pub askedBlank : (first : ℕ) → Tables → (ram event : List ℕ) (n : ℕ) → Result
+askedBlank first t ram event n = askedOf first t ram event (replicate n 165)
 
--- the byte that a record's body begins with, 0 of an empty one: the channel, where the call has one
+-- a record's third byte, with which an event's body begins, 0 where there is none: the channel, where the call has one
 abbrev pub channelIn : (event : List ℕ) → ℕ
 channelIn event = u8At event 2
 
@@ -47,9 +48,9 @@ abbrev pub replyBytes : Result → (channel : ℕ) → List ℕ
 replyBytes s channel =
     answerBytes (s .answer) ++ u64Bytes (digestOf (imageOf (s .tables))) ++ u64Bytes (digestOf (s .ram)) ++ u64Bytes (digestOf (s .output)) ++ lentBytes (s .tables) (s .ram) channel
 
--- what a request's call leaves, with the accents, and its reply in a text
-pub record Replied (t : Tables) (ram event out text : List ℕ) (at : ℕ) (t′ : Tables) (ram′ out′ text′ : List ℕ) : Type 0 where
-  pub tables-is : t′ ≡ stepBlank t ram event (length out) .tables
-  pub ram-is : ram′ ≡ stepBlank t ram event (length out) .ram
-  pub out-is : out′ ≡ stepBlank t ram event (length out) .output
-  pub reply-is : Put text text′ at (at + 46) (replyBytes (stepBlank t ram event (length out)) (channelIn event))
+-- what a request leaves, with the accents, and its reply in a text
+pub record Replied (first : ℕ) (t : Tables) (ram event out text : List ℕ) (at : ℕ) (t′ : Tables) (ram′ out′ text′ : List ℕ) : Type 0 where
+  pub tables-is : t′ ≡ askedBlank first t ram event (length out) .tables
+  pub ram-is : ram′ ≡ askedBlank first t ram event (length out) .ram
+  pub out-is : out′ ≡ askedBlank first t ram event (length out) .output
+  pub reply-is : Put text text′ at (at + 46) (replyBytes (askedBlank first t ram event (length out)) (channelIn event))

@@ -1,4 +1,5 @@
--- Where a request ends. Its first byte is 0, or 1 before an image, the RAM's length and a seed of 4 bytes each.
+-- Where a request ends. Its first byte is 0, for an event record; 2, for a list of items to the writer of modules; or 1 before an image, the RAM's length and a seed of 4 bytes
+-- each, and an event record.
 use mathlib.Core.Path.{_≡_}
 use mathlib.Core.Bool.{cond, not}
 use mathlib.Core.List.{List}
@@ -25,7 +26,7 @@ SEED = RAM + 4
 abbrev pub CALL : ℕ
 CALL = SEED + 4
 
--- the output's length and the event record's length, of 2 bytes each, and the event record, of 2 bytes or more
+-- the output's length and the record's length, of 2 bytes each, and the record, of 2 bytes or more
 unfoldable pub callAt : (bytes : List ℕ) (at : ℕ) → Found
 callAt bytes at =
     let start = at + 4 in
@@ -41,20 +42,21 @@ unfolding callAt
 requestIn bytes =
     cond (ltb (length bytes) 1) Part
     (cond (eqb (u8At bytes 0) 0) (callAt bytes 1)
+    (cond (eqb (u8At bytes 0) 2) (callAt bytes 1)
     (cond (not (eqb (u8At bytes 0) 1)) Bad
     (cond (ltb (length bytes) CALL) Part
     (cond (ltb 524288 (u32At bytes RAM)) Bad
-    (callAt bytes CALL)))))
+    (callAt bytes CALL))))))
 
--- the event record has a kind and lies in the bytes, and the output's length fits two bytes
+-- the record has two bytes or more and lies in the bytes, and the output's length fits two bytes
 pub record Spans (bytes : List ℕ) (q : Request) : Type 0 where
   pub kind : q .start + 2 ≤ q .end
   pub within : q .end ≤ length bytes
   pub lent : q .out < 65536
 
--- a first byte other than 0 brings an image, a RAM's length and a seed
+-- a first byte 1 brings an image, a RAM's length and a seed
 abbrev pub Brings : List ℕ → Type 0
-Brings bytes = (u8At bytes 0 ≡ 0 → ⊥) → (CALL ≤ length bytes) × (u32At bytes RAM ≤ 524288)
+Brings bytes = u8At bytes 0 ≡ 1 → (CALL ≤ length bytes) × (u32At bytes RAM ≤ 524288)
 
 abbrev pub CallLiesIn : List ℕ → Found → Type 0
 CallLiesIn bytes (Whole q) = Spans bytes q

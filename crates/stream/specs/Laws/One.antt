@@ -15,8 +15,8 @@ one-brought {ram} {bytes} {ram′} {ram″} {m} {n} p q =
       one-buffer (m .size) (p .ram-is ∙ sym (rw (← e) at (q .ram-is))) (p .behind ∙ sym (rw (← e) at (q .behind))),
     )
 
-pub one-replied : {t t′ t″ : Tables} {ram event out text ram′ out′ text′ ram″ out″ text″ : List ℕ} {at : ℕ}
-    → Replied t ram event out text at t′ ram′ out′ text′ → Replied t ram event out text at t″ ram″ out″ text″
+pub one-replied : {first : ℕ} {t t′ t″ : Tables} {ram event out text ram′ out′ text′ ram″ out″ text″ : List ℕ} {at : ℕ}
+    → Replied first t ram event out text at t′ ram′ out′ text′ → Replied first t ram event out text at t″ ram″ out″ text″
     → (t′ ≡ t″) × (ram′ ≡ ram″) × (out′ ≡ out″) × (text′ ≡ text″)
 one-replied p q =
     (p .tables-is ∙ sym (q .tables-is), p .ram-is ∙ sym (q .ram-is), p .out-is ∙ sym (q .out-is), one-put (p .reply-is) (q .reply-is) .0)

@@ -2,18 +2,18 @@
 use mathlib.Core.Path.{_≡_, refl, sym, ap, _∙_}
 use mathlib.Core.Bool.{Bool, true, false, cond, _||_}
 use mathlib.Core.List.{List, [], _∷_, _++_}
-use Prim.Native.Nat.{ℕ, _-_, _≤_, _<_}
+use Prim.Native.Nat.{ℕ, _+_, _-_, _*_, _≤_, _<_}
 use native.Mathlib.Nat.{le-of-eq}
 use native.Mathlib.Omega.{arith}
-use borrow.Author.Tests.{lt-ltb, le-ltb}
+use borrow.Author.Tests.{lt-ltb, le-ltb, ltb-false}
 use lib.Dec.{ltb}
 use lib.ListN.{length, getD, take, drop, length-drop}
 use lib.Seq.{take-all}
 use Rattle.modules.specs.Definition.Counter.{pageSize, counter}
 use Rattle.modules.specs.declared.Item.{Item}
-use Rattle.writer.specs.Definition.Entries.{all, flawed, listed}
+use Rattle.writer.specs.Definition.Entries.{Listed, all, flawed, listed}
 use Rattle.writer.specs.Definition.Bytes.{moduleOf}
-use Rattle.writer.specs.Definition.Writing.{refusesFrom, refusesPage, answerTo, putBy, Writes, WritesFrom}
+use Rattle.writer.specs.Definition.Writing.{refusesFrom, refusesPage, answerTo, putBy, replyTo, Writes, replyFrom, WritesFrom}
 use Rattle.writer.specs.Within.Entries.{itemsOf, valueAt}
 use Rattle.writer.specs.declared.Flaw.{Flaw}
 use Rattle.writer.specs.declared.Written.{Written}
@@ -85,3 +85,23 @@ pub from-start : (input buffer : List ℕ) (page offset : ℕ) (r : Reply) (buff
 from-start input buffer page offset r buffer′ h p o w =
     let e : take (length input - 3) (drop 3 input) ≡ drop 3 input = take-all (length input - 3) (drop 3 input) (le-of-eq (length-drop 3 input)) in
     from-whole input buffer page offset r buffer′ h p o (rw e at w)
+
+-- what is done is no longer than the buffer
+answer-within : (page offset : ℕ) (items : List Item) (room n : ℕ) → answerTo page offset items room ≡ Done n → n ≤ room
+unfolding answerTo
+answer-within page offset items room n e = go (refusesPage page offset items) (ltb room (length (moduleOf items))) refl e
+  where
+    go : (p s : Bool) → ltb room (length (moduleOf items)) ≡ s → cond p Page (cond s Range (Done (length (moduleOf items)))) ≡ Done n → n ≤ room
+    go true s q w = absurd (let z : _≡_ {A = ℕ} 0 1 = cc in omega arith)
+    go false true q w = absurd (let z : _≡_ {A = ℕ} 0 1 = cc in omega arith)
+    go false false q w = let z : length (moduleOf items) ≡ n = cc in omega (arith, ltb-false room (length (moduleOf items)) q)
+
+reply-within : (page offset : ℕ) (list : Listed) (room n : ℕ) → replyTo page offset list room ≡ Answered (Done n) → n ≤ room
+reply-within page offset (all items) room n e = answer-within page offset items room n (cc)
+reply-within page offset (flawed f) room n e = absurd (let z : _≡_ {A = ℕ} 0 1 = cc in omega arith)
+
+pub done-within : (input : List ℕ) (room n : ℕ) → replyFrom input room ≡ Answered (Done n) → n ≤ room
+done-within (page ∷ low ∷ high ∷ items) room n e = reply-within page (low + 256 * high) (listed items) room n e
+done-within (page ∷ low ∷ []) room n e = absurd (let z : _≡_ {A = ℕ} 0 1 = cc in omega arith)
+done-within (page ∷ []) room n e = absurd (let z : _≡_ {A = ℕ} 0 1 = cc in omega arith)
+done-within [] room n e = absurd (let z : _≡_ {A = ℕ} 0 1 = cc in omega arith)

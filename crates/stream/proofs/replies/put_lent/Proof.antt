@@ -3,7 +3,7 @@ use mathlib.Core.Path.{ap, _∙_}
 use native.Mathlib.Omega.{arith}
 use Rattle.text.specs.Laws.Text.{put-then}
 use Rattle.image.specs.Laws.Bytes.{put-same}
-use Rattle.stream.specs.Definition.Numbers.{u64Bytes}
+use Rattle.image.specs.Definition.Image.{u64Bytes}
 use Rattle.stream.specs.Definition.Replies.{startOf}
 use borrow.Author.Needs.{needs}
 use Rattle.stream.proofs.replies.put_lent.Statement.{statement}

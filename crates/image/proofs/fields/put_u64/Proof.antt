@@ -1,4 +1,4 @@
--- `bytes::put_u64` puts a byte a turn. The invariant: the first i bytes are put, and the number that is left has the others.
+-- `fields::put_u64` puts a byte a turn. The invariant: the first i bytes are put, and the number that is left has the others.
 use denote.Ref.{now}
 use mathlib.Core.Path.{_≡_, refl, _∙_}
 use Prim.Native.Nat.{_+_, _-_, _≤_}
@@ -6,10 +6,10 @@ use native.Mathlib.Omega.{arith}
 use lib.ListN.{length, take, drop}
 use Rattle.text.specs.Definition.Put.{Put}
 use Rattle.text.specs.Laws.Text.{put-none}
-use Rattle.stream.specs.Definition.Numbers.{lowBytes, u64Bytes}
-use Rattle.stream.proofs.Laws.{low-put, low-rest}
-use Rattle.stream.proofs.bytes.put_u64.Statement.{statement}
-use Rattle.stream.proofs.bytes.put_u64.Tie as tie
+use Rattle.image.specs.Definition.Image.{lowBytes, u64Bytes}
+use Rattle.image.proofs.Wide.{low-put, low-rest}
+use Rattle.image.proofs.fields.put_u64.Statement.{statement}
+use Rattle.image.proofs.fields.put_u64.Tie as tie
 
 abbrev Inv-loop : tie.InvT-loop
 Inv-loop x to₀ at rest₀ m₀ i₀ to rest m i = Put to₀ to at m (take i (u64Bytes x)) × (drop i (u64Bytes x) ≡ lowBytes (8 - i) rest) × (i ≤ 8) × (length to ≡ length to₀) × (m ≡ at + i)

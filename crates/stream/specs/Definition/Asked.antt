@@ -1,0 +1,35 @@
+-- What comes of a request's record, by the request's first byte.
+use mathlib.Core.Bool.{cond}
+use mathlib.Core.List.{List}
+use Prim.Native.Nat.{ℕ}
+use lib.Dec.{eqb}
+use lib.ListN.{length, drop}
+use Rattle.kernel.specs.Definition.Step.{Result}
+use Rattle.kernel.specs.declared.Tables.{Tables}
+use Rattle.kernel.specs.declared.Answer.{Answer}
+use Rattle.kernel.specs.declared.Answer.the-variants.{Done, BadCall, BadRange, BadPage}
+use Rattle.events.specs.Definition.Records.{u16At, stepOf}
+use Rattle.writer.specs.Definition.Writing.{replyFrom, bufferFrom}
+use Rattle.writer.specs.declared.Written.{Written}
+use Rattle.writer.specs.declared.Written.the-variants.{Done as Whole, Page, Range}
+use Rattle.writer.specs.declared.Reply.{Reply}
+use Rattle.writer.specs.declared.Reply.the-variants.{NoStart, NoList, Answered}
+
+-- the writer's answer as a call's, a = 0 and b the bytes written
+abbrev pub writtenAnswer : Written → Answer
+writtenAnswer (Whole n) = Done 0 n
+writtenAnswer Page = BadPage
+writtenAnswer Range = BadRange
+
+-- 2 where a record has no start, or is no list of items behind it
+abbrev pub replyAnswer : Reply → Answer
+replyAnswer NoStart = BadCall
+replyAnswer (NoList f) = BadCall
+replyAnswer (Answered w) = writtenAnswer w
+
+-- 2 asks the writer, whose buffer is the output, and leaves tables and RAM; else the record is an event's
+unfoldable pub askedOf : (first : ℕ) → Tables → (ram event output : List ℕ) → Result
+askedOf first t ram event output =
+    cond (eqb first 2)
+    (record { answer = replyAnswer (replyFrom event (length output)); tables = t; ram = ram; output = bufferFrom event output })
+    (stepOf t ram (u16At event 0) (drop 2 event) output)
