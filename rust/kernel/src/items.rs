@@ -2,20 +2,28 @@
 
 use std::slice;
 
-/// An item of a module. Its bits come "highest first".
-#[derive(Clone, Copy)]
-pub(crate) enum Item {
+/// An item of a module, but for the one that ends it. Its bits come "highest
+/// first".
+#[derive(Clone, Copy, Debug, PartialEq, Eq)]
+pub enum Item {
     /// "0 then 8 bits stores a byte."
     Byte(u8),
     /// "100 then 16 stores a word."
     Word(u16),
-    /// "10100 then 2 sets the run page."
-    SetPage(u8),
+    /// "10100 then 2 sets the run page." A page above 3 is in no module; the
+    /// writer refuses it.
+    SetPage(u16),
     /// "10101 restores it."
-    RestorePage,
+    Restore,
     /// "1011 then 16 moves the counter."
     Move(u16),
-    /// "110 ends."
+}
+
+/// What comes next in a stream.
+pub(crate) enum Next {
+    /// An item.
+    Item(Item),
+    /// "110 ends", with padding that is zero.
     End,
 }
 
@@ -36,16 +44,16 @@ impl<'a> Items<'a> {
         }
     }
 
-    /// The next item; none for "an illegal item, input that runs out or bad
+    /// What comes next; none for "an illegal item, input that runs out or bad
     /// padding".
-    pub(crate) fn next(&mut self) -> Option<Item> {
+    pub(crate) fn next(&mut self) -> Option<Next> {
         if self.bits(1)? == 0 {
-            return Some(Item::Byte(self.bits(8)? as u8));
+            return Some(Next::Item(Item::Byte(self.bits(8)? as u8)));
         }
         match self.bits(2)? {
-            0b00 => Some(Item::Word(self.bits(16)?)),
-            0b01 => self.next_of_counter(),
-            0b10 => self.is_padded().then_some(Item::End),
+            0b00 => Some(Next::Item(Item::Word(self.bits(16)?))),
+            0b01 => self.next_of_counter().map(Next::Item),
+            0b10 => self.is_padded().then_some(Next::End),
             _ => None,
         }
     }
@@ -56,8 +64,8 @@ impl<'a> Items<'a> {
             return Some(Item::Move(self.bits(16)?));
         }
         match self.bits(1)? {
-            0 => Some(Item::SetPage(self.bits(2)? as u8)),
-            _ => Some(Item::RestorePage),
+            0 => Some(Item::SetPage(self.bits(2)?)),
+            _ => Some(Item::Restore),
         }
     }
 

@@ -3,9 +3,11 @@
 
 mod ends;
 mod items;
+mod lists;
 
 pub use ends::{cut, padded};
 pub use items::{byte, move_by, set_page, word, Item, What, END, ILLEGAL, RESTORE};
+pub use lists::{list, of_list};
 
 /// A stream taken apart.
 #[derive(Clone, Debug, PartialEq, Eq)]

@@ -19,3 +19,6 @@ mod random_calls;
 mod random_tables;
 mod refusals;
 mod resets;
+mod writer;
+mod writer_refusals;
+mod writer_trips;

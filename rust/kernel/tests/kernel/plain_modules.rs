@@ -52,6 +52,19 @@ impl Counter {
     }
 }
 
+/// Whether an item sets a page above 3, or one leaves the page.
+pub fn leaves_page(page: u8, offset: u16, items: &[Item]) -> bool {
+    let mut counter = Counter {
+        start_page: page.into(),
+        page: page.into(),
+        offset: offset.into(),
+    };
+    let mut is_within = |&item: &Item| {
+        (item.what != What::SetPage || item.value < 4) && counter.take(item).is_some()
+    };
+    !items.iter().all(&mut is_within)
+}
+
 impl Model {
     pub fn load_module(
         &mut self,
