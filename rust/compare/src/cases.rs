@@ -1,5 +1,5 @@
-//! The cases of a seed: tables by sentences, modules, logs steered to the
-//! edges, damaged logs, damaged tables, RAM of a wrong length.
+//! The cases of a seed: tables by sentences, modules, the writer, logs steered to
+//! the edges, damaged logs, damaged tables, RAM of a wrong length.
 
 use crate::damage::damage;
 use crate::edges::ram_length_for;
@@ -9,6 +9,7 @@ use crate::player::{Played, Player};
 use crate::protocol::{image_of, Case, Request, IMAGE, MOST_RAM};
 use crate::quietly::is_good;
 use crate::steer::{some_list, some_r, Mood, Steer};
+use crate::writers::{lists, there_and_back, writers};
 use exos_kernel::{Tables, SEGMENT};
 use exos_random::Random;
 use exos_sentences::{changed, Change, CALLS};
@@ -18,6 +19,9 @@ pub fn played(seed: u64, number: u64) -> Played {
     match plan(number) {
         Plan::Sentence(change) => Player::of(about(change)).played,
         Plan::Modules => Player::of(modules()).played,
+        Plan::Writers => Player::of(writers()).played,
+        Plan::Lists => lists(&mut Random::new(seed, number)),
+        Plan::ThereAndBack => there_and_back(&mut Random::new(seed, number)),
         plan => steered(&mut Random::new(seed, number), plan),
     }
 }

@@ -1,19 +1,24 @@
 //! What was met: counts by kind and answer, and the edges.
 
 use crate::edges::{all_edges, edges, Edge, Made};
-use crate::protocol::{Reply, Request};
+use crate::protocol::{Reply, Request, Sort};
 use exoslog::{counted, FORMS};
 use std::collections::BTreeMap;
 use std::fmt::{self, Display, Formatter};
 
 /// The answers 0 to 20.
 const ANSWERS: usize = exoslog::ANSWERS.len();
-/// The rows: the kinds in the order of the table of bodies, and unknown ones.
-const ROWS: usize = FORMS.len() + 1;
+/// The rows: the kinds in the order of the table of bodies, unknown ones, and the
+/// writer.
+const ROWS: usize = FORMS.len() + 2;
+/// The row of unknown kinds.
+const UNKNOWN: usize = FORMS.len();
+/// The row of the writer.
+const WRITER: usize = FORMS.len() + 1;
 
-/// The answers that documents 01 and 02 allow for a kind. Every kind but start may
-/// answer TABLES, and every kind CALL: "body short of its fixed fields, or
-/// longer without name, data or list".
+/// The answers that documents 01 and 02 allow for a kind, none being an unknown one.
+/// Every kind but start may answer TABLES, and every kind CALL: "body short of
+/// its fixed fields, or longer without name, data or list".
 fn allowed(kind: Option<u16>) -> &'static [u16] {
     match kind {
         // START: "list, R or RAM length wrong"
@@ -51,20 +56,33 @@ fn allowed(kind: Option<u16>) -> &'static [u16] {
     }
 }
 
-/// The row of the counts for a kind.
-fn row_of(kind: u16) -> usize {
-    let known = FORMS.iter().position(|form| form.kind == kind);
-    known.unwrap_or(FORMS.len())
+/// The answers that order 9 allows for the writer: "PAGE [...], then RANGE". CALL
+/// is the stream's, for what is no start and list of items.
+const ALLOWED_TO_WRITER: &[u16] = &[0, 2, 13, 20];
+
+/// The row of the counts for a request.
+fn row_of(request: &Request) -> usize {
+    if request.sort == Sort::Writer {
+        return WRITER;
+    }
+    let known = |kind| FORMS.iter().position(|form| form.kind == kind);
+    request.kind().and_then(known).unwrap_or(UNKNOWN)
 }
 
 fn allows(row: usize, answer: usize) -> bool {
-    allowed(FORMS.get(row).map(|form| form.kind)).contains(&(answer as u16))
+    let allowed = match row {
+        WRITER => ALLOWED_TO_WRITER,
+        _ => allowed(FORMS.get(row).map(|form| form.kind)),
+    };
+    allowed.contains(&(answer as u16))
 }
 
 fn name_of(row: usize) -> String {
-    FORMS.get(row).map_or("unknown".to_string(), |form| {
-        format!("{} {}", form.kind, form.words)
-    })
+    match FORMS.get(row) {
+        Some(form) => format!("{} {}", form.kind, form.words),
+        None if row == WRITER => "write module".to_string(),
+        None => "unknown".to_string(),
+    }
 }
 
 /// How often each kind got each answer, and each edge was met.
@@ -88,7 +106,7 @@ impl Counts {
 
     /// Counts one call.
     pub fn add(&mut self, made: &Made, request: &Request, reply: &Reply) {
-        match self.pairs[row_of(request.kind())].get_mut(usize::from(reply.number)) {
+        match self.pairs[row_of(request)].get_mut(usize::from(reply.number)) {
             Some(count) => *count += 1,
             None => self.strange += 1,
         }
@@ -186,18 +204,23 @@ mod tests {
             output: 0,
             part: 0,
             part_bytes: 0,
+            fault: None,
         }
     }
 
-    /// A call on no tables, which stay.
-    fn add(counts: &mut Counts, kind: u16, number: u16) {
+    /// A request on no tables, which stay.
+    fn add_request(counts: &mut Counts, request: &Request, number: u16) {
         let tables = Tables::default();
         let made = Made {
             before: &tables,
             after: &tables,
             ram_length: 0,
         };
-        counts.add(&made, &Request::new(0, kind, &[]), &reply(number));
+        counts.add(&made, request, &reply(number));
+    }
+
+    fn add(counts: &mut Counts, kind: u16, number: u16) {
+        add_request(counts, &Request::new(0, kind, &[]), number);
     }
 
     #[test]
@@ -219,8 +242,20 @@ mod tests {
     }
 
     #[test]
-    fn the_allowed_pairs_are_82() {
-        assert_eq!(Counts::new().missing().len(), 82);
+    fn the_allowed_pairs_are_82_and_the_writers_4() {
+        assert_eq!(Counts::new().missing().len(), 82 + 4);
+    }
+
+    #[test]
+    fn the_writer_has_a_row_of_its_own() {
+        let mut counts = Counts::new();
+        // as a kind, the first two bytes would be a status
+        let request = Request::to_writer(0, vec![20, 0, 0]);
+        add_request(&mut counts, &request, 20);
+        add_request(&mut counts, &request, 1);
+        assert_eq!(counts.forbidden(), ["write module: answer 1"]);
+        let table = counts.to_string();
+        assert!(table.contains("write module                   2  1: 1, 20: 1\n"));
     }
 
     #[test]

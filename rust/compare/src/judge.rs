@@ -2,7 +2,7 @@
 
 use crate::machine;
 use crate::program::{Answerer, Replies, Stop};
-use crate::protocol::{Case, Reply};
+use crate::protocol::{Case, Fault, Reply};
 use std::io;
 
 /// The first request of a case to which the replies differ.
@@ -18,7 +18,7 @@ pub struct Difference {
 
 impl Difference {
     /// The first difference between the replies to as many requests. A kernel
-    /// that panicked differs from whatever the program replied.
+    /// at fault differs from whatever the program replied.
     pub fn first(kernel: &[Reply], program: &Replies) -> Option<Difference> {
         kernel
             .iter()
@@ -28,7 +28,7 @@ impl Difference {
                 kernel: reply,
                 program: program.given.get(request).copied().ok_or(program.stop),
             })
-            .find(|row| row.kernel.panicked() || row.program != Ok(row.kernel))
+            .find(|row| row.kernel.fault.is_some() || row.program != Ok(row.kernel))
     }
 
     /// Runs both sides on a case.
@@ -41,7 +41,7 @@ impl Difference {
     pub fn fields(&self) -> Vec<String> {
         let kernel = self.kernel;
         if kernel.panicked() {
-            return vec!["the kernel panicked".to_string()];
+            return vec![Fault::Panicked.to_string()];
         }
         let program = match self.program {
             Ok(program) => program,
@@ -60,6 +60,7 @@ impl Difference {
         .into_iter()
         .filter(|field| !field.0)
         .map(|field| field.1.to_string())
+        .chain(kernel.fault.map(|fault| fault.to_string()))
         .collect()
     }
 }
@@ -77,6 +78,7 @@ mod tests {
         output: 5,
         part: 6,
         part_bytes: 7,
+        fault: None,
     };
 
     fn first(kernel: &[Reply], program: &[Reply]) -> Option<Difference> {
@@ -119,11 +121,27 @@ mod tests {
     }
 
     #[test]
-    fn a_panic_differs_from_any_reply() {
-        let panic = Reply::of_panic();
-        let found = first(&[REPLY, panic], &[REPLY, panic]).unwrap();
-        assert_eq!(found.request, 1);
-        assert_eq!(found.fields(), ["the kernel panicked"]);
+    fn a_fault_differs_from_any_reply() {
+        let faults = [
+            (Fault::Panicked, "the kernel panicked"),
+            (
+                Fault::NotReadBack,
+                "the kernel's module does not read back as the list",
+            ),
+            (
+                Fault::NotOfItems,
+                "the kernel loads a module that its items do not make",
+            ),
+        ];
+        for (fault, words) in faults {
+            let at_fault = Reply {
+                fault: Some(fault),
+                ..REPLY
+            };
+            let found = first(&[REPLY, at_fault], &[REPLY, at_fault]).unwrap();
+            assert_eq!(found.request, 1);
+            assert_eq!(found.fields(), [words]);
+        }
     }
 
     #[test]

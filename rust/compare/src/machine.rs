@@ -1,10 +1,11 @@
 //! The independent kernel's side: its tables, its RAM and their digests.
 
 use crate::protocol::{
-    digest, image_of, joined, power, ram_of, tables_of, Case, Reply, Request, UNTOUCHED,
+    digest, image_of, joined, power, ram_of, tables_of, Case, Reply, Request, Writing, UNTOUCHED,
 };
 use crate::quietly::quietly;
-use exos_kernel::{call, decode, lend, Lent, Tables};
+use crate::round_trips::fault_of;
+use exos_kernel::{call, decode, lend, list_of, write_module, Lent, Refusal, Tables};
 
 /// Tables and RAM on which requests are made in turn.
 pub struct Machine {
@@ -25,10 +26,12 @@ impl Machine {
     /// Makes one request.
     pub fn answer(&mut self, request: &Request) -> Reply {
         let mut output = vec![UNTOUCHED; usize::from(request.output)];
-        let asked = decode(request.kind(), request.body());
         let (tables, ram) = (&mut self.tables, &mut self.ram.bytes);
         let made = quietly(|| {
-            let reply = call(tables, ram, asked, &mut output);
+            let reply = match request.event() {
+                Some((kind, body)) => call(tables, ram, decode(kind, body), &mut output),
+                None => written(&request.record, &mut output),
+            };
             (reply, lend(tables, ram, request.channel_lent()))
         });
         let Some((reply, lent)) = made else {
@@ -38,6 +41,7 @@ impl Machine {
             Lent::Part { start, bytes } => (start as u64, digest(bytes)),
             _ => (0, digest(&[])),
         };
+        let is_done = reply.number == 0;
         Reply {
             number: u16::from(reply.number),
             a: u16::from(reply.a),
@@ -47,12 +51,33 @@ impl Machine {
             output: digest(&output),
             part,
             part_bytes,
+            fault: is_done
+                .then(|| fault_of(request, reply.b, &output))
+                .flatten(),
         }
     }
 
     /// The length of the RAM.
     pub fn ram_length(&self) -> usize {
         self.ram.bytes.len()
+    }
+}
+
+/// What the writer answers to a record: CALL where that is no start and list.
+fn written(record: &[u8], buffer: &mut [u8]) -> exos_kernel::Reply {
+    let Some(Writing { page, offset, list }) = Writing::of(record) else {
+        return Refusal::Call.into();
+    };
+    let Some(items) = list_of(list) else {
+        return Refusal::Call.into();
+    };
+    match write_module(page, offset, &items, buffer) {
+        Ok(length) => exos_kernel::Reply {
+            number: 0,
+            a: 0,
+            b: length as u16,
+        },
+        Err(refusal) => refusal.into(),
     }
 }
 

@@ -12,6 +12,8 @@ pub enum Plan {
     Sentence(&'static Change),
     /// Modules that leave nothing to chance.
     Modules,
+    /// Requests to the writer that leave nothing to chance.
+    Writers,
     /// A log of so many segments, whose line comes to fill them.
     LongLine(usize),
     /// A log that comes to use every row of channels.
@@ -22,6 +24,10 @@ pub enum Plan {
     DamagedLog,
     /// A few calls on tables that may not be good.
     DamagedTables,
+    /// Lists for the writer.
+    Lists,
+    /// Modules that are written and loaded, and loaded and written.
+    ThereAndBack,
     /// A few calls with RAM of a wrong length.
     WrongLength,
 }
@@ -32,7 +38,7 @@ const FIRST_SENTENCE: u64 = 100;
 
 /// What the case of a number is about. Of a hundred cases most are damaged
 /// tables, which take few calls each, so that most calls are those of logs;
-/// after the first hundred come the sentences and the modules.
+/// after the first hundred come the sentences, the modules and the writer.
 pub fn plan(number: u64) -> Plan {
     planned(number).unwrap_or_else(|| plan_in_hundred(number))
 }
@@ -41,7 +47,8 @@ pub fn plan(number: u64) -> Plan {
 fn planned(number: u64) -> Option<Plan> {
     let row = number.checked_sub(FIRST_SENTENCE)?;
     let sentences = BROKEN.iter().chain(KEPT).map(Plan::Sentence);
-    sentences.chain([Plan::Modules]).nth(row as usize)
+    let fixed = [Plan::Modules, Plan::Writers];
+    sentences.chain(fixed).nth(row as usize)
 }
 
 fn plan_in_hundred(number: u64) -> Plan {
@@ -51,6 +58,8 @@ fn plan_in_hundred(number: u64) -> Plan {
         2..=11 => Plan::Log,
         12..=14 => Plan::DamagedLog,
         15..=84 => Plan::DamagedTables,
+        85..=87 => Plan::Lists,
+        88 | 89 => Plan::ThereAndBack,
         _ => Plan::WrongLength,
     }
 }
@@ -131,6 +140,6 @@ mod tests {
     #[test]
     fn every_sentence_comes() {
         let count = (0..5_000).filter_map(planned).count();
-        assert_eq!(count, BROKEN.len() + KEPT.len() + 1);
+        assert_eq!(count, BROKEN.len() + KEPT.len() + 2);
     }
 }

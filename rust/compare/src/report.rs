@@ -2,8 +2,9 @@
 
 use crate::judge::Difference;
 use crate::machine::Machine;
-use crate::protocol::{tables_of, Case, Image, Reply, Request, IMAGE};
+use crate::protocol::{tables_of, Case, Fault, Image, Reply, Request, Sort, IMAGE};
 use crate::quietly::is_good;
+use crate::writing_words::writing_words;
 use exos_kernel::{Channel, Device, Tables, SEGMENT};
 use exoslog::{hex, quoted, Class, Record, LONGEST};
 use std::fmt::Write;
@@ -28,8 +29,12 @@ pub fn report(case: &Case, found: &Difference) -> String {
     for (row, request) in case.requests.iter().enumerate() {
         before = machine.tables.clone();
         let answered = answer(&machine.answer(request));
-        let (row, said, lent) = (row + 1, words(request), request.output);
-        let _ = writeln!(text, "{said} # {row}, output of {lent}: {answered}");
+        let (row, said, length) = (row + 1, words(request), request.output);
+        let lent = match request.sort {
+            Sort::Event => "output",
+            Sort::Writer => "buffer",
+        };
+        let _ = writeln!(text, "{said} # {row}, {lent} of {length}: {answered}");
     }
     let program = found
         .program
@@ -40,19 +45,24 @@ pub fn report(case: &Case, found: &Difference) -> String {
     text + &tables_in_words("the kernel's tables after it", &machine.tables)
 }
 
-/// Whether the listing program begins as the case does: from no tables, with
-/// the RAM that each start asks for.
+/// Whether the listing program takes the case: from no tables, with the RAM that
+/// each start asks for, and no more than events.
 fn is_listed(case: &Case) -> bool {
-    let starts = case.requests.iter().filter(|call| call.kind() == 256);
-    let mut segments = starts.map(|start| start.body().len().saturating_sub(2));
-    let fits = |count: usize| case.ram_length as usize == SEGMENT * count;
-    case.image == [0; IMAGE] && segments.all(|count| count <= MOST_LISTED && fits(count))
+    let fits = |list: usize| list <= MOST_LISTED && case.ram_length as usize == SEGMENT * list;
+    let is_listed = |request: &Request| match request.event() {
+        Some((256, body)) => fits(body.len().saturating_sub(2)),
+        Some(_) => true,
+        None => false,
+    };
+    case.image == [0; IMAGE] && case.requests.iter().all(is_listed)
 }
 
 /// A request's record in the words that `exoslog encode` reads, or a comment
-/// where a log cannot have so long a record.
+/// where a log cannot have so long a record or it is for the writer.
 pub fn words(request: &Request) -> String {
-    let (kind, body) = (request.kind(), request.body());
+    let Some((kind, body)) = request.event() else {
+        return format!("# {}", writing_words(&request.record));
+    };
     if request.record.len() > LONGEST {
         return format!("# too long for a log: kind {kind}, body {}", body.len());
     }
@@ -83,7 +93,7 @@ fn runs(image: &Image) -> String {
 
 fn answer(reply: &Reply) -> String {
     if reply.panicked() {
-        return "the kernel panicked".to_string();
+        return Fault::Panicked.to_string();
     }
     format!("{} {} {}", reply.number, reply.a, reply.b)
 }
@@ -205,13 +215,29 @@ mod tests {
     }
 
     #[test]
+    fn a_difference_of_the_writer_in_words() {
+        let start = Request::new(0, 256, &[0, 1, 8, 255]);
+        let list = [0, 1, 0, 0, 2, 0, 4, 0xFE, 0xFF];
+        let writing = Request::to_writer(7, [&[3, 0x00, 0x40][..], &list].concat());
+        check(
+            &told([0; IMAGE], vec![start, writing]),
+            &[
+                "# a log in words\n",
+                "\n# write module 3 16384 bytes 0102 move fffe # 2, buffer of 7: 20 0 0\n",
+                "# the program: 9 0 0\n",
+            ],
+        );
+    }
+
+    #[test]
     fn the_listing_is_advised_where_its_ram_fits() {
-        let advises = |list: &[u8]| {
+        let advises = |list: &[u8], more: &[Request]| {
             let start = Request::new(0, 256, &[&[0, 1], list].concat());
-            told([0; IMAGE], vec![start]).contains("exos-listing")
+            told([0; IMAGE], [&[start], more].concat()).contains("exos-listing")
         };
-        assert!(advises(&[8, 255]));
-        assert!(!advises(&[8, 9, 255]));
+        assert!(advises(&[8, 255], &[]));
+        assert!(!advises(&[8, 9, 255], &[]));
+        assert!(!advises(&[8, 255], &[Request::to_writer(1, vec![0; 3])]));
     }
 
     #[test]
@@ -239,6 +265,7 @@ mod tests {
             Request::new(3, 3, &[]),
             Request::new(7, 999, &[1]),
             Request::new(0, 19, b"\x01\"\n"),
+            Request::to_writer(9, vec![0, 0, 0, 0, 0x22, 0]),
         ];
         let mut with_long = requests.clone();
         with_long.push(Request::new(0, 8, &[0; LONGEST - 1]));
@@ -246,10 +273,8 @@ mod tests {
         let read: Vec<_> = records(&log).collect();
         let made: Vec<_> = requests
             .iter()
-            .map(|request| Record::Whole {
-                kind: request.kind(),
-                body: request.body(),
-            })
+            .filter_map(Request::event)
+            .map(|(kind, body)| Record::Whole { kind, body })
             .collect();
         assert_eq!(read, made);
     }

@@ -202,7 +202,10 @@ mod tests {
         };
         let short = |case: &Case| -> Vec<Reply> {
             let mut replies = machine::replies(case);
-            let links = case.requests.iter().position(|call| call.kind() == 21);
+            let links = case
+                .requests
+                .iter()
+                .position(|call| call.kind() == Some(21));
             replies.truncate(links.unwrap_or(replies.len()));
             replies
         };

@@ -12,6 +12,7 @@ mod segments;
 mod sentences;
 mod user;
 mod words;
+mod writer;
 
 use crate::protocol::{Reply, Request};
 use crate::quietly::is_good;
@@ -63,7 +64,11 @@ pub fn edges(made: &Made, request: &Request, reply: &Reply, met: impl FnMut(Edge
     meeting.at(request.record.len() == 65_535, Edge::LongestRecord);
     meeting.at(request.output == 65_535, Edge::LongestOutput);
     meeting.lent(after, ram_length, request.channel_lent(), reply.part);
-    let call = decode(request.kind(), request.body());
+    let Some((kind, body)) = request.event() else {
+        meeting.write_module(request, reply);
+        return;
+    };
+    let call = decode(kind, body);
     let right_length = ram_length == SEGMENT * usize::from(before.segments);
     let usable = is_good(before);
     if let Call::Start { r, list } = call {
@@ -77,7 +82,7 @@ pub fn edges(made: &Made, request: &Request, reply: &Reply, met: impl FnMut(Edge
         meeting.sentences(ram_length);
         if usable && right_length {
             meeting.call(call);
-            meeting.short_module(request);
+            meeting.short_module(kind, body);
         }
     }
 }

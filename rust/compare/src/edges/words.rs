@@ -3,6 +3,7 @@
 use super::both::BOTH;
 use super::modules::{all_module_edges, ModuleEdge};
 use super::naming::name_edges;
+use super::writer::{all_writer_edges, WriterEdge};
 use exos_kernel::ROWS_OF_SEGMENTS;
 use exos_sentences::{BROKEN, KEPT};
 use exoslog::form_of;
@@ -19,6 +20,7 @@ pub fn all_edges() -> impl Iterator<Item = Edge> {
         .chain(segments.map(Edge::CallOn))
         .chain(both.map(|&(kind, given, other)| Edge::Both(kind, given, other)))
         .chain(all_module_edges().map(Edge::Module))
+        .chain(all_writer_edges().map(Edge::Writer))
         .chain((0..KEPT.len()).map(Edge::Kept))
         .chain((0..BROKEN.len()).map(Edge::Broken))
 }
@@ -37,6 +39,8 @@ name_edges! {
         };
         /// An edge of load module.
         Module(edge: ModuleEdge) format!("load module: {edge}");
+        /// An edge of writing modules.
+        Writer(edge: WriterEdge) format!("write module: {edge}");
         /// A call on the tables of a row of [`KEPT`], done.
         Kept(row: usize) format!("good: {}", KEPT[row].0);
         /// A call on the tables of a row of [`BROKEN`], answered TABLES.

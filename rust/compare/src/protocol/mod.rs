@@ -3,8 +3,12 @@
 
 mod digest;
 mod image;
+mod reply;
+mod request;
 mod stream;
 
 pub use digest::{digest, joined, power};
 pub use image::{at, image_of, tables_of, Image, CHANNEL, DEVICE, IMAGE};
-pub use stream::{ram_of, Case, Reply, Request, MOST_RAM, REPLY, UNTOUCHED};
+pub use reply::{Fault, Reply, REPLY};
+pub use request::{Request, Sort, Writing};
+pub use stream::{ram_of, Case, MOST_RAM, UNTOUCHED};

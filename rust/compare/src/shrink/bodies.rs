@@ -17,10 +17,11 @@ impl<Differs: FnMut(&Case) -> Option<usize>> Shrinker<Differs> {
             self.lower(row, value, set);
         }
         self.simplify_rest(row);
+        self.simplify_writing(row);
     }
 
     /// Lowers a number of a request as far as halving finds.
-    fn lower(
+    pub(super) fn lower(
         &mut self,
         row: usize,
         value: impl Fn(&Request) -> Option<u16>,
@@ -52,7 +53,7 @@ impl<Differs: FnMut(&Case) -> Option<usize>> Shrinker<Differs> {
         while by > 0 {
             let mut case = self.case.clone();
             let lowered = row > 0
-                && case.requests[0].kind() == 256
+                && case.requests[0].kind() == Some(256)
                 && lower_last(&mut case.requests[0], by)
                 && case
                     .requests

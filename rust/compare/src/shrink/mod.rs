@@ -1,5 +1,6 @@
 //! Makes a case that shows a difference as small as it can: fewer records,
-//! then smaller numbers, shorter names, data and modules, plainer tables.
+//! then smaller numbers, shorter names, data, modules and lists, plainer
+//! tables.
 
 mod bodies;
 mod modules;
@@ -9,6 +10,7 @@ mod runs;
 mod tables;
 #[cfg(test)]
 mod tests;
+mod writer;
 
 use crate::protocol::Case;
 use std::time::{Duration, Instant};
@@ -58,7 +60,7 @@ impl<Differs: FnMut(&Case) -> Option<usize>> Shrinker<Differs> {
     /// Goes on with a case if it shows a difference, and cuts what comes
     /// after that.
     fn accepts(&mut self, mut case: Case) -> bool {
-        if Instant::now() > self.end {
+        if Instant::now() > self.end || !case.is_whole() {
             return false;
         }
         match (self.differs)(&case) {

@@ -27,7 +27,8 @@ impl Part {
 
 /// The parts of a request whose body fits its form.
 pub(super) fn parts(request: &Request) -> Option<Vec<Part>> {
-    let parts = form_of(request.kind())?.parts(request.body()).ok()?;
+    let (kind, body) = request.event()?;
+    let parts = form_of(kind)?.parts(body).ok()?;
     let owned = parts.into_iter().map(|(field, bytes)| Part {
         field,
         bytes: bytes.to_vec(),
@@ -37,13 +38,13 @@ pub(super) fn parts(request: &Request) -> Option<Vec<Part>> {
 
 /// Changes the parts of a request; false where that cannot be.
 pub(super) fn change(request: &mut Request, how: impl FnOnce(&mut [Part]) -> Option<()>) -> bool {
-    let Some(mut parts) = parts(request) else {
+    let (Some(kind), Some(mut parts)) = (request.kind(), parts(request)) else {
         return false;
     };
     let changed = how(&mut parts).is_some();
     if changed {
         let body: Vec<u8> = parts.into_iter().flat_map(|part| part.bytes).collect();
-        *request = Request::new(usize::from(request.output), request.kind(), &body);
+        *request = Request::new(usize::from(request.output), kind, &body);
     }
     changed
 }

@@ -18,9 +18,7 @@ impl<Differs: FnMut(&Case) -> Option<usize>> Shrinker<Differs> {
         self.leave_out(half, length, |shrinker, run| {
             let mut case = shrinker.case.clone();
             case.requests.drain(run);
-            if !case.requests.is_empty() {
-                shrinker.accepts(case);
-            }
+            shrinker.accepts(case);
         });
     }
 
@@ -77,13 +75,14 @@ impl<Differs: FnMut(&Case) -> Option<usize>> Shrinker<Differs> {
 
 /// The channel that a request names first in its body.
 fn channel_of(request: &Request) -> Option<u8> {
-    let names_channel = matches!(request.kind(), 1 | 3 | 6 | 8);
-    names_channel.then(|| request.body().first().copied())?
+    let (kind, body) = request.event()?;
+    let names_channel = matches!(kind, 1 | 3 | 6 | 8);
+    names_channel.then(|| body.first().copied())?
 }
 
 /// The n of an open.
 fn buffer_of(case: &Case, row: usize) -> Option<u16> {
     let request = case.requests.get(row)?;
-    let n = (request.kind() == 1).then(|| request.record.get(N))??;
+    let n = (request.kind() == Some(1)).then(|| request.record.get(N))??;
     Some(u16::from_le_bytes([n[0], n[1]]))
 }

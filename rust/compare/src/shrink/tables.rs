@@ -38,7 +38,7 @@ impl<Differs: FnMut(&Case) -> Option<usize>> Shrinker<Differs> {
         loop {
             let mut case = self.case.clone();
             let start = &mut case.requests[0];
-            if start.kind() != 256 || start.record.len() <= 4 + row {
+            if start.kind() != Some(256) || start.record.len() <= 4 + row {
                 return;
             }
             start.record.remove(4 + row);

@@ -20,8 +20,8 @@ impl Steer<'_> {
     }
 
     /// The same request with its record damaged: cut, lengthened or garbled.
-    pub fn damaged(&mut self, request: Request) -> Request {
-        let Request { output, mut record } = request;
+    pub fn damaged(&mut self, mut request: Request) -> Request {
+        let record = &mut request.record;
         let body = record.len() - 2;
         match self.random.below(6) {
             0 => record.truncate(2 + self.random.below(body + 1)),
@@ -45,6 +45,6 @@ impl Steer<'_> {
             }
         }
         record.truncate(usize::from(u16::MAX));
-        Request { output, record }
+        request
     }
 }

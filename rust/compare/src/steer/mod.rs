@@ -10,6 +10,7 @@ mod names;
 mod reset;
 mod segments;
 mod user;
+mod writer;
 
 use crate::protocol::Request;
 use crate::view::View;

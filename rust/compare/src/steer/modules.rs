@@ -12,9 +12,17 @@ use exos_modules::{Item, What, END, ILLEGAL, RESTORE};
 const MANY: usize = 2_400;
 
 impl Steer<'_> {
-    pub(super) fn load_module(&mut self) -> Request {
+    /// A request that loads a module.
+    pub fn load_module(&mut self) -> Request {
         let segment = self.segment(&[class::NONE, class::USER, class::SHARED]);
         let target = Target::of(self.view(), segment as u8).unwrap_or(Target::WHOLE);
+        let (page, offset) = self.module_start(target);
+        let stream = self.stream(target, Counter::start(page, offset));
+        self.made(30, &[segment, page, offset], &stream)
+    }
+
+    /// A start page and offset, mostly within their ranges.
+    pub(super) fn module_start(&mut self, target: Target) -> (usize, usize) {
         let page = match self.random.below(30) {
             0 => self.random.pick(&[4, 4, 255]),
             _ => self.random.below(4),
@@ -23,8 +31,7 @@ impl Steer<'_> {
             0 => self.random.pick(&[SEGMENT + 1, SEGMENT + 1, 65_535]),
             _ => self.place(target),
         };
-        let stream = self.stream(target, Counter::start(page, offset));
-        self.made(30, &[segment, page, offset], &stream)
+        (page, offset)
     }
 
     /// An offset, mostly around an edge of what may be stored to.
@@ -55,7 +62,7 @@ impl Steer<'_> {
     }
 
     /// Many bytes and words.
-    fn many_stores(&mut self) -> Vec<Item> {
+    pub(super) fn many_stores(&mut self) -> Vec<Item> {
         let count = self.random.below(MANY);
         let mut store = || match self.random.below(3) {
             0 => word(self.random.word()),
@@ -65,7 +72,7 @@ impl Steer<'_> {
     }
 
     /// Some items, few of them at fault.
-    fn items(&mut self, target: Target, mut counter: Counter) -> Vec<Item> {
+    pub(super) fn items(&mut self, target: Target, mut counter: Counter) -> Vec<Item> {
         let mut items = Vec::new();
         for _ in 0..self.random.below(10) {
             let (mut item, mut after) = (self.item(target, counter), counter);

@@ -6,7 +6,6 @@ mod words;
 
 use super::{Edge, Meeting};
 use crate::counter::{Counter, Target};
-use crate::protocol::Request;
 use exos_kernel::{class, SEGMENT};
 use exos_modules::{Item, Module, What};
 
@@ -73,8 +72,8 @@ impl<Met: FnMut(Edge)> Meeting<'_, Met> {
         self.answered(number, at, Edge::Module(edge));
     }
 
-    pub(super) fn short_module(&mut self, request: &Request) {
-        let short = request.kind() == 30 && request.body().len() == 3;
+    pub(super) fn short_module(&mut self, kind: u16, body: &[u8]) {
+        let short = kind == 30 && body.len() == 3;
         self.module(2, short, ModuleEdge::ShortBody);
     }
 

@@ -1,0 +1,93 @@
+//! Order 9's two sentences, asked of every module that the kernel writes or
+//! loads, by the tools' reader, which knows nothing of the kernel's. What the
+//! writers make of a module's items is compared where they are asked for it.
+
+use crate::protocol::{Fault, Request, Writing};
+use exos_kernel::{decode, Call};
+use exos_modules::{of_list, stream, Module, END};
+
+/// The fault in the module of a request that was done, of which b bytes were
+/// written to the output or used of the stream.
+pub fn fault_of(request: &Request, b: u16, output: &[u8]) -> Option<Fault> {
+    let length = usize::from(b);
+    let Some((kind, body)) = request.event() else {
+        let is_read = reads_back(&request.record, output.get(..length)?);
+        return (!is_read).then_some(Fault::NotReadBack);
+    };
+    let Call::LoadModule { stream, .. } = decode(kind, body) else {
+        return None;
+    };
+    let is_made = is_of_items(stream.get(..length)?);
+    (!is_made).then_some(Fault::NotOfItems)
+}
+
+/// "Reading back gives the same items."
+fn reads_back(record: &[u8], written: &[u8]) -> bool {
+    let asked = Writing::of(record).and_then(|writing| of_list(writing.list));
+    let ended = asked.map(|mut items| {
+        items.push(END);
+        items
+    });
+    let module = Module::of(written);
+    let is_padded = module.rest.len() < 8 && !module.rest.contains(&true);
+    ended == Some(module.items) && is_padded
+}
+
+/// "Every module the loader accepts is what the writer makes of its items, up to
+/// the end item."
+fn is_of_items(module: &[u8]) -> bool {
+    let items = Module::of(module).items;
+    items.last() == Some(&END) && stream(&items) == module
+}
+
+#[cfg(test)]
+mod tests {
+    use super::*;
+    use exos_modules::{byte, list, RESTORE};
+
+    fn writing(items: &[exos_modules::Item]) -> Request {
+        let list = list(items);
+        let writing = Writing {
+            page: 0,
+            offset: 0,
+            list: &list,
+        };
+        Request::to_writer(9, writing.record())
+    }
+
+    #[test]
+    fn a_module_that_reads_back_and_others() {
+        let request = writing(&[byte(1), RESTORE]);
+        let right = stream(&[byte(1), RESTORE, END]);
+        let fault = |written: &[u8]| fault_of(&request, written.len() as u16, written);
+        assert_eq!(fault(&right), None);
+        let mut padded = right.clone();
+        padded[2] |= 1;
+        let wrong = [
+            padded,
+            [&right[..], &[0]].concat(),
+            right[..2].to_vec(),
+            stream(&[byte(2), RESTORE, END]),
+            stream(&[byte(1), END]),
+        ];
+        for written in wrong {
+            assert_eq!(fault(&written), Some(Fault::NotReadBack), "{written:?}");
+        }
+    }
+
+    #[test]
+    fn a_module_of_its_items_and_others() {
+        let right = stream(&[byte(1), END]);
+        let fault = |stream: &[u8], b: usize| {
+            let body = [&[252, 0, 0, 0], stream].concat();
+            fault_of(&Request::new(0, 30, &body), b as u16, &[])
+        };
+        let followed = [&right[..], &[0xFF]].concat();
+        assert_eq!(fault(&right, 2), None);
+        assert_eq!(fault(&followed, 2), None);
+        for (stream, b) in [(&followed, 3), (&right, 1), (&vec![0x00, 0xE1], 2)] {
+            assert_eq!(fault(stream, b), Some(Fault::NotOfItems));
+        }
+        assert_eq!(fault_of(&Request::new(0, 22, &[]), 5, &[]), None);
+    }
+}
