@@ -4,9 +4,9 @@ use super::*;
 use crate::cases::played;
 use crate::judge::Difference;
 use crate::machine;
-use crate::protocol::{tables_of, Reply, Sort, Writing};
+use crate::protocol::{tables_of, Reply};
 use crate::report::words;
-use exos_modules::{of_list, Module, What};
+use exos_modules::{Module, What};
 
 /// A side that writes a buffer's byte wrong from the second channel on,
 /// for writes of two bytes or more.
@@ -88,39 +88,6 @@ fn a_fault_in_modules_is_shrunk_to_its_least_items() {
             format!("load module {first} 0 0 word 0000 word 0000 end")
         ]
     );
-}
-
-#[test]
-fn a_fault_in_the_writer_is_shrunk_to_its_least_items() {
-    // a side that writes two moves or more wrong
-    let mut faulty = |case: &Case| {
-        let mut replies = machine::replies(case);
-        for (request, reply) in case.requests.iter().zip(&mut replies) {
-            let list = Writing::of(&request.record).and_then(|writing| of_list(writing.list));
-            let items = list.filter(|_| request.sort == Sort::Writer);
-            let moves = items.into_iter().flatten();
-            let moves = moves.filter(|item| item.what == What::Move).count();
-            if reply.number == 0 && moves >= 2 {
-                reply.output ^= 1;
-            }
-        }
-        replies
-    };
-    let mut differs = |case: &Case| {
-        let found = Difference::between(&mut faulty, case).unwrap();
-        found.map(|found| found.request)
-    };
-    for number in [85, 88] {
-        let case = played(1, number).case;
-        assert!(differs(&case).is_some_and(|at| at > 1));
-        let case = shrink(case, &mut differs);
-        let [first, writing] = &case.requests[..] else {
-            panic!("{:?}", case.requests);
-        };
-        assert_eq!(first.sort, Sort::Event);
-        assert_eq!(words(writing), "# write module 0 0 move 0000 move 0000");
-        assert_eq!(writing.output, 6);
-    }
 }
 
 #[test]
