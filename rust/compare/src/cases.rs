@@ -151,7 +151,7 @@ mod tests {
 
     #[test]
     fn a_number_gives_the_same_case_again() {
-        for number in [300, 301, 302, 312, 315, 385] {
+        for number in [300, 301, 302, 312, 315, 385, 388, 390] {
             let (one, other) = (played(3, number), played(3, number));
             assert_eq!(one.case, other.case);
             assert_eq!(one.replies, other.replies);

@@ -1,8 +1,8 @@
 //! Holds the independent kernel against the proved program `exos_answer`:
 //! the same requests to both, and after every call the answer, both values,
 //! the tables, every byte of the RAM, the output and what is lent of a buffer
-//! compared. A difference is shrunk and told as a log in words, which
-//! `exoslog encode` reads back.
+//! compared. The writer of modules is asked likewise. A difference is shrunk and
+//! told as a log in words, which `exoslog encode` reads back.
 
 pub mod cases;
 mod counter;

@@ -1,9 +1,10 @@
 //! Order 9's two sentences, asked of every module that the kernel writes or
-//! loads, by the tools' reader, which knows nothing of the kernel's. What the
-//! writers make of a module's items is compared where they are asked for it.
+//! loads, by its own reader and by the tools', which knows nothing of the
+//! kernel's. What the writers make of a module's items is compared where they are
+//! asked for it.
 
 use crate::protocol::{Fault, Request, Writing};
-use exos_kernel::{decode, Call};
+use exos_kernel::{decode, list_of, read_module, Call};
 use exos_modules::{of_list, stream, Module, END};
 
 /// The fault in the module of a request that was done, of which b bytes were
@@ -23,14 +24,14 @@ pub fn fault_of(request: &Request, b: u16, output: &[u8]) -> Option<Fault> {
 
 /// "Reading back gives the same items."
 fn reads_back(record: &[u8], written: &[u8]) -> bool {
-    let asked = Writing::of(record).and_then(|writing| of_list(writing.list));
-    let ended = asked.map(|mut items| {
-        items.push(END);
-        items
-    });
+    let list = Writing::of(record).map_or(&[][..], |writing| writing.list);
+    let ended = of_list(list).map(|items| [&items[..], &[END]].concat());
     let module = Module::of(written);
     let is_padded = module.rest.len() < 8 && !module.rest.contains(&true);
-    ended == Some(module.items) && is_padded
+    let read = read_module(written);
+    ended == Some(module.items)
+        && is_padded
+        && read == list_of(list).map(|items| (items, written.len()))
 }
 
 /// "Every module the loader accepts is what the writer makes of its items, up to

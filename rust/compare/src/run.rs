@@ -175,7 +175,7 @@ mod tests {
         let run = Run {
             seed: 1,
             first: 0,
-            until: Until::Cases(60),
+            until: Until::Cases(90),
             pairs: 2,
         };
         let told = AtomicU64::new(0);

@@ -18,7 +18,7 @@ usage: exos-compare [OPTION...]
 
 The proved program is target/bin/exos_answer, which rt check exos_answer builds,
 or EXOS_ANSWER. A difference is shrunk and told as a log in words, which exoslog
-encode reads.
+encode reads; what the writer of modules is asked stands there in comments.
 
 exit status: 0 no difference, 1 a difference, 2 trouble.";
 

@@ -33,9 +33,13 @@ pub fn there_and_back(random: &mut Random) -> Played {
     let tables = player.tables().clone();
     while player.played.replies.len() < REQUESTS && !player.panicked() {
         let mut steer = steer(random, &tables);
-        let there = match steer.random.below(2) {
-            0 => steer.write_module(),
-            _ => steer.load_module(),
+        let there = match steer.random.below(5) {
+            0 | 1 => steer.write_module(),
+            2 | 3 => steer.load_module(),
+            _ => {
+                let load = steer.load_module();
+                garbled(random, load)
+            }
         };
         player.make(there.clone());
         let done = player.played.replies.last().filter(|last| last.number == 0);
@@ -53,6 +57,20 @@ fn steer<'a>(random: &'a mut Random, tables: &'a Tables) -> Steer<'a> {
         tables,
         mood,
     }
+}
+
+/// A load whose stream has a bit changed.
+fn garbled(random: &mut Random, mut load: Request) -> Request {
+    const START: usize = 6;
+    if let Some(stream) = load
+        .record
+        .get_mut(START..)
+        .filter(|stream| !stream.is_empty())
+    {
+        let at = random.below(stream.len());
+        stream[at] ^= 1 << random.below(8);
+    }
+    load
 }
 
 /// The way back of a module that was written or loaded.
