@@ -32,16 +32,19 @@ impl Machine {
                 Some((kind, body)) => call(tables, ram, decode(kind, body), &mut output),
                 None => written(&request.record, &mut output),
             };
-            (reply, lend(tables, ram, request.channel_lent()))
+            let fault = match reply.number {
+                0 => fault_of(request, reply.b, &output),
+                _ => None,
+            };
+            (reply, fault, lend(tables, ram, request.channel_lent()))
         });
-        let Some((reply, lent)) = made else {
+        let Some((reply, fault, lent)) = made else {
             return Reply::of_panic();
         };
         let (part, part_bytes) = match lent {
             Lent::Part { start, bytes } => (start as u64, digest(bytes)),
             _ => (0, digest(&[])),
         };
-        let is_done = reply.number == 0;
         Reply {
             number: u16::from(reply.number),
             a: u16::from(reply.a),
@@ -51,9 +54,7 @@ impl Machine {
             output: digest(&output),
             part,
             part_bytes,
-            fault: is_done
-                .then(|| fault_of(request, reply.b, &output))
-                .flatten(),
+            fault,
         }
     }
 
@@ -166,6 +167,47 @@ mod tests {
         assert_eq!(replies[1].ram, digest(&[0; 65_536]));
         assert_eq!(replies[2].output, digest(&[2, 0, 1, 0, 0, 165]));
         assert_eq!(replies[2].image, replies[1].image);
+    }
+
+    #[test]
+    fn the_writer_on_the_machine() {
+        let open = [&[0x40, 0, 3, 0], &b"VIDEO:"[..]].concat();
+        let start = [3, 0x00, 0x40];
+        let writing =
+            |output: usize, list: &[u8]| Request::to_writer(output, [&start[..], list].concat());
+        let case = Case {
+            image: [0; crate::protocol::IMAGE],
+            ram_length: 65_536,
+            seed: 1,
+            requests: vec![
+                Request::new(0, 256, &[0x42, 0x2B, 252, 253, 254, 255]),
+                Request::new(0, 1, &open),
+                writing(3, &[2, 3, 0]),
+                writing(1, &[2, 3, 0]),
+                writing(3, &[0, 1, 0]),
+                writing(3, &[0, 1]),
+                Request::to_writer(3, start[..2].to_vec()),
+            ],
+        };
+        let replies = replies(&case);
+        let (opened, replies) = (replies[1], &replies[2..]);
+        let numbers: Vec<_> = replies
+            .iter()
+            .map(|reply| (reply.number, reply.a, reply.b))
+            .collect();
+        let refused = [13, 20, 2, 2].map(|number| (number, 0, 0));
+        assert_eq!(numbers, [&[(0, 0, 2)], &refused[..]].concat());
+        assert_eq!(replies[0].output, digest(&[0xA7, 0x80, 165]));
+        assert_eq!(replies[1].output, digest(&[165]));
+        for reply in &replies[2..] {
+            assert_eq!(reply.output, digest(&[165; 3]));
+        }
+        for reply in replies {
+            assert_eq!((reply.image, reply.ram), (opened.image, opened.ram));
+        }
+        let lent: Vec<_> = replies.iter().map(|reply| reply.part).collect();
+        let part = 3 * 16_384 + 11_055;
+        assert_eq!(lent, [part, part, part, part, 0], "40h, and 0 in the end");
     }
 
     #[test]

@@ -12,13 +12,14 @@ use exos_modules::{of_list, stream, Module, END};
 pub fn fault_of(request: &Request, b: u16, output: &[u8]) -> Option<Fault> {
     let length = usize::from(b);
     let Some((kind, body)) = request.event() else {
-        let is_read = reads_back(&request.record, output.get(..length)?);
+        let written = output.get(..length);
+        let is_read = written.is_some_and(|module| reads_back(&request.record, module));
         return (!is_read).then_some(Fault::NotReadBack);
     };
     let Call::LoadModule { stream, .. } = decode(kind, body) else {
         return None;
     };
-    let is_made = is_of_items(stream.get(..length)?);
+    let is_made = stream.get(..length).is_some_and(is_of_items);
     (!is_made).then_some(Fault::NotOfItems)
 }
 
@@ -74,6 +75,8 @@ mod tests {
         for written in wrong {
             assert_eq!(fault(&written), Some(Fault::NotReadBack), "{written:?}");
         }
+        let beyond = fault_of(&request, right.len() as u16 + 1, &right);
+        assert_eq!(beyond, Some(Fault::NotReadBack));
     }
 
     #[test]
@@ -86,7 +89,12 @@ mod tests {
         let followed = [&right[..], &[0xFF]].concat();
         assert_eq!(fault(&right, 2), None);
         assert_eq!(fault(&followed, 2), None);
-        for (stream, b) in [(&followed, 3), (&right, 1), (&vec![0x00, 0xE1], 2)] {
+        for (stream, b) in [
+            (&followed, 3),
+            (&right, 1),
+            (&right, 3),
+            (&vec![0x00, 0xE1], 2),
+        ] {
             assert_eq!(fault(stream, b), Some(Fault::NotOfItems));
         }
         assert_eq!(fault_of(&Request::new(0, 22, &[]), 5, &[]), None);
