@@ -1,3 +1,4 @@
 -- Laws that the functions' proofs cite.
 pub mod Calls
 pub mod Replayed
+pub mod Written

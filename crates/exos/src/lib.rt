@@ -1,12 +1,16 @@
-// The static library: the kernel over bytes, for other languages. c/exos.h tells a C program what each argument is.
+// The static library: the kernel and the writer of modules over bytes, for other languages. c/exos.h tells a C program what each argument is.
 ghost use mathlib.Core.Path.{_≡_};
 ghost use lib.ListN.{length};
 ghost use Rattle.kernel.specs.Definition.Answers as answers;
 ghost use Rattle.image.specs.Definition.Offsets.{SIZE};
 ghost use Rattle.exos.specs.Definition.Call.{imageAfter, Called};
 ghost use Rattle.exos.specs.Definition.Replays.{Replays};
+ghost use Rattle.exos.specs.Definition.Modules.{writtenBytes, WritesModule};
+ghost use Rattle.writer.specs.Definition.Writing.{answerNumber, writtenOf};
 use events::call;
 use events::fields::u16_at;
+use image::fields::put_u16;
+use image::fields::put_u64;
 use image::offsets::SIZE;
 use image::put_answer;
 use image::tables::decode;
@@ -14,6 +18,9 @@ use image::tables::encode;
 use kernel::Answer;
 use kernel::Tables;
 use replay::replay;
+use writer::Reply;
+use writer::Written;
+use writer::write::write_module;
 
 // "0 is done. 17 SHARED is a grant".
 fn granted(answer: Answer) -> bool
@@ -100,4 +107,61 @@ pub extern "C" fn exos_replay_tested(
     ensures { λ r. ⌜ Replays (now (ram .entry)) (now (out .entry)) (now (log .entry)) (now (reply .entry)) (now (ram .exit)) (now (out .exit)) (now (reply .exit)) r ⌝ }
 {
     replay_log(ram, out, log, reply, false)
+}
+
+// An answer of the writer: its number.
+fn number_of(written: Written) -> u16
+    ensures { λ r. ⌜ r ≡ answerNumber written ⌝ }
+{
+    match written {
+        Written::Done(_) => 0,
+        Written::Page => 20,
+        Written::Range => 13,
+    }
+}
+
+// The bytes written.
+fn bytes_of(written: Written) -> u64
+    ensures { λ r. ⌜ r ≡ writtenOf written ⌝ }
+{
+    match written {
+        Written::Done(n) => n as u64,
+        Written::Page => 0,
+        Written::Range => 0,
+    }
+}
+
+// The answer as ten bytes.
+fn put_written(written: Written, reply: &mut [u8])
+    requires { ⌜ length (now reply) ≡ 10 ⌝ }
+    ensures { λ _. ⌜ now (reply .exit) ≡ writtenBytes written ⌝ }
+{
+    let m = put_u16(number_of(written), reply, 0);
+    put_u64(bytes_of(written), reply, m);
+}
+
+// The module of a list of items, from a start page and offset, into a buffer of any length. False, and nothing changed, where the bytes are no list of items or the reply's
+// length is wrong.
+#[no_mangle]
+pub extern "C" fn exos_write_module(
+    page: u8,
+    offset: u16,
+    items: &[u8],
+    buffer: &mut [u8],
+    reply: &mut [u8],
+) -> bool
+    ensures { λ r. ⌜ WritesModule page offset (now (items .entry)) (now (buffer .entry)) (now (reply .entry)) (now (buffer .exit)) (now (reply .exit)) r ⌝ }
+{
+    if reply.len() != 10 {
+        return false;
+    }
+    let heard = write_module(page, offset, items, buffer);
+    match heard {
+        Reply::NoStart => false,
+        Reply::NoList(_) => false,
+        Reply::Answered(written) => {
+            put_written(written, reply);
+            true
+        }
+    }
 }

@@ -2,4 +2,4 @@
 pub mod Known
 pub mod Rows
 pub mod Made
-pub mod Wide
+pub mod LowBytes

@@ -1,5 +1,5 @@
 -- Laws of what bytes begin with, a law a branch.
-use mathlib.Core.Path.{_≡_}
+use mathlib.Core.Path.{_≡_, sym, _∙_}
 use mathlib.Core.List.{List}
 use Prim.Native.Nat.{ℕ, _+_, _<_, _≤_}
 use borrow.Author.Tests.{eq-eqb, ne-eqb, lt-ltb, le-ltb}
@@ -69,3 +69,7 @@ pub call-lies-in : (bytes : List ℕ) (r : Found) → CallLiesIn bytes r → 1 �
 call-lies-in bytes (Whole q) s h b = (s, h, b)
 call-lies-in bytes Part s h b = tt
 call-lies-in bytes Bad s h b = tt
+
+-- another first byte brings nothing
+pub brings-none : (bytes : List ℕ) (first : ℕ) → u8At bytes 0 ≡ first → (first ≡ 1 → ⊥) → Brings bytes
+brings-none bytes first e n = λ one. absurd (n (sym e ∙ one))

@@ -1,5 +1,5 @@
 -- Laws that the functions' proofs cite.
 pub mod Laws
 pub mod Branches
-pub mod Asked
+pub mod Asking
 pub mod Answering

@@ -6,7 +6,9 @@ use Prim.Native.Nat.{ℕ}
 use lib.Dec.{eqb}
 use lib.ListN.{length}
 use Rattle.exos.specs.Definition.Call.{CalledBy, Called}
+use Rattle.writer.specs.Definition.Entries.{Listed, all, flawed, listed}
 use Rattle.exos.specs.Definition.Replays.{ReplaysBy, Replays}
+use Rattle.exos.specs.Definition.Modules.{WritesBy, WritesModule}
 
 module _ (image ram event out reply : List ℕ) {image′ ram′ out′ reply′ image″ ram″ out″ reply″ : List ℕ} where
   one-by : (b : Bool) → CalledBy image ram event out reply image′ ram′ out′ reply′ b → CalledBy image ram event out reply image″ ram″ out″ reply″ b
@@ -29,3 +31,14 @@ module _ (ram out log reply : List ℕ) {ram′ out′ reply′ ram″ out″ re
   pub one-replayed : Replays ram out log reply ram′ out′ reply′ taken → Replays ram out log reply ram″ out″ reply″ taken′
       → (taken ≡ taken′) × (ram′ ≡ ram″) × (out′ ≡ out″) × (reply′ ≡ reply″)
   one-replayed = one-replay (eqb (length reply) 6)
+
+module _ (page offset : ℕ) (items buffer reply : List ℕ) {buffer′ reply′ buffer″ reply″ : List ℕ} {r s : Bool} where
+  one-writing : (fits : Bool) (list : Listed) → WritesBy fits list page offset buffer reply buffer′ reply′ r → WritesBy fits list page offset buffer reply buffer″ reply″ s
+      → (r ≡ s) × (buffer′ ≡ buffer″) × (reply′ ≡ reply″)
+  one-writing true (all is) p q = (p .0 ∙ sym (q .0), p .1 .buffer-is ∙ sym (q .1 .buffer-is), p .1 .reply-is ∙ sym (q .1 .reply-is))
+  one-writing true (flawed f) p q = (p .0 ∙ sym (q .0), p .1 .buffer-is ∙ sym (q .1 .buffer-is), p .1 .reply-is ∙ sym (q .1 .reply-is))
+  one-writing false list p q = (p .0 ∙ sym (q .0), p .1 .buffer-is ∙ sym (q .1 .buffer-is), p .1 .reply-is ∙ sym (q .1 .reply-is))
+
+  pub one-module-written : WritesModule page offset items buffer reply buffer′ reply′ r → WritesModule page offset items buffer reply buffer″ reply″ s
+      → (r ≡ s) × (buffer′ ≡ buffer″) × (reply′ ≡ reply″)
+  one-module-written = one-writing (eqb (length reply) 10) (listed items)

@@ -2,20 +2,11 @@
 
 use super::page_rule::{self, PageFault};
 use crate::mistakes::Place;
-use exos_modules::{stream, Item, Module, What, END};
+use exos_modules::{stream, Item, Module, END};
 
 /// The most items that the program takes: so many of the shortest, restores,
 /// and the end item fill its buffer.
 pub const MOST_ITEMS: usize = 104_857;
-
-/// The items by their tags, from 0. The end item has none: the writer adds it.
-const TAGS: [What; 5] = [
-    What::Byte,
-    What::Word,
-    What::SetPage,
-    What::Restore,
-    What::Move,
-];
 
 /// A start, and the items of a module before the end item.
 #[derive(Clone, Debug, Default, PartialEq, Eq)]
@@ -67,13 +58,10 @@ impl ItemList {
     /// The program's input: the start page, the start offset in 2 bytes, and 3
     /// bytes an item, its tag and its value. Numbers are little-endian.
     pub fn input(&self) -> Vec<u8> {
+        let items: Vec<Item> = self.items().collect();
         let mut input = vec![self.start.page];
         input.extend(self.start.offset.to_le_bytes());
-        for Item { what, value } in self.items() {
-            let tag = TAGS.iter().take_while(|tagged| **tagged != what).count();
-            input.push(tag as u8);
-            input.extend(value.to_le_bytes());
-        }
+        input.extend(exos_modules::list(&items));
         input
     }
 

@@ -7,7 +7,7 @@ use lib.ListN.{length, take, drop}
 use Rattle.text.specs.Definition.Put.{Put}
 use Rattle.text.specs.Laws.Text.{put-none}
 use Rattle.image.specs.Definition.Image.{lowBytes, u64Bytes}
-use Rattle.image.proofs.Wide.{low-put, low-rest}
+use Rattle.image.proofs.LowBytes.{low-put, low-rest}
 use Rattle.image.proofs.fields.put_u64.Statement.{statement}
 use Rattle.image.proofs.fields.put_u64.Tie as tie
 

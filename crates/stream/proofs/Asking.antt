@@ -9,15 +9,17 @@ use Rattle.kernel.specs.Definition.Step.{Result, result}
 use Rattle.kernel.specs.declared.Tables.{Tables}
 use Rattle.kernel.specs.declared.Outcome.{Outcome}
 use Rattle.kernel.specs.declared.Answer.{Answer}
+use Rattle.kernel.specs.declared.Answer.the-variants.{BadCall}
 use Rattle.events.specs.Definition.Records.{u16At, stepOf}
 use Rattle.image.specs.Laws.Bytes.{body-is}
 use Rattle.writer.specs.Definition.Writing.{replyFrom, bufferFrom}
 use Rattle.writer.specs.Laws.Writing.{done-within}
+use Rattle.writer.specs.declared.Flaw.{Flaw}
 use Rattle.writer.specs.declared.Written.{Written}
 use Rattle.writer.specs.declared.Written.the-variants.{Done, Page, Range}
 use Rattle.writer.specs.declared.Reply.{Reply}
-use Rattle.writer.specs.declared.Reply.the-variants.{Answered}
-use Rattle.stream.specs.Definition.Asked.{replyAnswer, askedOf}
+use Rattle.writer.specs.declared.Reply.the-variants.{NoStart, NoList, Answered}
+use Rattle.stream.specs.Definition.Asked.{writtenAnswer, replyAnswer, askedOf}
 use Rattle.stream.specs.Within.{Small}
 
 -- what the writer has written is no longer than the output
@@ -25,6 +27,24 @@ pub small-written : (w : Written) (r : Reply) (input : List ℕ) (room : ℕ) �
 small-written (Done n) r input room h e q = let l = done-within input room n (sym e ∙ q) in omega arith
 small-written Page r input room h e q = tt
 small-written Range r input room h e q = tt
+
+-- the bytes written, where something is
+pub done-small : (w : Written) (n : ℕ) → w ≡ Done n → Small w → n < 65536
+done-small w n e h = rw e at h
+
+-- ---- the writer's reply as an answer
+
+module _ (r heard : Reply) (e : r ≡ heard) where
+  pub write-none : r ≡ NoStart → BadCall ≡ replyAnswer heard
+  write-none q = ap replyAnswer (sym q ∙ e)
+
+  pub write-no-list : (f : Flaw) → r ≡ NoList f → BadCall ≡ replyAnswer heard
+  write-no-list f q = ap replyAnswer (sym q ∙ e)
+
+  pub write-answered : (w : Written) (a : Answer) → r ≡ Answered w → a ≡ writtenAnswer w → a ≡ replyAnswer heard
+  write-answered w a q s = s ∙ ap replyAnswer (sym q ∙ e)
+
+-- ---- by the first byte
 
 pub asked-write : (first : ℕ) (t : Tables) (ram event output : List ℕ) (answer : Answer) (output′ : List ℕ) → first ≡ 2
     → (answer ≡ replyAnswer (replyFrom event (length output))) × (output′ ≡ bufferFrom event output)
