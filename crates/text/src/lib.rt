@@ -22,7 +22,7 @@ fn digit(n: usize) -> u8
 }
 
 // A number in decimal.
-fn decimal(n: usize, text: &mut [u8], at: usize) -> usize
+pub fn decimal(n: usize, text: &mut [u8], at: usize) -> usize
     requires { ⌜ at + length (decimalOf n) ≤ length (now text) ⌝ }
     ensures { λ r. ⌜ Put (now (text .entry)) (now (text .exit)) at r (decimalOf n) ⌝ }
 {

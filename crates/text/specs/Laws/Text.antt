@@ -2,9 +2,9 @@
 use mathlib.Core.Path.{_≡_, refl, sym, ap, _∙_}
 use mathlib.Core.Bool.{Bool, true, false}
 use mathlib.Core.List.{List, [], _∷_, _++_, append-assoc, append-nil}
-use Prim.Native.Nat.{ℕ, zero, suc, _+_, _*_, _/_, _%_, _<_, _≤_}
+use Prim.Native.Nat.{ℕ, zero, suc, _+_, _*_, _/_, _%_, _^_, _<_, _≤_}
 use native.Mathlib.Omega.{arith}
-use native.Mathlib.Numerals.{add-one}
+use native.Mathlib.Numerals.{add-one, unary-clauses}
 use lib.ListN.{length, getD, take, drop, set, length-append}
 use lib.Seq.{take-suc-set, take-suc, drop-set-lt, drop-drop}
 use lib.Dec.{ltb}
@@ -73,24 +73,23 @@ decimal-first d e n at r b h q p = rw (decimal-one n h, ← q) p
 pub decimal-next : (d e f : List ℕ) (n at m r b : ℕ) → 10 ≤ n → b ≡ digitOf n → Put d e at m (decimalOf (n / 10)) → Put e f m r (b ∷ []) → Put d f at r (decimalOf n)
 decimal-next d e f n at m r b h q p s = rw (decimal-more n h, ← q) (put-then p s)
 
--- a u16 has at most five digits
-pub short : (n : ℕ) → n < 65536 → length (decimalOf n) ≤ 5
-short n h = elim (split (ltb n 10)) [
+-- a number below a power of ten has no more digits than that has zeros
+pub digits : (k n : ℕ) → n < 10 ^ suc k → length (decimalOf n) ≤ suc k
+digits zero n h = rw (decimal-one n h) (omega arith)
+digits (suc k) n h = elim (split (ltb n 10)) [
   | inl e ↦ rw (decimal-one n (ltb-true n 10 e)) (omega arith)
   | inr e ↦
-      let q : 10 ≤ n = ltb-false n 10 e in omega (arith, decimal-length n q, down (n / 10) (omega arith))
-] where
-  one : (m : ℕ) → m < 10 → length (decimalOf m) ≤ 1
-  one m h = rw (decimal-one m h) (omega arith)
+      let q : 10 ≤ n = ltb-false n 10 e in
+      let p : 10 ^ suc (suc k) ≡ 10 * 10 ^ suc k = simp unary-clauses (omega arith) in
+      omega (arith, decimal-length n q, digits k (n / 10) (omega (arith, h, p)))
+]
 
-  two : (m : ℕ) → m < 100 → length (decimalOf m) ≤ 2
-  two m h = elim (split (ltb m 10)) [ inl e ↦ omega (arith, one m (ltb-true m 10 e)) | inr e ↦ omega (arith, decimal-length m (ltb-false m 10 e), one (m / 10) (omega arith)) ]
+-- a u16 has at most five digits, a u64 at most twenty
+pub short : (n : ℕ) → n < 65536 → length (decimalOf n) ≤ 5
+short n h = digits 4 n (omega arith)
 
-  three : (m : ℕ) → m < 1000 → length (decimalOf m) ≤ 3
-  three m h = elim (split (ltb m 10)) [ inl e ↦ omega (arith, one m (ltb-true m 10 e)) | inr e ↦ omega (arith, decimal-length m (ltb-false m 10 e), two (m / 10) (omega arith)) ]
-
-  down : (m : ℕ) → m < 10000 → length (decimalOf m) ≤ 4
-  down m h = elim (split (ltb m 10)) [ inl e ↦ omega (arith, one m (ltb-true m 10 e)) | inr e ↦ omega (arith, decimal-length m (ltb-false m 10 e), three (m / 10) (omega arith)) ]
+pub long : (n : ℕ) → n < 2 ^ 64 → length (decimalOf n) ≤ 20
+long n h = digits 19 n (omega arith)
 
 pub four : {d e f g h : List ℕ} {at l m n r : ℕ} (kind answer a b : ℕ) → Put d e at l (decimalOf kind ++ (32 ∷ [])) → Put e f l m (decimalOf answer ++ (32 ∷ []))
     → Put f g m n (decimalOf a ++ (32 ∷ [])) → Put g h n r (decimalOf b) → Put d h at r (fieldsOf kind answer a b)
