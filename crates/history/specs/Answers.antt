@@ -8,3 +8,4 @@ pub mod Decided
 pub mod Proved
 pub mod Refused
 pub mod Loaded
+pub mod Written

@@ -1,6 +1,7 @@
 -- The words of condition 3, and what is said of the definition.
 pub mod Runs
 pub mod Loads
+pub mod Writes
 pub mod Users
 pub mod Lent
 pub mod Reachable

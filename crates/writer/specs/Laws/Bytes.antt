@@ -48,9 +48,7 @@ of-small (suc n) bits e = (
 
 module _ (items : List Item) where
   bits-size : length (moduleBits items) ≡ length (allBits items) + 3 + paddingFor (length (allBits items) + 3)
-  bits-size =
-      length-append (allBits items) (endBits ++ replicate (paddingFor (length (allBits items) + 3)) O)
-      ∙ rw (length-replicate (paddingFor (length (allBits items) + 3)) O) (omega arith)
+  bits-size = simp (length-append, length-replicate) (omega arith)
 
   whole : length (moduleBits items) ≡ 8 * (length (moduleBits items) / 8)
   whole = let e = bits-size in omega arith

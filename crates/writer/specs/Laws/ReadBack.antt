@@ -4,7 +4,7 @@ use mathlib.Core.Bool.{Bool, true, false, cond, _||_}
 use mathlib.Core.List.{List, [], _∷_, _++_}
 use Prim.Native.Nat.{ℕ, zero, suc, _+_, _*_, _%_, _≤_, _<_}
 use native.Mathlib.Omega.{arith}
-use borrow.Author.Tests.{ltb-true, le-ltb}
+use borrow.Author.Tests.{ltb-false, le-ltb}
 use lib.Dec.{ltb}
 use lib.ListN.{length, take, drop, replicate, length-append, length-replicate, length-take}
 use lib.Seq.{take-at, take-take, take-append-le, length-take-le}
@@ -61,10 +61,23 @@ passed-items : (page offset : ℕ) (items : List Item) → refusesPage page offs
 unfolding refusesPage
 passed-items page offset items e = or-right (ltb 3 page || ltb pageSize offset) (refusesFrom page (counter page offset) items) e
 
+-- from a start within its range
+pub done-counts : (page offset : ℕ) (items : List Item) (room n : ℕ) → answerTo page offset items room ≡ Done n → Counts (counter page offset)
+unfolding refusesPage
+done-counts page offset items room n e =
+    let start = or-left (ltb 3 page || ltb pageSize offset) (refusesFrom page (counter page offset) items) (done-passed page offset items room n e .page-is) in
+    record { page = ltb-false 3 page (or-left (ltb 3 page) (ltb pageSize offset) start); offset = ltb-false pageSize offset (or-right (ltb 3 page) (ltb pageSize offset) start) }
+
+-- and without fault where the whole segment is the user's
+pub done-faultless : (g : Target) (offset : ℕ) (items : List Item) (room n : ℕ) → 0 < g .row → pageSize ≤ g .reach → answerTo (g .page) offset items room ≡ Done n
+    → FaultlessFrom g (counter (g .page) offset) items
+done-faultless g offset items room n row reach e =
+    passed-faultless g (counter (g .page) offset) items row reach (passed-items (g .page) offset items (done-passed (g .page) offset items room n e .page-is))
+
 -- ---- "Reading back gives the same items"
 
 -- the loader looks at all of it
-seen : (stream : List ℕ) (items : List Item) (n : ℕ) → IsModule stream items n → n ≤ 65535 → IsModule (lookedAt stream) items n
+pub seen : (stream : List ℕ) (items : List Item) (n : ℕ) → IsModule stream items n → n ≤ 65535 → IsModule (lookedAt stream) items n
 seen stream items n m h = record {
   fit = m .fit;
   within = rw (length-take 65535 stream) (omega (arith, m .within));

@@ -29,7 +29,7 @@ put-bits-requires-2 c κs =
     let s = put .before .before .before .before in
     let m = put .put-items .ensures in
     let n = end .put-bits .ensures in
-    let size = adds-bits 3 6 n in
+    let size = adds-bits 3 _ n in
     (n .few, n .low, omega arith, pow-pos _, omega (arith, adds-size m, size, n .few, module-size (itemsOf (now (s .args .items))), s .pre, put .put-items .kept .1 .0, end .put-bits .kept .1 .1 .1 .0))
 
 same-length : tie.Need-same-length
@@ -45,7 +45,7 @@ returns c =
     let m = put .put-items .ensures in
     let n = end .put-bits .ensures in
     let p = pad .put-bits2 .ensures in
-    put-whole items _ (omega (arith, adds-size m, adds-bits 3 6 n, n .few)) (adds-then (adds-then m n) p) (omega (arith, adds-bits _ 0 p, n .few, p .few))
+    put-whole items _ (omega (arith, adds-size m, adds-bits 3 _ n, n .few)) (adds-then (adds-then m n) p) (omega (arith, adds-bits _ 0 p, n .few, p .few))
 
 pub put-module-spec : {M : Type 1} → statement M
 put-module-spec =
