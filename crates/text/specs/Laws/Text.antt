@@ -5,8 +5,8 @@ use mathlib.Core.List.{List, [], _∷_, _++_, append-assoc, append-nil}
 use Prim.Native.Nat.{ℕ, zero, suc, _+_, _*_, _/_, _%_, _^_, _<_, _≤_}
 use native.Mathlib.Omega.{arith}
 use native.Mathlib.Numerals.{add-one, unary-clauses}
-use lib.ListN.{length, getD, take, drop, set, length-append}
-use lib.Seq.{take-suc-set, take-suc, drop-set-lt, drop-drop}
+use lib.ListN.{length, getD, take, drop, set, length-append, length-take}
+use lib.Seq.{length-take-le, take-suc-set, take-suc, drop-set-lt, drop-drop}
 use lib.Dec.{ltb}
 use borrow.Author.Tests.{lt-ltb, le-ltb, ltb-true, ltb-false}
 use mathlib.Core.Logic.{_⊎_, inl, inr}
@@ -27,6 +27,10 @@ put-then {d} {e} {f} {at} {m} {r} {xs} {ys} p q =
       text = q .text ∙ rw (p .text, append-assoc);
       behind = q .behind ∙ sym (passed e) ∙ ap (drop (length ys)) (p .behind) ∙ passed d;
     }
+
+-- what is put ends within the buffer
+pub put-within : {d e : List ℕ} {at r : ℕ} {xs : List ℕ} → at ≤ length d → Put d e at r xs → r ≤ length e
+put-within {d} {e} {at} {r} {xs} h p = omega (arith, ap length (p .text), length-take r e, length-append (take at d) xs, length-take-le at d h, p .stop)
 
 pub split : (b : Bool) → (b ≡ true) ⊎ (b ≡ false)
 split true = inl refl
