@@ -1,10 +1,9 @@
 -- What is in hand of the buffer: behind the lines, after a read, and where a record is not whole.
-use mathlib.Core.Path.{_≡_, sym, ap, subst, _∙_}
+use mathlib.Core.Path.{_≡_, sym, ap, _∙_}
 use mathlib.Core.List.{List, _++_}
 use Prim.Native.Nat.{ℕ, _+_, _-_, _<_, _≤_}
 use native.Mathlib.Omega.{arith}
 use native.Mathlib.Numerals.{unary-clauses}
-use borrow.Rule.Slice.PartMut.{putMid, midOf, same-len-mid}
 use lib.ListN.{length, take, drop, length-drop}
 use lib.Seq.{length-take-le, take-add, drop-at, drop-drop}
 use Rattle.events.specs.declared.Front.the-variants.{Cut}
@@ -34,14 +33,6 @@ module _ (buf : List ℕ) (from filled taken : ℕ) (h : from ≤ filled) (l : f
       let m : filled - from ≡ taken + rest = omega arith in
       let n : length (take taken (drop from buf)) ≡ taken = length-take-le taken (drop from buf) (rw length-drop (omega arith)) in
       sym (rw (m, take-add taken rest (drop from buf)) (drop-at (take taken (drop from buf)) (take rest (drop taken (drop from buf))) taken n ∙ ap (take rest) (drop-drop taken from buf)))
-
--- a read into the part of the buffer behind the first `left` bytes
-pub brought : (buf part : List ℕ) (left : ℕ) (got : Got) → left ≤ length buf → length part ≡ length (midOf left (length buf - left) buf) → Brings (length part) got
-    → Brings (length (putMid left (length buf - left) buf part) - left) got
-brought buf part left got h e b =
-    let m : length (midOf left (length buf - left) buf) ≡ length buf - left = length-take-le (length buf - left) (drop left buf) (rw length-drop (omega arith)) in
-    let q : length part ≡ length (putMid left (length buf - left) buf part) - left = omega (arith, same-len-mid left (length buf - left) buf part e, m) in
-    subst (λ (n : ℕ). Brings n got) q b
 
 pub counted : (size : ℕ) (got : Got) → Brings size got → countOf got ≤ size
 counted size (Bytes n) b = b .1

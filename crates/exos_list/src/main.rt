@@ -3,12 +3,11 @@ ghost use mathlib.Core.Path.{_≡_};
 ghost use Prim.Native.Nat.{_+_, _-_, _≤_, _<_};
 ghost use lib.ListN.{length, take, drop};
 ghost use Rattle.files.specs.declared.Wrote.{Wrote};
-ghost use Rattle.files.specs.Definition.Outcomes.{Brings};
 ghost use Rattle.listing.specs.Definition.NoneOrGood.{NoneOrGood};
 ghost use Rattle.exos_list.specs.Definition.Turns.{Held, courseOf, countOf, Fetched, Turned, endAfter, told};
 use files::Got;
 use files::Wrote;
-use files::read_from;
+use files::read_after;
 use files::write_to;
 use kernel::Tables;
 use libc::STDIN_FILENO;
@@ -37,15 +36,6 @@ pub struct State {
     pub from: usize,
     pub filled: usize,
     pub course: Course,
-}
-
-// Reads once, after the first `left` bytes of the buffer.
-fn read_after(buf: &mut [u8], left: usize) -> Got
-    requires { ⌜ left < length (now buf) ⌝ }
-    ensures { λ r. ⌜ Brings (length (now (buf .exit)) - left) r × (take left (now (buf .exit)) ≡ take left (now (buf .entry))) ⌝ }
-{
-    let part = &mut buf[left..];
-    read_from(STDIN_FILENO, part)
 }
 
 // How the run goes on after a read.
@@ -88,7 +78,7 @@ fn fetch(tables: Tables, buf: &mut [u8], start: usize, filled: usize) -> State
 {
     let left = filled - start;
     keep(buf, start, left);
-    let got = read_after(buf, left);
+    let got = read_after(STDIN_FILENO, buf, left);
     State {
         tables,
         from: 0,

@@ -1,6 +1,8 @@
 // Reads and writes on descriptors that tell an end from a failure; a call that a signal interrupts is made again.
-ghost use lib.ListN.{length};
-ghost use Rattle.files.specs.Definition.Outcomes.{Brings, Takes};
+ghost use mathlib.Core.Path.{_≡_};
+ghost use Prim.Native.Nat.{_-_, _<_};
+ghost use lib.ListN.{length, take};
+ghost use Rattle.files.specs.Definition.Outcomes.{Brings, Fills, Takes};
 use libc::EINTR;
 use libc::EPIPE;
 
@@ -8,6 +10,13 @@ use libc::EPIPE;
 pub enum Got {
     Bytes(usize),
     Over,
+    Failed,
+}
+
+// What reads up to the end of the input brought: so many bytes and then the end, or a full buffer, or a failure.
+pub enum Filled {
+    Over(usize),
+    Full,
     Failed,
 }
 
@@ -66,6 +75,37 @@ pub fn read_from(fd: i32, buf: &mut [u8]) -> Got
         }
     }
     Got::Failed
+}
+
+// Reads once, after the first `left` bytes of the buffer.
+pub fn read_after(fd: i32, buf: &mut [u8], left: usize) -> Got
+    requires { ⌜ left < length (now buf) ⌝ }
+    ensures { λ r. ⌜ Brings (length (now (buf .exit)) - left) r × (take left (now (buf .exit)) ≡ take left (now (buf .entry))) ⌝ }
+{
+    let part = &mut buf[left..];
+    read_from(fd, part)
+}
+
+// Reads until the input ends, a read fails or the buffer is full, each time after what is read: by `read_after` that stays.
+pub fn read_all(fd: i32, buf: &mut [u8]) -> Filled
+    ensures { λ r. ⌜ Fills (length (now (buf .exit))) r ⌝ }
+{
+    let mut filled: usize = 0;
+    while filled < buf.len() {
+        let got = read_after(fd, buf, filled);
+        match got {
+            Got::Bytes(n) => {
+                filled += n;
+            }
+            Got::Over => {
+                return Filled::Over(filled);
+            }
+            Got::Failed => {
+                return Filled::Failed;
+            }
+        }
+    }
+    Filled::Full
 }
 
 // Writes all bytes, as many at a time as a call takes.

@@ -21,10 +21,10 @@ count-of-requires : tie.Need-count-of-requires
 count-of-requires c κs = search needs
 
 -- the bytes that came lie in the buffer
-fits : (c : tie.After-count-of) → c .before .before .before .before .before .before .before .before .before .before .args .filled - c .before .before .before .before .before .before .before .before .before .before .args .start + c .count-of .result ≤ length (c .before .before .before .read-after .last .0)
+fits : (c : tie.After-count-of) → c .before .before .before .before .before .before .before .before .before .before .args .filled - c .before .before .before .before .before .before .before .before .before .before .args .start + c .count-of .result ≤ length (c .before .before .before .read-after .last .1 .0)
 fits c =
     let r = c .before .before .before .read-after in
-    let k = counted (length (r .last .0) - (c .before .before .before .before .before .before .before .before .before .before .args .filled - c .before .before .before .before .before .before .before .before .before .before .args .start)) (r .result) (r .ensures .0) in
+    let k = counted (length (r .last .1 .0) - (c .before .before .before .before .before .before .before .before .before .before .args .filled - c .before .before .before .before .before .before .before .before .before .before .args .start)) (r .result) (r .ensures .0) in
     omega (arith, c .count-of .ensures, k)
 
 add-t13 : tie.Need-add-t13
@@ -41,7 +41,7 @@ returns c =
     let a = c .before .before .before .before .before .before .before .before .before .before .before .args in
     let r = c .before .before .before .before .read-after in
     let kept = r .ensures .1 ∙ c .before .before .before .before .before .before .before .before .keep .ensures .0 in (
-      (r .result, fetched (a .tables) (r .last .0) _ (a .filled - a .start) _ (r .result) _ kept (c .before .count-of .ensures) (fits (c .before)) (c .course-of .ensures)),
+      (r .result, fetched (a .tables) (r .last .1 .0) _ (a .filled - a .start) _ (r .result) _ kept (c .before .count-of .ensures) (fits (c .before)) (c .course-of .ensures)),
       refl,
       record { good = c .before .before .before .before .before .before .before .before .before .before .before .pre .0; order = omega arith; filled = fits (c .before) },
     )

@@ -2,6 +2,8 @@
 use Prim.Native.Nat.{ℕ, _≤_, _<_}
 use Rattle.files.specs.declared.Got.{Got}
 use Rattle.files.specs.declared.Got.the-variants.{Bytes, Over, Failed as Unread}
+use Rattle.files.specs.declared.Filled.{Filled}
+use Rattle.files.specs.declared.Filled.the-variants.{Over as Whole, Full, Failed as Broken}
 use Rattle.files.specs.declared.Wrote.{Wrote}
 use Rattle.files.specs.declared.Wrote.the-variants.{All, Failed, Closed}
 
@@ -10,6 +12,12 @@ abbrev pub Brings : (size : ℕ) → Got → Type 0
 Brings size (Bytes n) = (0 < n) × (n ≤ size)
 Brings size Over = Unit {0}
 Brings size Unread = Unit {0}
+
+-- the input's end is met while the buffer has room
+abbrev pub Fills : (size : ℕ) → Filled → Type 0
+Fills size (Whole n) = n < size
+Fills size Full = Unit {0}
+Fills size Broken = Unit {0}
 
 -- a write that is not done leaves at least a byte
 abbrev pub Takes : (size : ℕ) → Wrote → Type 0
