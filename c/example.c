@@ -1,5 +1,6 @@
 /* The example of the listing, by exos_call: a line for each record, as in logs/example.txt. Then the same records in one
- * replay, which must leave the same RAM and the same last answer. Then a module, whose bytes must stand in the RAM. */
+ * replay, which must leave the same RAM and the same last answer. Then a module, which the writer makes of its items, and
+ * whose bytes must stand in the RAM. */
 #include "exos.h"
 
 #include <stdio.h>
@@ -81,5 +82,23 @@ int main(void) {
   exos_call(image, sizeof image, ram, sizeof ram, module, sizeof module, out, sizeof out, reply, sizeof reply);
   if (u16(reply) != EXOS_PAGE) return 13;
   if (memcmp(ram, ram_again, sizeof ram) != 0) return 14;
+
+  /* The same module out of its items, at the front of a buffer whose last byte stays. */
+  static const uint8_t items[] = {0, 0xAA, 0, 1, 0x34, 0x12};
+  static uint8_t buffer[5], before[5], written[EXOS_WRITTEN_BYTES];
+  static const uint8_t done[EXOS_WRITTEN_BYTES] = {EXOS_DONE, 0, 4};
+  memset(buffer, 7, sizeof buffer);
+  if (!exos_write_module(1, 0x200, items, sizeof items, buffer, sizeof buffer, written, sizeof written)) return 15;
+  if (memcmp(written, done, sizeof done) != 0) return 16;
+  if (memcmp(buffer, module + 6, 4) != 0 || buffer[4] != 7) return 17;
+
+  /* A buffer a byte short, a page 4 and bytes that are no list of items leave it as it is. */
+  memcpy(before, buffer, sizeof buffer);
+  if (!exos_write_module(1, 0, items, sizeof items, buffer, 3, written, sizeof written)) return 18;
+  if (u16(written) != EXOS_RANGE || written[2] != 0) return 19;
+  if (!exos_write_module(4, 0, items, sizeof items, buffer, 3, written, sizeof written)) return 20;
+  if (u16(written) != EXOS_PAGE || written[2] != 0) return 21;
+  if (exos_write_module(1, 0, items, sizeof items - 1, buffer, sizeof buffer, written, sizeof written)) return 22;
+  if (u16(written) != EXOS_PAGE || memcmp(before, buffer, sizeof buffer) != 0) return 23;
   return 0;
 }

@@ -1,5 +1,6 @@
-/* The proved kernel over bytes, for C and C++: the library of crates/exos, x86-64. `rt staticlib exos` builds it as
- * target/staticlib/libexos.a, which is linked like any object: cc -o program program.c libexos.a
+/* The proved kernel and the proved writer of modules over bytes, for C and C++: the library of crates/exos, x86-64.
+ * `rt staticlib exos` builds it as target/staticlib/libexos.a, which is linked like any object:
+ * cc -o program program.c libexos.a
  *
  * The library is written in Rattle, a systems language in which every function is proved to meet its contract. The
  * contracts, the definition that they cite and the proofs are in antt, the language of Rattle's proof checker (.antt files).
@@ -8,7 +9,7 @@
  * and takes no memory but stack: of this a call took at most 12,856 bytes and a replay 11,752, found by paint below the
  * caller's frame over the logs of logs/ and 18,000 records drawn at random. No theorem bounds it: leave it 16 KB.
  * A pointer is never null, even where its length is 0, and no two buffers of a call overlap. Nothing is asked of the bytes
- * in them: any image, any RAM, any record. Numbers of two bytes are little-endian.
+ * in them: any image, any RAM, any record. Numbers of two and of eight bytes are little-endian.
  */
 #ifndef EXOS_H
 #define EXOS_H
@@ -46,6 +47,12 @@ extern "C" {
 
 /* A reply: the answer's number, a and b, two bytes each. */
 #define EXOS_REPLY_BYTES 6
+
+/* A reply of the writer of modules: the answer's number, two bytes, and the bytes written, eight. */
+#define EXOS_WRITTEN_BYTES 10
+
+/* An item of a list for the writer of modules. */
+#define EXOS_ITEM_BYTES 3
 
 /* A segment of RAM. */
 #define EXOS_SEGMENT_BYTES 16384
@@ -107,13 +114,14 @@ enum exos_answer {
   EXOS_SEGMENT = 10,  /* nothing to allocate */
   EXOS_OWNER = 11,    /* segment not the caller's to free, store, load or put a module in */
   EXOS_BOUNDARY = 12, /* nothing shared, or value above the EXOS boundary */
-  EXOS_RANGE = 13,    /* offset + length past the end, lent output too short, or a module's store above the user boundary */
+  EXOS_RANGE = 13,    /* offset + length past the end, lent output too short, or a module's store above the user boundary;
+                       write module: buffer too short */
   EXOS_GUARD = 14,    /* store touches page zero 30h to 5Bh, save 3Dh and 3Eh */
   EXOS_FLAGS = 15,    /* a bit other than 4, 5, 6 */
   EXOS_START = 16,    /* list, R or RAM length wrong */
   EXOS_SHARED = 17,   /* allocate gave a shared segment, b is the user boundary */
   EXOS_MODULE = 19,   /* load module: an illegal item, a stream that runs out, or padding not zero */
-  EXOS_PAGE = 20      /* load module: a move or store outside the page */
+  EXOS_PAGE = 20      /* load module: a move or store outside the page; write module: also a page above 3, or the start */
 };
 
 /* One call, on the image of the tables.
@@ -132,6 +140,25 @@ enum exos_answer {
  */
 bool exos_call(uint8_t *image, size_t image_len, uint8_t *ram, size_t ram_len, const uint8_t *record, size_t record_len,
                uint8_t *out, size_t out_len, uint8_t *reply, size_t reply_len);
+
+/* The module of a list of items, written into a buffer: a relocatable module as EXOS_KIND_LOAD_MODULE reads it.
+ *
+ *   page, offset   where the counter starts
+ *   items    three bytes an item, any number of them: a tag, then a value of two bytes, read
+ *              0 byte, 1 word, 2 set page, 3 restore, 4 move
+ *            A byte's value is at most 255, a restore's 0.
+ *   buffer   any length; the module is written to its front, and what is behind it stays
+ *   reply    EXOS_WRITTEN_BYTES: the answer's number, two bytes, and the bytes written, eight; written
+ *
+ * True where the items are a list. The answer is EXOS_DONE; EXOS_PAGE for a page above 3, a start that load module would
+ * answer with EXOS_CALL, or an item that it would answer with EXOS_PAGE; or else EXOS_RANGE for a buffer that is too
+ * short. A refusal leaves every byte of the buffer, and has 0 bytes written. False, and nothing changed, where the items
+ * are no such list, or the length of the reply is another.
+ *
+ * The promise that is proved: WritesModule, in crates/exos/specs/Definition/Modules.antt.
+ */
+bool exos_write_module(uint8_t page, uint16_t offset, const uint8_t *items, size_t items_len, uint8_t *buffer,
+                       size_t buffer_len, uint8_t *reply, size_t reply_len);
 
 /* Every whole event record at the front of a log, one after the other, from the tables before any start; up to the log's
  * end, a cut record or a bad length.

@@ -1,19 +1,22 @@
 -- Laws of the writer over bytes, a law a branch.
 use mathlib.Core.Path.{_≡_, refl, sym, ap, _∙_}
 use mathlib.Core.Bool.{true, false}
-use mathlib.Core.List.{List}
+use mathlib.Core.List.{List, _++_}
 use Prim.Native.Nat.{ℕ}
 use native.Mathlib.Omega.{arith}
 use borrow.Author.Tests.{eq-eqb, ne-eqb}
 use lib.ListN.{length}
-use Rattle.modules.specs.declared.Item.{Item}
 use Rattle.writer.specs.Definition.Entries.{Listed, all, flawed, listed}
-use Rattle.writer.specs.Definition.Writing.{answerTo, putBy, replyTo, bufferAfter, Writes}
+use Rattle.image.specs.Definition.Image.{u16Bytes, u64Bytes}
+use Rattle.writer.specs.Definition.Writing.{answerTo, replyTo, bufferAfter, Writes, answerNumber, writtenOf}
 use Rattle.writer.specs.declared.Flaw.{Flaw}
 use Rattle.writer.specs.declared.Written.{Written}
 use Rattle.writer.specs.declared.Reply.{Reply}
 use Rattle.writer.specs.declared.Reply.the-variants.{NoStart, NoList, Answered}
 use Rattle.exos.specs.Definition.Modules.{writtenBytes, WritesBy, WritesModule}
+
+pub ten-bytes : (w : Written) (number bytes : ℕ) {reply : List ℕ} → number ≡ answerNumber w → bytes ≡ writtenOf w → reply ≡ u16Bytes number ++ u64Bytes bytes → reply ≡ writtenBytes w
+ten-bytes w number bytes e f h = h ∙ rw (e, f)
 
 module _ (page offset : ℕ) (items buffer reply : List ℕ) where
   pub short-reply : (length reply ≡ 10 → ⊥) → WritesModule page offset items buffer reply buffer reply false
