@@ -96,7 +96,7 @@ fn size_of(reply: Reply) -> usize
     }
 }
 
-// Writes what is the module of an input, and nothing else; no byte of nothing. The input is here for the contract.
+// Writes the bytes that are the module of an input, none where it has no module. The input is lent for the contract alone.
 fn hand(bytes: &[u8], input: &[u8]) -> Wrote
     requires { ⌜ now bytes ≡ moduleFrom (now input) room ⌝ }
 {
@@ -176,7 +176,7 @@ fn put_told(end: End, text: &mut [u8]) -> usize
     }
 }
 
-// Tells what is the word of an end, and nothing else. The end is here for the contract.
+// Tells the word that is an end's. The end is given for the contract alone.
 fn say(word: &[u8], end: End)
     requires { ⌜ now word ≡ toldOf end ⌝ }
 {
