@@ -7,7 +7,7 @@ ghost use Rattle.files.specs.declared.Wrote.{Wrote};
 ghost use Rattle.text.specs.Definition.Put.{Put};
 ghost use Rattle.text.specs.Definition.Text.{decimalOf};
 ghost use Rattle.writer.specs.Definition.Writing.{replyFrom, writtenOf};
-ghost use Rattle.exos_module.specs.Definition.Ends.{room, inputRoom, endAfter, endBy, endOf, sizeOf, Ran};
+ghost use Rattle.exos_module.specs.Definition.Ends.{room, inputRoom, endAfter, endBy, endOf, moduleSize, Ran};
 ghost use Rattle.exos_module.specs.Definition.Handed.{moduleFrom};
 ghost use Rattle.exos_module.specs.Definition.Told.{letterOf, toldOf};
 use files::Filled;
@@ -86,8 +86,8 @@ fn written_of(written: Written) -> usize
 }
 
 // How many bytes are written by a reply.
-fn size_of(reply: Reply) -> usize
-    ensures { λ r. ⌜ r ≡ sizeOf reply ⌝ }
+fn module_size(reply: Reply) -> usize
+    ensures { λ r. ⌜ r ≡ moduleSize reply ⌝ }
 {
     match reply {
         Reply::NoStart => 0,
@@ -109,7 +109,7 @@ fn answer(input: &[u8], buffer: &mut [u8]) -> End
     ensures { λ r. ⌜ ((wrote : Wrote) × (r ≡ endOf (replyFrom (now (input .entry)) room) wrote)) ⌝ }
 {
     let reply = write_from(input, buffer);
-    let size = size_of(reply);
+    let size = module_size(reply);
     let wrote = hand(&buffer[..size], input);
     end_of(reply, wrote)
 }

@@ -1,7 +1,7 @@
 // Writing relocatable modules: a list of items, judged by the loader's page rule, as the bits of a stream in a lent buffer.
 use modules::Item;
 
-pub mod entries; // a list of items as bytes, three each
+mod entries; // a list of items as bytes, three each
 mod pages; // the loader's page rule over a list
 mod sizes; // how many bytes a module has
 mod packing; // bits put one behind the other, in whole bytes

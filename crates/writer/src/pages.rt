@@ -47,7 +47,7 @@ fn act_of(item: Item, c: Counter, start: u8) -> Act
     )
 }
 
-// Whether it refuses an item.
+// Whether the page rule refuses an item of a list.
 fn refuses_from(items: &[u8], start: Counter) -> bool
     requires { ⌜ Counts start ⌝ }
     ensures { λ r. ⌜ r ≡ refusesFrom (start .page) start (itemsOf (now (items .entry))) ⌝ }

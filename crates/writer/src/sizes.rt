@@ -21,7 +21,7 @@ pub fn width_of(item: Item) -> usize
     }
 }
 
-// Whole bytes and the bits over are counted apart, so that no sum is larger than the list.
+// Whole bytes and the bits over are counted apart, so that no sum overflows.
 pub fn size_of(items: &[u8]) -> usize
     ensures { λ r. ⌜ r ≡ length (moduleOf (itemsOf (now (items .entry)))) ⌝ }
 {

@@ -20,15 +20,17 @@ pub record Answers (w : Written) (items : List Item) (buffer buffer′ reply′ 
   pub buffer-is : buffer′ ≡ putBy w items buffer
   pub reply-is : reply′ ≡ writtenBytes w
 
-pub record Leaves (buffer reply buffer′ reply′ : List ℕ) : Type 0 where
+-- nothing changes
+pub record Unchanged (buffer reply buffer′ reply′ : List ℕ) : Type 0 where
   pub buffer-is : buffer′ ≡ buffer
   pub reply-is : reply′ ≡ reply
 
-abbrev pub WritesBy : (fits : Bool) → Listed → (page offset : ℕ) (buffer reply buffer′ reply′ : List ℕ) → Bool → Type 0
+-- `ten` is whether the reply has ten bytes
+abbrev pub WritesBy : (ten : Bool) → Listed → (page offset : ℕ) (buffer reply buffer′ reply′ : List ℕ) → Bool → Type 0
 WritesBy true (all items) page offset buffer reply buffer′ reply′ r = (r ≡ true) × Answers (answerTo page offset items (length buffer)) items buffer buffer′ reply′
-WritesBy true (flawed f) page offset buffer reply buffer′ reply′ r = (r ≡ false) × Leaves buffer reply buffer′ reply′
-WritesBy false list page offset buffer reply buffer′ reply′ r = (r ≡ false) × Leaves buffer reply buffer′ reply′
+WritesBy true (flawed f) page offset buffer reply buffer′ reply′ r = (r ≡ false) × Unchanged buffer reply buffer′ reply′
+WritesBy false list page offset buffer reply buffer′ reply′ r = (r ≡ false) × Unchanged buffer reply buffer′ reply′
 
 -- the writer is asked where the reply has ten bytes, and answers a list of items; else nothing changes
-abbrev pub WritesModule : (page offset : ℕ) (items buffer reply buffer′ reply′ : List ℕ) → Bool → Type 0
-WritesModule page offset items buffer reply = WritesBy (eqb (length reply) 10) (listed items) page offset buffer reply
+abbrev pub WritesModule : (page offset : ℕ) (bytes buffer reply buffer′ reply′ : List ℕ) → Bool → Type 0
+WritesModule page offset bytes buffer reply buffer′ reply′ r = WritesBy (eqb (length reply) 10) (listed bytes) page offset buffer reply buffer′ reply′ r

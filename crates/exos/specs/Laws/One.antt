@@ -33,7 +33,7 @@ module _ (ram out log reply : List ℕ) {ram′ out′ reply′ ram″ out″ re
   one-replayed = one-replay (eqb (length reply) 6)
 
 module _ (page offset : ℕ) (items buffer reply : List ℕ) {buffer′ reply′ buffer″ reply″ : List ℕ} {r s : Bool} where
-  one-writing : (fits : Bool) (list : Listed) → WritesBy fits list page offset buffer reply buffer′ reply′ r → WritesBy fits list page offset buffer reply buffer″ reply″ s
+  one-writing : (ten : Bool) (list : Listed) → WritesBy ten list page offset buffer reply buffer′ reply′ r → WritesBy ten list page offset buffer reply buffer″ reply″ s
       → (r ≡ s) × (buffer′ ≡ buffer″) × (reply′ ≡ reply″)
   one-writing true (all is) p q = (p .0 ∙ sym (q .0), p .1 .buffer-is ∙ sym (q .1 .buffer-is), p .1 .reply-is ∙ sym (q .1 .reply-is))
   one-writing true (flawed f) p q = (p .0 ∙ sym (q .0), p .1 .buffer-is ∙ sym (q .1 .buffer-is), p .1 .reply-is ∙ sym (q .1 .reply-is))

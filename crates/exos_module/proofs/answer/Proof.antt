@@ -11,14 +11,14 @@ use Rattle.exos_module.proofs.answer.Tie as tie
 write-from-requires : tie.Need-write-from-requires
 write-from-requires c κs = search needs
 
-size-of-requires : tie.Need-size-of-requires
-size-of-requires c κs = search needs
+module-size-requires : tie.Need-module-size-requires
+module-size-requires c κs = search needs
 
 slice-reshare-prefix-hand : tie.Need-slice-reshare-prefix-hand
 slice-reshare-prefix-hand c =
     let s = c .before .before .before .before .before .before .before in
     let w = c .before .before .before .write-from in
-    let z = c .size-of in
+    let z = c .module-size in
     let h = handed (now (s .args .input)) (now (s .args .buffer)) (w .result) (w .last .1 .0) (s .pre) (w .ensures) (z .result) (z .ensures) in
     omega (arith, h .1)
 
@@ -26,7 +26,7 @@ slice-aggregate-hand : tie.Need-slice-aggregate-hand
 slice-aggregate-hand c =
     let s = c .before .before .before .before .before .before .before .before in
     let w = c .before .before .before .before .write-from in
-    let z = c .before .size-of in
+    let z = c .before .module-size in
     let h = handed (now (s .args .input)) (now (s .args .buffer)) (w .result) (w .last .1 .0) (s .pre) (w .ensures) (z .result) (z .ensures) in
     sym (length-take-le _ (w .last .1 .0) (omega (arith, h .1)))
 
@@ -34,7 +34,7 @@ hand-requires : tie.Need-hand-requires
 hand-requires c κs =
     let s = c .before .before .before .before .before .before .before .before in
     let w = c .before .before .before .before .write-from in
-    let z = c .before .size-of in
+    let z = c .before .module-size in
     let h = handed (now (s .args .input)) (now (s .args .buffer)) (w .result) (w .last .1 .0) (s .pre) (w .ensures) (z .result) (z .ensures) in
     h .0
 
@@ -56,7 +56,7 @@ answer-spec =
     tie.close
     (tie.spec
     write-from-requires
-    size-of-requires
+    module-size-requires
     slice-reshare-prefix-hand
     slice-aggregate-hand
     hand-requires

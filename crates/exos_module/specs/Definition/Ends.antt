@@ -1,4 +1,5 @@
--- How a run of the writing program ends, for any outcome of its reads and its write.
+-- How a run of the writing program ends, as some outcome of its reads and its write has it: no contract can name what is read or written. That what was read is answered
+-- once, and the end told, is to be read in `run`, `answer` and `tell`.
 use mathlib.Core.Path.{_≡_}
 use mathlib.Core.List.{List}
 use Prim.Native.Nat.{ℕ, _+_, _*_}
@@ -16,7 +17,7 @@ use Rattle.writer.specs.Definition.Writing.{replyFrom, writtenOf}
 use Rattle.exos_module.specs.declared.End.{End}
 use Rattle.exos_module.specs.declared.End.the-variants.{Whole, WriteFailed, ReaderEnded, ReadFailed, Page, Range, NoStart, TooMany, NoList}
 
--- the buffer's bytes
+-- the buffer's bytes: a module may have one more than a load looks at (docs/DECISIONS.md, 64)
 abbrev pub room : ℕ
 room = 65536
 
@@ -46,12 +47,12 @@ endOf (Listless f) wrote = NoList f
 endOf (Answered w) wrote = endBy w wrote
 
 -- the bytes written by a reply
-abbrev pub sizeOf : Reply → ℕ
-sizeOf Startless = 0
-sizeOf (Listless f) = 0
-sizeOf (Answered w) = writtenOf w
+abbrev pub moduleSize : Reply → ℕ
+moduleSize Startless = 0
+moduleSize (Listless f) = 0
+moduleSize (Answered w) = writtenOf w
 
--- by what the reads told, with what they brought at the front of the input's buffer
+-- by what the reads told, with what they brought at the front of the input's buffer. More than the most items are too many before anything of them is judged
 abbrev pub runEnd : Filled → (input : List ℕ) → Wrote → End
 runEnd (Over n) input wrote = endOf (replyFrom (take n input) room) wrote
 runEnd Full input wrote = TooMany

@@ -14,7 +14,8 @@ letterOf Tag = 116
 letterOf AboveByte = 98
 letterOf Valued = 118
 
--- `0`, `w`, `p` and `r`; `o` and `s`; `h` and `m`; of an item that is none also its number, from 1, in decimal
+-- a letter each: `0` done; `w` a write failed, `p` its reader has ended ("pipe"), `r` a read failed; `o` PAGE ("outside"), `s` RANGE ("short"); `h` no start ("head"), `m` more
+-- items than are taken; of an item that is none the letter of why, and its number, from 1, in decimal
 abbrev pub toldOf : End → List ℕ
 toldOf Whole = 48 ∷ []
 toldOf WriteFailed = 119 ∷ []

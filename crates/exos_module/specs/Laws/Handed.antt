@@ -13,7 +13,7 @@ use Rattle.writer.specs.declared.Reply.{Reply}
 use Rattle.writer.specs.Definition.Entries.{Listed, all, flawed, listed}
 use Rattle.writer.specs.Definition.Bytes.{moduleOf}
 use Rattle.writer.specs.Definition.Writing.{refusesPage, answerTo, putBy, writtenOf, replyTo, bufferAfter, replyFrom, bufferFrom, WritesFrom}
-use Rattle.exos_module.specs.Definition.Ends.{room, sizeOf}
+use Rattle.exos_module.specs.Definition.Ends.{room, moduleSize}
 use Rattle.exos_module.specs.Definition.Handed.{moduleBy, moduleTo, moduleFrom}
 
 -- the first n bytes of a buffer are these
@@ -36,18 +36,18 @@ module _ (page offset : ℕ) (buffer : List ℕ) where
         omega (arith, length-append (moduleOf items) (drop (length (moduleOf items)) buffer)),
       )
 
-  replied : (l : Listed) → Stands (sizeOf (replyTo page offset l (length buffer))) (bufferAfter page offset l buffer) (moduleTo page offset l (length buffer))
+  replied : (l : Listed) → Stands (moduleSize (replyTo page offset l (length buffer))) (bufferAfter page offset l buffer) (moduleTo page offset l (length buffer))
   replied (all items) = answered items
   replied (flawed f) = stands-none buffer
 
-from : (input buffer : List ℕ) → Stands (sizeOf (replyFrom input (length buffer))) (bufferFrom input buffer) (moduleFrom input (length buffer))
+from : (input buffer : List ℕ) → Stands (moduleSize (replyFrom input (length buffer))) (bufferFrom input buffer) (moduleFrom input (length buffer))
 from [] buffer = stands-none buffer
 from (x ∷ []) buffer = stands-none buffer
 from (x ∷ y ∷ []) buffer = stands-none buffer
 from (page ∷ low ∷ high ∷ items) buffer = replied page (low + 256 * high) buffer (listed items)
 
 module _ (input buffer : List ℕ) (r : Reply) (buffer′ : List ℕ) (h : length buffer ≡ room) (w : WritesFrom input buffer r buffer′) where
-  pub handed : (n : ℕ) → n ≡ sizeOf r → (take n buffer′ ≡ moduleFrom input room) × (n ≤ length buffer′)
+  pub handed : (n : ℕ) → n ≡ moduleSize r → (take n buffer′ ≡ moduleFrom input room) × (n ≤ length buffer′)
   handed n e = rw (e, w .reply-is, w .buffer-is, ← h) (from input buffer)
 
   pub reply-is : r ≡ replyFrom input room

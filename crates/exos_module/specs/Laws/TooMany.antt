@@ -14,7 +14,6 @@ use Rattle.writer.specs.declared.Entry.the-variants.{Is, No}
 use Rattle.writer.specs.declared.Written.the-variants.{Page, Range}
 use Rattle.writer.specs.Definition.Bytes.{moduleOf}
 use Rattle.writer.specs.Definition.Entries.{entryOf, Listed, all, flawed, before, listed}
-use Rattle.writer.specs.Definition.Refusals.{TooShort}
 use Rattle.writer.specs.Definition.Writing.{refusesPage, answerTo}
 use Rattle.writer.specs.Laws.Bytes.{module-size}
 use Rattle.writer.specs.Laws.Numbers.{item-width}
@@ -34,7 +33,7 @@ bits : (items : List Item) → 5 * length items ≤ length (allBits items)
 bits [] = omega arith
 bits (i ∷ items) = omega (arith, length-append (itemBits i) (allBits items), item-width i, five i, bits items)
 
-pub too-many : (items : List Item) → most < length items → TooShort items room
+pub too-many : (items : List Item) → most < length items → room < length (moduleOf items)
 too-many items h = omega (arith, module-size items, bits items)
 
 -- and three bytes

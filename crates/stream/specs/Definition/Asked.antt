@@ -11,23 +11,23 @@ use Rattle.kernel.specs.declared.Answer.the-variants.{Done, BadCall, BadRange, 
 use Rattle.events.specs.Definition.Records.{u16At, stepOf}
 use Rattle.writer.specs.Definition.Writing.{replyFrom, bufferFrom}
 use Rattle.writer.specs.declared.Written.{Written}
-use Rattle.writer.specs.declared.Written.the-variants.{Done as Whole, Page, Range}
+use Rattle.writer.specs.declared.Written.the-variants as written
 use Rattle.writer.specs.declared.Reply.{Reply}
 use Rattle.writer.specs.declared.Reply.the-variants.{NoStart, NoList, Answered}
 
--- the writer's answer as a call's, a = 0 and b the bytes written
+-- the writer's answer as a call's, a = 0 and b the bytes written, which are no more than the output's, whose length has two bytes
 abbrev pub writtenAnswer : Written → Answer
-writtenAnswer (Whole n) = Done 0 n
-writtenAnswer Page = BadPage
-writtenAnswer Range = BadRange
+writtenAnswer (written.Done n) = Done 0 n
+writtenAnswer written.Page = BadPage
+writtenAnswer written.Range = BadRange
 
--- 2 where a record has no start, or is no list of items behind it
+-- the answer CALL where a record has no start, or is no list of items behind it
 abbrev pub replyAnswer : Reply → Answer
 replyAnswer NoStart = BadCall
 replyAnswer (NoList f) = BadCall
 replyAnswer (Answered w) = writtenAnswer w
 
--- 2 asks the writer, whose buffer is the output, and leaves tables and RAM; else the record is an event's
+-- a first byte 2 asks the writer, whose buffer is the output, and leaves tables and RAM; else the record is an event's (0 and 1: Requests.antt knows no other)
 unfoldable pub askedOf : (first : ℕ) → Tables → (ram event output : List ℕ) → Result
 askedOf first t ram event output =
     cond (eqb first 2)

@@ -1,7 +1,7 @@
 -- A list of items as bytes: three an item, a tag and a value of two bytes, the low one first. What bytes are no such list.
 use mathlib.Core.Bool.{cond}
-use mathlib.Core.List.{List, [], _∷_}
-use Prim.Native.Nat.{ℕ, _+_, _*_}
+use mathlib.Core.List.{List, [], _∷_, _++_}
+use Prim.Native.Nat.{ℕ, _+_, _*_, _/_, _%_}
 use lib.Dec.{ltb, eqb}
 use Rattle.modules.specs.declared.Item.{Item}
 use Rattle.modules.specs.declared.Item.the-variants.{Byte, Word, SetPage, Restore, Move}
@@ -23,6 +23,18 @@ entryOf tag value =
 
 abbrev pub flawAt : (number : ℕ) → Why → Flaw
 flawAt number why = record { number = number; why = why }
+
+-- the three bytes of an item
+abbrev pub entryBytes : Item → List ℕ
+entryBytes (Byte x) = 0 ∷ x % 256 ∷ x / 256 ∷ []
+entryBytes (Word x) = 1 ∷ x % 256 ∷ x / 256 ∷ []
+entryBytes (SetPage page) = 2 ∷ page % 256 ∷ page / 256 ∷ []
+entryBytes Restore = 3 ∷ 0 ∷ 0 ∷ []
+entryBytes (Move x) = 4 ∷ x % 256 ∷ x / 256 ∷ []
+
+abbrev pub listBytes : List Item → List ℕ
+listBytes [] = []
+listBytes (i ∷ items) = entryBytes i ++ listBytes items
 
 -- all items, or the first that is none
 pub data Listed : Type 0 where

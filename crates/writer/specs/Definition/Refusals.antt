@@ -1,4 +1,4 @@
--- What the writer refuses, as propositions. That `answerTo` gives exactly these is proved in Laws.
+-- What the writer refuses, as propositions. That `answerTo` gives 20 and 13 exactly then is proved in Laws.
 use Prim.Native.Nat.{ℕ, _<_}
 use mathlib.Core.List.{List, _∷_}
 use lib.ListN.{length}
@@ -24,6 +24,7 @@ pub data PageRefused (page offset : ℕ) (items : List Item) : Type 0 where
   start-offset : pageSize < offset → PageRefused page offset items
   item : ItemRefused page (counter page offset) items → PageRefused page offset items
 
--- "then RANGE for a short buffer"
-abbrev pub TooShort : List Item → (room : ℕ) → Type 0
-TooShort items room = room < length (moduleOf items)
+-- 13 RANGE: "then RANGE for a short buffer"
+pub record RangeRefused (page offset : ℕ) (items : List Item) (room : ℕ) : Type 0 where
+  pub then : ¬ PageRefused page offset items
+  pub short : room < length (moduleOf items)

@@ -43,13 +43,13 @@ answerTo page offset items room =
     (cond (ltb room (length (moduleOf items))) Range
     (Done (length (moduleOf items))))
 
--- "either way the buffer stays untouched"; what is written stands at its front
+-- "either way the buffer stays untouched"; what is written stands at its front, and the rest of it stays
 abbrev pub putBy : Written → List Item → (buffer : List ℕ) → List ℕ
 putBy (Done n) items buffer = moduleOf items ++ drop n buffer
 putBy Page items buffer = buffer
 putBy Range items buffer = buffer
 
--- of items as bytes: what is no list of items is told, and nothing is written
+-- of bytes: where they are no list of items that is told before any refusal, and nothing is written
 abbrev pub replyTo : (page offset : ℕ) → Listed → (room : ℕ) → Reply
 replyTo page offset (all items) room = Answered (answerTo page offset items room)
 replyTo page offset (flawed f) room = NoList f
@@ -59,19 +59,19 @@ bufferAfter page offset (all items) buffer = putBy (answerTo page offset items (
 bufferAfter page offset (flawed f) buffer = buffer
 
 -- what a call of the writer leaves, with the accent
-pub record Writes (page offset : ℕ) (items buffer : List ℕ) (r : Reply) (buffer′ : List ℕ) : Type 0 where
-  pub reply-is : r ≡ replyTo page offset (listed items) (length buffer)
-  pub buffer-is : buffer′ ≡ bufferAfter page offset (listed items) buffer
+pub record Writes (page offset : ℕ) (bytes buffer : List ℕ) (r : Reply) (buffer′ : List ℕ) : Type 0 where
+  pub reply-is : r ≡ replyTo page offset (listed bytes) (length buffer)
+  pub buffer-is : buffer′ ≡ bufferAfter page offset (listed bytes) buffer
 
--- the same, of one input: start page in one byte, start offset in two, the low one first, then the items
+-- the same, of one input: start page in one byte, start offset in two, the low one first, then the list
 abbrev pub replyFrom : (input : List ℕ) (room : ℕ) → Reply
-replyFrom (page ∷ low ∷ high ∷ items) room = replyTo page (low + 256 * high) (listed items) room
+replyFrom (page ∷ low ∷ high ∷ bytes) room = replyTo page (low + 256 * high) (listed bytes) room
 replyFrom (page ∷ low ∷ []) room = NoStart
 replyFrom (page ∷ []) room = NoStart
 replyFrom [] room = NoStart
 
 abbrev pub bufferFrom : (input buffer : List ℕ) → List ℕ
-bufferFrom (page ∷ low ∷ high ∷ items) buffer = bufferAfter page (low + 256 * high) (listed items) buffer
+bufferFrom (page ∷ low ∷ high ∷ bytes) buffer = bufferAfter page (low + 256 * high) (listed bytes) buffer
 bufferFrom (page ∷ low ∷ []) buffer = buffer
 bufferFrom (page ∷ []) buffer = buffer
 bufferFrom [] buffer = buffer

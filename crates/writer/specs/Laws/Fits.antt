@@ -1,8 +1,8 @@
--- What a list that the writer takes holds: numbers that fit their bits, and items without fault where the whole segment is the user's.
+-- What a list that the writer takes holds: numbers that fit their bits, and items without fault where the whole segment is the user's. And such items can be given to it.
 use mathlib.Core.Path.{_≡_, refl, sym, ap, _∙_}
 use mathlib.Core.Bool.{Bool, true, false, cond, _||_, false≢true}
 use mathlib.Core.List.{List, [], _∷_, _++_}
-use Prim.Native.Nat.{ℕ, _+_, _*_, _≤_, _<_}
+use Prim.Native.Nat.{ℕ, _+_, _*_, _/_, _%_, _≤_, _<_}
 use native.Mathlib.Omega.{arith}
 use borrow.Author.Tests.{ltb-false, le-ltb}
 use lib.Dec.{ltb, eqb}
@@ -17,7 +17,7 @@ use Rattle.modules.specs.declared.Item.{Item}
 use Rattle.modules.specs.declared.Item.the-variants.{Byte, Word, SetPage, Restore, Move}
 use Rattle.modules.specs.declared.Counter.{Counter}
 use Rattle.modules.specs.declared.Target.{Target}
-use Rattle.writer.specs.Definition.Entries.{entryOf, Listed, all, flawed, before, listed}
+use Rattle.writer.specs.Definition.Entries.{entryOf, listBytes, Listed, all, flawed, before, listed}
 use Rattle.writer.specs.Definition.Bytes.{AllBytes}
 use Rattle.writer.specs.Definition.Writing.{pageAbove, refusesFrom}
 use Rattle.writer.specs.declared.Why.the-variants.{Tag, AboveByte, Valued}
@@ -136,3 +136,31 @@ unfolding refusesFrom
 faultless-passed g c [] fit l = refl
 faultless-passed g c (i ∷ items) fit l =
     rw (fits-below i (fit .0), says-no (outside-says c i) (l .0 .inside)) (faultless-passed g (after (g .page) c i) items (fit .1) (l .1))
+
+-- ---- items that fit can be given as bytes
+
+pub list-small : (items : List Item) → AllFit items → AllBytes (listBytes items)
+list-small [] fit = tt
+list-small (Byte x ∷ items) fit = let h : x < 256 = fit .0 in (omega arith, (omega arith, (omega arith, list-small items (fit .1))))
+list-small (Word x ∷ items) fit = let h : x < 65536 = fit .0 in (omega arith, (omega arith, (omega arith, list-small items (fit .1))))
+list-small (SetPage page ∷ items) fit = let h : page < 4 = fit .0 in (omega arith, (omega arith, (omega arith, list-small items (fit .1))))
+list-small (Restore ∷ items) fit = (omega arith, (omega arith, (omega arith, list-small items (fit .1))))
+list-small (Move x ∷ items) fit = let h : x < 65536 = fit .0 in (omega arith, (omega arith, (omega arith, list-small items (fit .1))))
+
+halves : (x : ℕ) → x % 256 + 256 * (x / 256) ≡ x
+halves x = omega arith
+
+listed-first : (tag value : ℕ) (bytes : List ℕ) → listed (tag ∷ value % 256 ∷ value / 256 ∷ bytes) ≡ before (entryOf tag value) (listed bytes)
+unfolding listed
+listed-first tag value bytes = ap (λ (x : ℕ). before (entryOf tag x) (listed bytes)) (halves value)
+
+pub list-listed : (items : List Item) → AllFit items → listed (listBytes items) ≡ all items
+unfolding listed entryOf
+list-listed [] fit = refl
+list-listed (Byte x ∷ items) fit =
+    let h : x < 256 = fit .0 in
+    listed-first 0 x (listBytes items) ∙ rw (le-ltb 255 x (omega arith), list-listed items (fit .1))
+list-listed (Word x ∷ items) fit = listed-first 1 x (listBytes items) ∙ rw (list-listed items (fit .1))
+list-listed (SetPage page ∷ items) fit = listed-first 2 page (listBytes items) ∙ rw (list-listed items (fit .1))
+list-listed (Restore ∷ items) fit = rw (list-listed items (fit .1))
+list-listed (Move x ∷ items) fit = listed-first 4 x (listBytes items) ∙ rw (list-listed items (fit .1))

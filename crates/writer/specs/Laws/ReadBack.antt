@@ -1,8 +1,9 @@
 -- Writer and reader give each other back: the statements of Definition/ReadBack.antt, proved, and that both are one-to-one on what they accept.
 use mathlib.Core.Path.{_≡_, refl, sym, ap, _∙_}
 use mathlib.Core.Bool.{Bool, true, false, cond, _||_}
-use mathlib.Core.List.{List, [], _∷_, _++_}
+use mathlib.Core.List.{List, [], _∷_, _++_, append-nil}
 use Prim.Native.Nat.{ℕ, zero, suc, _+_, _*_, _%_, _≤_, _<_}
+use native.Mathlib.Nat.{le-refl}
 use native.Mathlib.Omega.{arith}
 use borrow.Author.Tests.{ltb-false, le-ltb}
 use lib.Dec.{ltb}
@@ -23,9 +24,9 @@ use Rattle.rows.specs.Laws.Lists.{or-left, or-right}
 use Rattle.writer.specs.Definition.Entries.{all, listed}
 use Rattle.writer.specs.Definition.Bytes.{paddingFor, moduleBits, moduleOf, AllBytes}
 use Rattle.writer.specs.Definition.Writing.{refusesFrom, refusesPage, answerTo, bufferAfter}
-use Rattle.writer.specs.Definition.ReadBack.{ReadAs, ReadsBack, WrittenAs, AcceptedAsWritten}
-use Rattle.writer.specs.Laws.Bytes.{module-bits, module-size, module-is}
-use Rattle.writer.specs.Laws.Fits.{listed-fit, passed-faultless, faultless-passed}
+use Rattle.writer.specs.Definition.ReadBack.{ReadAs, ReadsBack, WrittenAs, AcceptedAsWritten, OneToOne}
+use Rattle.writer.specs.Laws.Bytes.{module-bits, module-small, module-is}
+use Rattle.writer.specs.Laws.Fits.{listed-fit, passed-faultless, faultless-passed, list-small, list-listed}
 use Rattle.writer.specs.declared.Written.the-variants.{Done, Page, Range}
 
 -- ---- what the writer makes is a module of its items
@@ -130,6 +131,8 @@ module-as-written g offset stream items b small start m l =
     let few : b ≤ 65535 = omega (arith, m .within, length-take 65535 stream) in
     let size : length (moduleOf items) ≡ b = sym (ap length own) ∙ length-take-le b (lookedAt stream) (m .within) in
     record {
+      small = list-small items (m .fit);
+      given = list-listed items (m .fit);
       bytes = sym (take-take b 65535 stream few) ∙ own;
       takes = λ room h. rw (start-passed (g .page) offset start, faultless-passed g (counter (g .page) offset) items (m .fit) l, size, le-ltb room b h);
     }
@@ -140,9 +143,30 @@ accepted-as-written g offset stream b small start e =
 
 -- ---- one-to-one
 
--- two lists that fit and have the same module are the same
-pub written-once : (is js : List Item) → AllFit is → AllFit js → moduleOf is ≡ moduleOf js → is ≡ js
-written-once is js f g e =
-    let m = written-module is [] f in
-    let k = written-module js [] g in
-    one-module (moduleOf is ++ []) is js (length (moduleOf is)) (length (moduleOf js)) m (rw e k) .0
+written-once : (items others : List Item) → AllFit items → AllFit others → moduleOf items ≡ moduleOf others → items ≡ others
+written-once items others f g e =
+    let m = written-module items [] f in
+    let k = written-module others [] g in
+    one-module (moduleOf items ++ []) items others (length (moduleOf items)) (length (moduleOf others)) m (rw e k) .0
+
+module _ (g : Target) (offset : ℕ) (items : List Item) (fit : AllFit items) (few : length (moduleOf items) ≤ 65535) (n : ℕ) where
+  own : IsModule (moduleOf items) items (length (moduleOf items))
+  own = rw (append-nil (moduleOf items)) at (written-module items [] fit)
+
+  taken-accepted : 0 < g .row → pageSize ≤ g .reach → answerTo (g .page) offset items n ≡ Done n → judged g (counter (g .page) offset) (moduleOf items) ≡ Whole n
+  taken-accepted row reach e =
+      let p = done-passed (g .page) offset items n n e in
+      module-whole g (counter (g .page) offset) (moduleOf items) items n (rw (p .size-is) (seen (moduleOf items) items (length (moduleOf items)) own few))
+      (done-faultless g offset items n n row reach e)
+
+  accepted-taken : Counts (counter (g .page) offset) → judged g (counter (g .page) offset) (moduleOf items) ≡ Whole n → answerTo (g .page) offset items n ≡ Done n
+  accepted-taken start e =
+      let same = module-items (moduleOf items) items (length (moduleOf items)) (seen (moduleOf items) items (length (moduleOf items)) own few) in
+      let w = accepted-as-written g offset (moduleOf items) n (module-small items) start e in
+      (rw same at (w .takes)) n (le-refl n)
+
+pub one-to-one : OneToOne
+one-to-one = record {
+  same = λ g row reach offset start items fit few n. (taken-accepted g offset items fit few n row reach, accepted-taken g offset items fit few n start);
+  once = written-once;
+}

@@ -18,7 +18,7 @@ use Rattle.modules.specs.declared.Item.the-variants.{Byte, Word, SetPage, Resto
 use Rattle.modules.specs.declared.Counter.{Counter}
 use Rattle.writer.specs.Definition.Bytes.{moduleOf}
 use Rattle.writer.specs.Definition.Writing.{pageAbove, refusesFrom, refusesPage, answerTo, putBy, answerNumber, writtenOf}
-use Rattle.writer.specs.Definition.Refusals.{ItemRefused, page-above, behind, PageRefused, start-page, start-offset, item, TooShort}
+use Rattle.writer.specs.Definition.Refusals.{ItemRefused, page-above, behind, PageRefused, start-page, start-offset, item, RangeRefused}
 use Rattle.writer.specs.Definition.Refusals as refusals
 use Rattle.writer.specs.declared.Written.{Written}
 use Rattle.writer.specs.declared.Written.the-variants.{Done, Page, Range}
@@ -90,19 +90,19 @@ module _ (page offset : ℕ) (items : List Item) (room : ℕ) where
   pub page-exactly : (answerNumber (answerTo page offset items room) ≡ 20) ↔ PageRefused page offset items
   page-exactly = (page-is, λ h. ap answerNumber (answered true _ (page-says page offset items .make h) refl))
 
-  range-is : answerNumber (answerTo page offset items room) ≡ 13 → (¬ PageRefused page offset items) × TooShort items room
+  range-is : answerNumber (answerTo page offset items room) ≡ 13 → RangeRefused page offset items room
   range-is e = go (refusesPage page offset items) (ltb room (length (moduleOf items))) refl refl
     where
-      go : (p s : Bool) → refusesPage page offset items ≡ p → ltb room (length (moduleOf items)) ≡ s → (¬ PageRefused page offset items) × TooShort items room
+      go : (p s : Bool) → refusesPage page offset items ≡ p → ltb room (length (moduleOf items)) ≡ s → RangeRefused page offset items room
       go true s p q = absurd (let z = ap answerNumber (answered true s p q) in omega arith)
-      go false true p q = (says-fails (page-says page offset items) p, ltb-true room (length (moduleOf items)) q)
+      go false true p q = record { then = says-fails (page-says page offset items) p; short = ltb-true room (length (moduleOf items)) q }
       go false false p q = absurd (let z = ap answerNumber (answered false false p q) in omega arith)
 
   -- 13 exactly where they are not, and the buffer is short
-  pub range-exactly : (answerNumber (answerTo page offset items room) ≡ 13) ↔ ((¬ PageRefused page offset items) × TooShort items room)
+  pub range-exactly : (answerNumber (answerTo page offset items room) ≡ 13) ↔ RangeRefused page offset items room
   range-exactly = (
     range-is,
-    λ (p, s). ap answerNumber (answered false true (says-no (page-says page offset items) p) (lt-ltb room (length (moduleOf items)) s)),
+    λ h. ap answerNumber (answered false true (says-no (page-says page offset items) (h .then)) (lt-ltb room (length (moduleOf items)) (h .short))),
   )
 
 -- a refused call gives no bytes written and leaves the buffer

@@ -21,18 +21,45 @@ fn transcript(document: &str, section: &str) -> Vec<String> {
     lines.map(str::to_string).collect()
 }
 
-/// Whether the commands ask for a listing, and so for the proved program.
-fn asks_for_a_listing(transcript: &[String]) -> bool {
-    let mut commands = transcript.iter().filter(|line| line.starts_with("$ "));
-    commands.any(|command| command.contains("exos-list"))
+/// A script that runs a proved program, the program, and an input on which it
+/// ends well.
+struct Proved {
+    script: &'static str,
+    program: &'static str,
+    input: &'static str,
 }
 
-/// A script that prints each command and runs it. The first listing, which
-/// may have something to say on how the program was built, comes before.
+const PROVED: [Proved; 2] = [
+    Proved {
+        script: "exos-list",
+        program: "target/bin/exos_list",
+        input: "",
+    },
+    Proved {
+        script: "exos-module",
+        program: "target/bin/exos_module",
+        input: r"\0\0\0",
+    },
+];
+
+/// The proved programs that the commands ask for.
+fn asked(transcript: &[String]) -> impl Iterator<Item = &'static Proved> + '_ {
+    let commands = || transcript.iter().filter(|line| line.starts_with("$ "));
+    let is_asked = move |proved: &&Proved| commands().any(|line| line.contains(proved.script));
+    PROVED.iter().filter(is_asked)
+}
+
+/// A script that prints each command and runs it. A first run of each program,
+/// which may have something to say on how it was built, comes before.
 fn script(transcript: &[String]) -> String {
     let mut script = String::new();
-    if asks_for_a_listing(transcript) {
-        script.push_str("exos-list - </dev/null >&2\n");
+    for Proved {
+        script: name,
+        input,
+        ..
+    } in asked(transcript)
+    {
+        script.push_str(&format!("printf '{input}' | {name} - >&2\n"));
     }
     script.push_str("exec 2>&1\n");
     for command in transcript.iter().filter_map(|line| line.strip_prefix("$ ")) {
@@ -46,8 +73,12 @@ fn script(transcript: &[String]) -> String {
 /// stands below them.
 fn holds(transcript: &[String], room: &str) {
     let root = root();
-    if asks_for_a_listing(transcript) && !root.join("target/bin/exos_list").exists() {
-        eprintln!("left out: this needs target/bin/exos_list, which ./exos-list builds");
+    let missing = asked(transcript).find(|proved| !root.join(proved.program).exists());
+    if let Some(Proved {
+        script, program, ..
+    }) = missing
+    {
+        eprintln!("left out: this needs {program}, which ./{script} builds");
         return;
     }
     let room = Path::new(env!("CARGO_TARGET_TMPDIR")).join(room);
