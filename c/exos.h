@@ -153,7 +153,7 @@ bool exos_call(uint8_t *image, size_t image_len, uint8_t *ram, size_t ram_len, c
  * True where the items are a list. The answer is EXOS_DONE; EXOS_PAGE for a page above 3, a start that load module would
  * answer with EXOS_CALL, or an item that it would answer with EXOS_PAGE; or else EXOS_RANGE for a buffer that is too
  * short. A refusal leaves every byte of the buffer, and has 0 bytes written. False, and nothing changed, where the items
- * are no such list, or the length of the reply is another.
+ * are no such list, or the length of the reply is another. A module above 65,535 bytes is written, and no load takes it.
  *
  * The promise that is proved: WritesModule, in crates/exos/specs/Definition/Modules.antt.
  */

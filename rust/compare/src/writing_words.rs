@@ -1,8 +1,8 @@
 //! What the writer is asked, in words: the start, and items as `exoslog` has them.
 
 use crate::protocol::Writing;
-use exos_modules::{of_list, Item, What};
-use exoslog::hex;
+use exos_modules::of_list;
+use exoslog::{hex, items_words};
 
 /// A record for the writer in words.
 pub fn writing_words(record: &[u8]) -> String {
@@ -15,25 +15,8 @@ pub fn writing_words(record: &[u8]) -> String {
             hex(list)
         );
     };
-    let are_bytes = |one: &Item, next: &Item| [one.what, next.what] == [What::Byte; 2];
-    let items = items.chunk_by(are_bytes).map(run_words);
-    let start = ["write module".to_string(), format!("{page} {offset}")];
-    start.into_iter().chain(items).collect::<Vec<_>>().join(" ")
-}
-
-/// An item, or a run of bytes, in words.
-fn run_words(run: &[Item]) -> String {
-    let Item { what, value } = run[0];
-    match what {
-        What::Byte => {
-            let bytes: Vec<u8> = run.iter().map(|item| item.value as u8).collect();
-            format!("bytes {}", hex(&bytes))
-        }
-        What::Word => format!("word {value:04x}"),
-        What::SetPage => format!("page {value}"),
-        What::Move => format!("move {value:04x}"),
-        _ => what.to_string(),
-    }
+    let start = vec!["write module".to_string(), format!("{page} {offset}")];
+    [start, items_words(&items)].concat().join(" ")
 }
 
 #[cfg(test)]

@@ -27,7 +27,7 @@ pub use exos_kernel::hex;
 pub use grammar::{form_of, Field, Form, Misfit, FORMS};
 pub use map::{map, Boundary, Class, LineRecord, Map, PastTheEnd, Ram, Region, Segment, What};
 pub use mistakes::{Mistake, Place};
-pub use module::{module_words, ItemList, NoModule, PageFault, MOST_ITEMS};
+pub use module::{items_words, module_words, ItemList, NoModule, PageFault, MOST_ITEMS};
 pub use parse::{begins_with_items, encode, item_list};
 pub use records::{records, Record, Records, LONGEST};
 pub use replay::answer_to;

@@ -47,7 +47,8 @@ fn has_bad_padding(module: &Module) -> bool {
     module.items.last() == Some(&END) && module.rest[..module.padding()].contains(&true)
 }
 
-fn items_words(items: &[Item]) -> Vec<String> {
+/// Items in words, bytes in runs.
+pub fn items_words(items: &[Item]) -> Vec<String> {
     let are_bytes = |one: &Item, next: &Item| [one.what, next.what] == [What::Byte; 2];
     items.chunk_by(are_bytes).map(run_words).collect()
 }
