@@ -1,11 +1,11 @@
 -- Laws of what comes of a record, a law a branch.
 use mathlib.Core.Path.{_≡_, sym, ap, _∙_}
 use mathlib.Core.List.{List}
-use Prim.Native.Nat.{ℕ, _-_, _≤_, _<_}
+use Prim.Native.Nat.{ℕ, _-_, _<_}
 use native.Mathlib.Omega.{arith}
 use borrow.Author.Tests.{eq-eqb, ne-eqb}
 use lib.ListN.{length, take, drop}
-use Rattle.kernel.specs.Definition.Step.{Result, result}
+use Rattle.kernel.specs.Definition.Step.{result}
 use Rattle.kernel.specs.declared.Tables.{Tables}
 use Rattle.kernel.specs.declared.Outcome.{Outcome}
 use Rattle.kernel.specs.declared.Answer.{Answer}

@@ -1,5 +1,4 @@
 -- `put_written` puts the number and the bytes written, which are all ten.
-use mathlib.Core.Path.{_≡_, ap, _∙_}
 use native.Mathlib.Omega.{arith}
 use Rattle.text.specs.Laws.Text.{put-then}
 use Rattle.image.specs.Laws.Bytes.{whole}

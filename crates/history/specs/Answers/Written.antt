@@ -1,18 +1,11 @@
 -- What the loader accepts the writer makes, and what the writer makes a load takes: the statements of Definition/Writes.antt, proved.
-use mathlib.Core.Path.{_≡_, refl, sym, ap, _∙_}
 use mathlib.Core.Logic.{inl, inr}
-use mathlib.Core.List.{List}
-use Prim.Native.Nat.{ℕ, _≤_, _<_}
+use Prim.Native.Nat.{_≤_}
 use native.Mathlib.Nat.{le-refl}
-use native.Mathlib.Omega.{arith}
 use lib.ListN.{length}
-use Rattle.modules.specs.Definition.Reading.{takenOf}
-use Rattle.modules.specs.Definition.Counter.{counter}
 use Rattle.modules.specs.Laws.Unique.{module-items}
-use Rattle.modules.specs.declared.Item.{Item}
-use Rattle.writer.specs.Definition.Entries.{all, listed}
+use Rattle.writer.specs.Definition.Entries.{listed}
 use Rattle.writer.specs.Definition.Writing.{bufferAfter}
-use Rattle.writer.specs.Definition.ReadBack.{WrittenAs}
 use Rattle.writer.specs.Laws.ReadBack.{reads-back, module-as-written, seen, done-counts, done-faultless}
 use Rattle.kernel.specs.Definition.Calls.{targetOf}
 use Rattle.kernel.specs.Definition.Segments.{reachOf}

@@ -6,10 +6,9 @@ use Prim.Native.Nat.{ℕ, _≤_, _<_}
 use lib.ListN.{length, take}
 use Rattle.modules.specs.Definition.Bits.{bitsIn}
 use Rattle.modules.specs.Definition.Items.{AllFit, IsModule}
-use Rattle.modules.specs.Definition.Reading.{takenIn, lookedAt, takenOf}
+use Rattle.modules.specs.Definition.Reading.{takenIn, takenOf}
 use Rattle.modules.specs.Definition.Counter.{Counts, pageSize, counter}
 use Rattle.modules.specs.Definition.Judging.{judged}
-use Rattle.modules.specs.Definition.Faults.{FaultlessFrom}
 use Rattle.modules.specs.declared.Item.{Item}
 use Rattle.modules.specs.declared.Target.{Target}
 use Rattle.modules.specs.declared.Judged.the-variants.{Whole}

@@ -1,12 +1,12 @@
 -- Bits in eights are bytes, and each gives the other back; how many bytes a module has.
 use mathlib.Core.Path.{_≡_, refl, sym, ap, ap₂, _∙_}
 use mathlib.Core.List.{List, [], _∷_, _++_}
-use Prim.Native.Nat.{ℕ, zero, suc, _+_, _-_, _*_, _/_, _%_, _<_}
+use Prim.Native.Nat.{ℕ, zero, suc, _+_, _-_, _*_, _/_}
 use native.Mathlib.Omega.{arith}
-use lib.ListN.{length, take, drop, replicate, length-append, length-drop, length-replicate, take-append-drop}
+use lib.ListN.{length, take, drop, length-append, length-drop, length-replicate, take-append-drop}
 use lib.Seq.{length-take-le, take-at, drop-at}
-use Rattle.modules.specs.Definition.Bits.{Bit, O, bitsOf, numberOf, bitsIn}
-use Rattle.modules.specs.Definition.Items.{endBits, allBits}
+use Rattle.modules.specs.Definition.Bits.{Bit, bitsOf, numberOf, bitsIn}
+use Rattle.modules.specs.Definition.Items.{allBits}
 use Rattle.modules.specs.Laws.Numbers.{bits-length, number-back, bits-back, number-fits, bytes-length, bytes-cons, bytes-none}
 use Rattle.modules.specs.declared.Item.{Item}
 use Rattle.writer.specs.Definition.Bytes.{paddingFor, moduleBits, bytesOf, moduleOf, AllBytes}

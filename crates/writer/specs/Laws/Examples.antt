@@ -1,6 +1,6 @@
 -- Modules of one item each, and an empty one, by computation.
 use mathlib.Core.Path.{_≡_, refl}
-use mathlib.Core.List.{List, [], _∷_}
+use mathlib.Core.List.{[], _∷_}
 use Rattle.modules.specs.Definition.Bits.{bitsOf}
 use Rattle.modules.specs.Definition.Items.{itemBits}
 use Rattle.modules.specs.declared.Item.the-variants.{Byte, Word, SetPage, Restore, Move}

@@ -1,15 +1,14 @@
 -- What a list that the writer takes holds: numbers that fit their bits, and items without fault where the whole segment is the user's. And such items can be given to it.
 use mathlib.Core.Path.{_≡_, refl, sym, ap, _∙_}
 use mathlib.Core.Bool.{Bool, true, false, cond, _||_, false≢true}
-use mathlib.Core.List.{List, [], _∷_, _++_}
+use mathlib.Core.List.{List, [], _∷_}
 use Prim.Native.Nat.{ℕ, _+_, _*_, _/_, _%_, _≤_, _<_}
 use native.Mathlib.Omega.{arith}
 use borrow.Author.Tests.{ltb-false, le-ltb}
 use lib.Dec.{ltb, eqb}
 use Rattle.rows.specs.Laws.Says.{says-no}
-use Rattle.rows.specs.Laws.Lists.{or-left, or-right}
 use Rattle.modules.specs.Definition.Items.{Fits, AllFit}
-use Rattle.modules.specs.Definition.Counter.{pageSize, sizeOf, after}
+use Rattle.modules.specs.Definition.Counter.{pageSize, after}
 use Rattle.modules.specs.Definition.Judging.{outside}
 use Rattle.modules.specs.Definition.Faults.{Outside, store, Faultless, FaultlessFrom}
 use Rattle.modules.specs.Laws.Tests.{says-fails, outside-says}

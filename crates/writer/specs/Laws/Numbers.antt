@@ -1,13 +1,12 @@
 -- Bits of a number in two parts, and an item's bits as one number.
 use mathlib.Core.Path.{_≡_, refl, sym, ap, ap₂, _∙_}
-use mathlib.Core.Bool.{cond}
-use mathlib.Core.List.{List, [], _∷_, _++_}
+use mathlib.Core.List.{List, _∷_, _++_}
 use Prim.Native.Nat.{ℕ, zero, suc, _+_, _-_, _*_, _/_, _%_, _^_, _≤_, _<_}
 use native.Mathlib.Nat.{mod-lt, zero-div}
 use native.Mathlib.Omega.{arith}
 use lib.ListN.{length, replicate}
 use lib.Pow.{pow-pos, shr-shr, high, low, mod-mod-pow}
-use Rattle.modules.specs.Definition.Bits.{Bit, O, I, bitOf, bitsOf, numberOf, bitsIn}
+use Rattle.modules.specs.Definition.Bits.{Bit, O, bitsOf, numberOf}
 use Rattle.modules.specs.Definition.Items.{itemBits}
 use Rattle.modules.specs.Laws.Numbers.{bits-length, number-bits, bits-back}
 use Rattle.modules.specs.declared.Item.{Item}

@@ -1,14 +1,14 @@
 -- What a pen puts: one piece behind the other, a byte a turn, and a whole module.
-use mathlib.Core.Path.{_≡_, refl, sym, ap, ap₂, _∙_}
+use mathlib.Core.Path.{_≡_, sym, ap, ap₂, _∙_}
 use mathlib.Core.List.{List, [], _∷_, _++_, append-assoc, append-nil}
-use Prim.Native.Nat.{ℕ, zero, suc, _+_, _-_, _*_, _/_, _%_, _^_, _≤_, _<_}
+use Prim.Native.Nat.{ℕ, _+_, _-_, _*_, _/_, _%_, _^_, _≤_, _<_}
 use native.Mathlib.Nat.{mul-le-mul-right}
 use native.Mathlib.Omega.{arith}
-use lib.ListN.{length, take, drop, replicate, length-append, take-append-drop}
+use lib.ListN.{length, drop, length-append, take-append-drop}
 use lib.Pow.{pow-mono, shl-exact}
 use Rattle.text.specs.Definition.Put.{Put}
 use Rattle.text.specs.Laws.Text.{put-none, put-then}
-use Rattle.modules.specs.Definition.Bits.{Bit, O, bitsOf, bitsIn}
+use Rattle.modules.specs.Definition.Bits.{Bit, bitsOf, bitsIn}
 use Rattle.modules.specs.Definition.Items.{endBits, itemBits, allBits}
 use Rattle.modules.specs.Laws.Numbers.{bits-length, bytes-length, bytes-append, bytes-cons, bytes-none}
 use Rattle.modules.specs.declared.Item.{Item}
@@ -16,7 +16,7 @@ use Rattle.writer.specs.Definition.Bytes.{paddingFor, moduleBits, module
 use Rattle.writer.specs.Within.Codes.{widthOf, codeOf}
 use Rattle.writer.specs.Within.Packing.{noPen, heldBits, Adds}
 use Rattle.writer.specs.Laws.Numbers.{item-bits, bits-mod, bits-split, bits-joined, bits-low, bits-zero}
-use Rattle.writer.specs.Laws.Bytes.{module-is, module-size}
+use Rattle.writer.specs.Laws.Bytes.{module-is}
 use Rattle.writer.specs.declared.Pen.{Pen}
 
 small-append : (xs ys : List ℕ) → AllBytes xs → AllBytes ys → AllBytes (xs ++ ys)

@@ -5,7 +5,7 @@ use mathlib.Core.List.{List, [], _∷_}
 use Prim.Native.Nat.{ℕ, _+_, _-_, _≤_}
 use lib.Dec.{ltb}
 use lib.ListN.{length, drop}
-use Rattle.modules.specs.Definition.Counter.{Counts, counter, pageSize, sizeOf, after}
+use Rattle.modules.specs.Definition.Counter.{Counts, pageSize, sizeOf, after}
 use Rattle.modules.specs.Definition.Judging.{leaves, outside}
 use Rattle.modules.specs.Within.Acts.{itemAct, Paged, Counting}
 use Rattle.modules.specs.declared.Item.{Item}

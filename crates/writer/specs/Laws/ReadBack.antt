@@ -2,14 +2,14 @@
 use mathlib.Core.Path.{_≡_, refl, sym, ap, _∙_}
 use mathlib.Core.Bool.{Bool, true, false, cond, _||_}
 use mathlib.Core.List.{List, [], _∷_, _++_, append-nil}
-use Prim.Native.Nat.{ℕ, zero, suc, _+_, _*_, _%_, _≤_, _<_}
+use Prim.Native.Nat.{ℕ, zero, suc, _+_, _≤_, _<_}
 use native.Mathlib.Nat.{le-refl}
 use native.Mathlib.Omega.{arith}
 use borrow.Author.Tests.{ltb-false, le-ltb}
 use lib.Dec.{ltb}
 use lib.ListN.{length, take, drop, replicate, length-append, length-replicate, length-take}
-use lib.Seq.{take-at, take-take, take-append-le, length-take-le}
-use Rattle.modules.specs.Definition.Bits.{Bit, O, bitsIn}
+use lib.Seq.{take-at, take-take, length-take-le}
+use Rattle.modules.specs.Definition.Bits.{O, bitsIn}
 use Rattle.modules.specs.Definition.Items.{endBits, AllFit, allBits, IsModule}
 use Rattle.modules.specs.Definition.Reading.{lookedAt, takenOf}
 use Rattle.modules.specs.Definition.Counter.{Counts, pageSize, counter}
@@ -21,9 +21,8 @@ use Rattle.modules.specs.declared.Item.{Item}
 use Rattle.modules.specs.declared.Target.{Target}
 use Rattle.modules.specs.declared.Judged.the-variants.{Whole}
 use Rattle.rows.specs.Laws.Lists.{or-left, or-right}
-use Rattle.writer.specs.Definition.Entries.{all, listed}
-use Rattle.writer.specs.Definition.Bytes.{paddingFor, moduleBits, moduleOf, AllBytes}
-use Rattle.writer.specs.Definition.Writing.{refusesFrom, refusesPage, answerTo, bufferAfter}
+use Rattle.writer.specs.Definition.Bytes.{paddingFor, moduleOf, AllBytes}
+use Rattle.writer.specs.Definition.Writing.{refusesFrom, refusesPage, answerTo}
 use Rattle.writer.specs.Definition.ReadBack.{ReadAs, ReadsBack, WrittenAs, AcceptedAsWritten, OneToOne}
 use Rattle.writer.specs.Laws.Bytes.{module-bits, module-small, module-is}
 use Rattle.writer.specs.Laws.Fits.{listed-fit, passed-faultless, faultless-passed, list-small, list-listed}

@@ -1,9 +1,9 @@
 -- The writer refuses exactly what the refusals say, in propositions: PAGE, "then RANGE".
-use mathlib.Core.Path.{_≡_, refl, sym, ap, _∙_}
+use mathlib.Core.Path.{_≡_, refl, ap}
 use mathlib.Core.Bool.{Bool, true, false, cond, _||_, false≢true}
 use mathlib.Core.Logic.{_⊎_, inl, inr, _↔_, ⊎-elim}
 use mathlib.Core.List.{List, [], _∷_}
-use Prim.Native.Nat.{ℕ, _≤_, _<_}
+use Prim.Native.Nat.{ℕ, _<_}
 use native.Mathlib.Omega.{arith}
 use borrow.Author.Tests.{ltb-true, lt-ltb}
 use lib.Dec.{ltb}
@@ -11,7 +11,6 @@ use lib.ListN.{length}
 use Rattle.rows.specs.Laws.Says.{Says, says-lt, says-or, says-as, says-no}
 use Rattle.modules.specs.Definition.Counter.{pageSize, counter, after}
 use Rattle.modules.specs.Definition.Judging.{outside}
-use Rattle.modules.specs.Definition.Faults.{Outside}
 use Rattle.modules.specs.Laws.Tests.{says-fails, outside-says}
 use Rattle.modules.specs.declared.Item.{Item}
 use Rattle.modules.specs.declared.Item.the-variants.{Byte, Word, SetPage, Restore, Move}

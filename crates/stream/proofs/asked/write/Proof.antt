@@ -1,7 +1,5 @@
 -- `asked::write` meets its contract, reply by reply.
 use denote.Ref.{now}
-use mathlib.Core.Path.{sym, ap, _∙_}
-use native.Mathlib.Omega.{arith}
 use Rattle.stream.proofs.Asking.{small-written, write-none, write-no-list, write-answered}
 use borrow.Author.Needs.{needs}
 use Rattle.stream.proofs.asked.write.Statement.{statement}

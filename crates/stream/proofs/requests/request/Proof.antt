@@ -1,6 +1,6 @@
 -- `requests::request` meets its definition, a branch a law.
 use denote.Ref.{now}
-use mathlib.Core.Path.{_∙_, sym}
+use mathlib.Core.Path.{_∙_}
 use native.Mathlib.Omega.{arith}
 use Rattle.stream.proofs.Branches.{none, goes-on, writes, unknown, image-cut, too-large, brings, call-lies-in, brings-none}
 use borrow.Author.Needs.{needs}

@@ -1,5 +1,5 @@
 -- `entries::entry_at` meets its contract.
-use mathlib.Core.Path.{_∙_, ap}
+use mathlib.Core.Path.{_∙_}
 use borrow.Author.Needs.{needs}
 use Rattle.writer.proofs.entries.entry_at.Statement.{statement}
 use Rattle.writer.proofs.entries.entry_at.Tie as tie

@@ -1,7 +1,6 @@
 -- `packing::put_bits` meets its contract. The invariant: the bytes put and the bits left are all bits.
-use denote.Ref.{now}
-use mathlib.Core.Path.{_≡_, refl, sym, ap, _∙_}
-use Prim.Native.Nat.{_+_, _*_, _-_, _<_}
+use mathlib.Core.Path.{_≡_, refl, _∙_}
+use Prim.Native.Nat.{_+_, _*_, _-_}
 use native.Mathlib.Omega.{arith}
 use lib.ListN.{length}
 use Rattle.writer.specs.Laws.Packing.{Turns, turns-none, turns-more, turns-add, shifted, shifted-few}

@@ -1,5 +1,4 @@
 -- `packing::put_item` meets its contract.
-use mathlib.Core.Path.{_≡_, sym, ap, _∙_}
 use native.Mathlib.Omega.{arith}
 use Rattle.writer.specs.Laws.Numbers.{item-width, code-fits}
 use Rattle.writer.specs.Laws.Packing.{adds-item}

@@ -1,6 +1,6 @@
 -- `sizes::size_of` meets its contract. The invariant: the bits counted and those of the rest are all; an item has at most 7 for each of its three bytes.
 use denote.Ref.{now}
-use mathlib.Core.Path.{_≡_, refl, sym, ap, _∙_}
+use mathlib.Core.Path.{_≡_, ap}
 use Prim.Native.Nat.{_+_, _*_, _-_, _≤_, _<_}
 use native.Mathlib.Omega.{arith}
 use lib.ListN.{length, drop}
