@@ -7,7 +7,8 @@
  *
  * Every buffer belongs to the caller, before, in and after a call. The library keeps no pointer and no state of its own,
  * and takes no memory but stack: of this a call took at most 12,856 bytes and a replay 11,752, found by paint below the
- * caller's frame over the logs of logs/ and 18,000 records drawn at random. No theorem bounds it: leave it 16 KB.
+ * caller's frame over the logs of logs/ and 18,000 records drawn at random, and the writer of modules 160, over 20,000
+ * lists. No theorem bounds it: leave it 16 KB.
  * A pointer is never null, even where its length is 0, and no two buffers of a call overlap. Nothing is asked of the bytes
  * in them: any image, any RAM, any record. Numbers of two and of eight bytes are little-endian.
  */
