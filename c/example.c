@@ -85,8 +85,8 @@ int main(void) {
 
   /* The same module out of its items, at the front of a buffer whose last byte stays. */
   static const uint8_t items[] = {0, 0xAA, 0, 1, 0x34, 0x12};
-  static uint8_t buffer[5], before[5], written[EXOS_WRITTEN_BYTES];
-  static const uint8_t done[EXOS_WRITTEN_BYTES] = {EXOS_DONE, 0, 4};
+  static uint8_t buffer[5], before[5], written[EXOS_WRITE_REPLY_BYTES];
+  static const uint8_t done[EXOS_WRITE_REPLY_BYTES] = {EXOS_DONE, 0, 4};
   memset(buffer, 7, sizeof buffer);
   if (!exos_write_module(1, 0x200, items, sizeof items, buffer, sizeof buffer, written, sizeof written)) return 15;
   if (memcmp(written, done, sizeof done) != 0) return 16;

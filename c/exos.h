@@ -10,7 +10,7 @@
  * caller's frame over the logs of logs/ and 18,000 records drawn at random, and the writer of modules 160, over 20,000
  * lists. No theorem bounds it: leave it 16 KB.
  * A pointer is never null, even where its length is 0, and no two buffers of a call overlap. Nothing is asked of the bytes
- * in them: any image, any RAM, any record. Numbers of two and of eight bytes are little-endian.
+ * in them: any image, any RAM, any record, any items. Numbers of two and of eight bytes are little-endian.
  */
 #ifndef EXOS_H
 #define EXOS_H
@@ -50,7 +50,7 @@ extern "C" {
 #define EXOS_REPLY_BYTES 6
 
 /* A reply of the writer of modules: the answer's number, two bytes, and the bytes written, eight. */
-#define EXOS_WRITTEN_BYTES 10
+#define EXOS_WRITE_REPLY_BYTES 10
 
 /* An item of a list for the writer of modules. */
 #define EXOS_ITEM_BYTES 3
@@ -116,13 +116,14 @@ enum exos_answer {
   EXOS_OWNER = 11,    /* segment not the caller's to free, store, load or put a module in */
   EXOS_BOUNDARY = 12, /* nothing shared, or value above the EXOS boundary */
   EXOS_RANGE = 13,    /* offset + length past the end, lent output too short, or a module's store above the user boundary;
-                       write module: buffer too short */
+                         write module: buffer too short */
   EXOS_GUARD = 14,    /* store touches page zero 30h to 5Bh, save 3Dh and 3Eh */
   EXOS_FLAGS = 15,    /* a bit other than 4, 5, 6 */
   EXOS_START = 16,    /* list, R or RAM length wrong */
   EXOS_SHARED = 17,   /* allocate gave a shared segment, b is the user boundary */
   EXOS_MODULE = 19,   /* load module: an illegal item, a stream that runs out, or padding not zero */
-  EXOS_PAGE = 20      /* load module: a move or store outside the page; write module: also a page above 3, or the start */
+  EXOS_PAGE = 20      /* load module: a move or store outside the page; write module: also a page above 3 or a start
+                         past its range */
 };
 
 /* One call, on the image of the tables.
@@ -144,17 +145,18 @@ bool exos_call(uint8_t *image, size_t image_len, uint8_t *ram, size_t ram_len, c
 
 /* The module of a list of items, written into a buffer: a relocatable module as EXOS_KIND_LOAD_MODULE reads it.
  *
- *   page, offset   where the counter starts
- *   items    three bytes an item, any number of them: a tag, then a value of two bytes, read
- *              0 byte, 1 word, 2 set page, 3 restore, 4 move
- *            A byte's value is at most 255, a restore's 0.
+ *   page     the page where the counter starts, 0 to 3
+ *   offset   the offset where it starts, 0 to 16,384
+ *   items    any number of items, read: three bytes each, a tag and a value of two bytes. Tags are 0 byte, 1 word, 2 set
+ *            page, 3 restore and 4 move; a byte's value is at most 255, a restore's 0
  *   buffer   any length; the module is written to its front, and what is behind it stays
- *   reply    EXOS_WRITTEN_BYTES: the answer's number, two bytes, and the bytes written, eight; written
+ *   reply    EXOS_WRITE_REPLY_BYTES, written: the answer's number, two bytes, and the bytes written, eight
  *
  * True where the items are a list. The answer is EXOS_DONE; EXOS_PAGE for a page above 3, a start that load module would
  * answer with EXOS_CALL, or an item that it would answer with EXOS_PAGE; or else EXOS_RANGE for a buffer that is too
  * short. A refusal leaves every byte of the buffer, and has 0 bytes written. False, and nothing changed, where the items
- * are no such list, or the length of the reply is another. A module above 65,535 bytes is written, and no load takes it.
+ * are no such list, or the length of the reply is another. A record has room for 4,090 bytes of module, and load module
+ * looks at no more than 65,535; longer ones are written all the same.
  *
  * The promise that is proved: WritesModule, in crates/exos/specs/Definition/Modules.antt.
  */

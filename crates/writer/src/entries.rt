@@ -4,9 +4,9 @@ ghost use Prim.Native.Nat.{_+_, _≤_};
 ghost use lib.ListN.{length};
 ghost use Rattle.writer.specs.Definition.Entries.{entryOf, listed};
 ghost use Rattle.writer.specs.Within.Entries.{entryAt, itemAt, valueAt, foundIn};
+use super::Checked;
 use super::Entry;
 use super::Flaw;
-use super::Listing;
 use super::Why;
 use modules::Item;
 use rows::numbers::wide;
@@ -66,7 +66,7 @@ pub fn item_at(bytes: &[u8], at: usize) -> Item
 }
 
 // Whether all bytes are items, or which is the first that is none.
-pub fn list_in(bytes: &[u8]) -> Listing
+pub fn list_in(bytes: &[u8]) -> Checked
     ensures { λ r. ⌜ r ≡ foundIn (listed (now (bytes .entry))) ⌝ }
 {
     let mut at: usize = 0;
@@ -76,7 +76,7 @@ pub fn list_in(bytes: &[u8]) -> Listing
         match entry {
             Entry::Is(_) => {}
             Entry::No(why) => {
-                return Listing::Flawed(Flaw {
+                return Checked::Flawed(Flaw {
                     number: passed + 1,
                     why,
                 });
@@ -86,10 +86,10 @@ pub fn list_in(bytes: &[u8]) -> Listing
         passed += 1;
     }
     if at < bytes.len() {
-        return Listing::Flawed(Flaw {
+        return Checked::Flawed(Flaw {
             number: passed + 1,
             why: Why::Cut,
         });
     }
-    Listing::Items
+    Checked::Items
 }

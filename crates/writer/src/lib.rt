@@ -42,7 +42,7 @@ pub enum Reply {
 }
 
 // Whether bytes are a list of items.
-pub enum Listing {
+pub enum Checked {
     Items,
     Flawed(Flaw),
 }

@@ -34,7 +34,7 @@ pub fn put_bits(pen: Pen, code: usize, width: usize, buffer: &mut [u8]) -> Pen
     }
 }
 
-// An item's bits as a number.
+// An item's bits as a number: `100`, `10100`, `10101` and `1011` stand before what they are of.
 fn code_of(item: Item) -> usize
     ensures { λ r. ⌜ r ≡ codeOf item ⌝ }
 {

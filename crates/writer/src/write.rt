@@ -1,4 +1,4 @@
-// The writer.
+// The writer: it judges a list, then puts its module, or leaves the buffer as it is.
 ghost use mathlib.Core.Path.{_≡_};
 ghost use mathlib.Core.List.{_++_};
 ghost use Prim.Native.Nat.{_≤_};
@@ -6,7 +6,7 @@ ghost use lib.ListN.{length, drop};
 ghost use Rattle.writer.specs.Definition.Bytes.{moduleOf};
 ghost use Rattle.writer.specs.Definition.Writing as writing;
 ghost use Rattle.writer.specs.Within.Entries.{itemsOf};
-use super::Listing;
+use super::Checked;
 use super::Reply;
 use super::Written;
 use super::entries::list_in;
@@ -45,10 +45,10 @@ fn answer(page: u8, offset: u16, items: &[u8], buffer: &mut [u8]) -> Written
 pub fn write_module(page: u8, offset: u16, items: &[u8], buffer: &mut [u8]) -> Reply
     ensures { λ r. ⌜ writing.Writes page offset (now (items .entry)) (now (buffer .entry)) r (now (buffer .exit)) ⌝ }
 {
-    let listing = list_in(items);
-    match listing {
-        Listing::Flawed(flaw) => Reply::NoList(flaw),
-        Listing::Items => Reply::Answered(answer(page, offset, items, buffer)),
+    let checked = list_in(items);
+    match checked {
+        Checked::Flawed(flaw) => Reply::NoList(flaw),
+        Checked::Items => Reply::Answered(answer(page, offset, items, buffer)),
     }
 }
 

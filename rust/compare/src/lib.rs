@@ -2,7 +2,8 @@
 //! the same requests to both, and after every call the answer, both values,
 //! the tables, every byte of the RAM, the output and what is lent of a buffer
 //! compared. The writer of modules is asked likewise. A difference is shrunk and
-//! told as a log in words, which `exoslog encode` reads back.
+//! told as a log in words, which `exoslog encode` reads back; what the writer is
+//! asked stands there in comments.
 
 pub mod cases;
 mod counter;

@@ -16,7 +16,7 @@ const PAGE_ZERO: u8 = 252;
 /// Past the page's end.
 const PAST: u16 = SEGMENT as u16;
 /// As many items as a record can have.
-const MOST_ITEMS: usize = 21_844;
+const MOST_IN_A_RECORD: usize = 21_844;
 
 /// Lists and nothing else, with no RAM to digest.
 pub fn lists(random: &mut Random) -> Played {
@@ -207,7 +207,7 @@ fn ends() -> impl Iterator<Item = Request> {
         })
     });
     let long = write(4_000, 0, 0, &[byte(9), word(9)].repeat(1_150));
-    let longest = write(65_535, 0, 0, &[move_by(0)].repeat(MOST_ITEMS));
+    let longest = write(65_535, 0, 0, &[move_by(0)].repeat(MOST_IN_A_RECORD));
     padded.chain([long, longest])
 }
 

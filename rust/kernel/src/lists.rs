@@ -1,4 +1,5 @@
-//! Lists of items as bytes, and the items of a module as a list.
+//! Lists of items as bytes, in the form of docs/STREAM.md, and the items of a
+//! module as a list.
 
 use crate::items::{Item, Items, Next};
 

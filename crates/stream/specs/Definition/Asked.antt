@@ -28,8 +28,8 @@ replyAnswer (NoList f) = BadCall
 replyAnswer (Answered w) = writtenAnswer w
 
 -- a first byte 2 asks the writer, whose buffer is the output, and leaves tables and RAM; else the record is an event's (0 and 1: Requests.antt knows no other)
-unfoldable pub askedOf : (first : ℕ) → Tables → (ram event output : List ℕ) → Result
-askedOf first t ram event output =
+unfoldable pub askedOf : (first : ℕ) → Tables → (ram bytes output : List ℕ) → Result
+askedOf first t ram bytes output =
     cond (eqb first 2)
-    (record { answer = replyAnswer (replyFrom event (length output)); tables = t; ram = ram; output = bufferFrom event output })
-    (stepOf t ram (u16At event 0) (drop 2 event) output)
+    (record { answer = replyAnswer (replyFrom bytes (length output)); tables = t; ram = ram; output = bufferFrom bytes output })
+    (stepOf t ram (u16At bytes 0) (drop 2 bytes) output)

@@ -15,8 +15,8 @@ use Rattle.writer.specs.declared.Why.the-variants.{Cut, Tag}
 use Rattle.writer.specs.declared.Entry.{Entry}
 use Rattle.writer.specs.declared.Entry.the-variants.{Is, No}
 use Rattle.writer.specs.declared.Flaw.{Flaw}
-use Rattle.writer.specs.declared.Listing.{Listing}
-use Rattle.writer.specs.declared.Listing.the-variants.{Items, Flawed}
+use Rattle.writer.specs.declared.Checked.{Checked}
+use Rattle.writer.specs.declared.Checked.the-variants.{Items, Flawed}
 
 -- ---- an entry, tag by tag
 
@@ -94,15 +94,15 @@ found-flaw bytes f e = go (listed bytes) refl e
 -- ---- the first that is none
 
 -- so many items stand before
-abbrev pub behind : (k : ℕ) → Listing → Listing
+abbrev pub behind : (k : ℕ) → Checked → Checked
 behind k Items = Items
 behind k (Flawed f) = Flawed (flawAt (f .number + k) (f .why))
 
-behind-more : (k : ℕ) (l : Listing) → behind k (behind 1 l) ≡ behind (k + 1) l
+behind-more : (k : ℕ) (l : Checked) → behind k (behind 1 l) ≡ behind (k + 1) l
 behind-more k Items = refl
 behind-more k (Flawed f) = let e : f .number + 1 + k ≡ f .number + (k + 1) = omega arith in rw e
 
-behind-none : (l : Listing) → l ≡ behind 0 l
+behind-none : (l : Checked) → l ≡ behind 0 l
 behind-none Items = refl
 behind-none (Flawed f) = let e : f .number + 0 ≡ f .number = omega arith in rw e
 
@@ -113,7 +113,7 @@ found-is : (i : Item) (more : Listed) → foundIn (before (Is i) more) ≡ behin
 found-is i (all items) = refl
 found-is i (flawed f) = refl
 
-module _ (bytes : List ℕ) (at k : ℕ) (found : Listing) (e : found ≡ behind k (foundIn (listed (drop at bytes)))) where
+module _ (bytes : List ℕ) (at k : ℕ) (found : Checked) (e : found ≡ behind k (foundIn (listed (drop at bytes)))) where
   module _ (h : 3 ≤ length bytes - at) where
     here : foundIn (listed (drop at bytes)) ≡ foundIn (before (entryAt bytes at) (listed (drop (at + 3) bytes)))
     unfolding listed

@@ -7,8 +7,8 @@ use Rattle.modules.specs.declared.Item.the-variants.{Restore}
 use Rattle.writer.specs.Definition.Entries.{entryOf, Listed, all, flawed}
 use Rattle.writer.specs.declared.Entry.{Entry}
 use Rattle.writer.specs.declared.Entry.the-variants.{Is, No}
-use Rattle.writer.specs.declared.Listing.{Listing}
-use Rattle.writer.specs.declared.Listing.the-variants.{Items, Flawed}
+use Rattle.writer.specs.declared.Checked.{Checked}
+use Rattle.writer.specs.declared.Checked.the-variants.{Items, Flawed}
 
 -- two bytes, the low one first
 abbrev pub valueAt : (bytes : List ℕ) (at : ℕ) → ℕ
@@ -34,6 +34,6 @@ itemsOf (tag ∷ []) = []
 itemsOf (tag ∷ low ∷ []) = []
 
 -- what is found of a list
-abbrev pub foundIn : Listed → Listing
+abbrev pub foundIn : Listed → Checked
 foundIn (all items) = Items
 foundIn (flawed f) = Flawed f

@@ -2,6 +2,7 @@
 
 use super::args::Arguments;
 use super::trouble::Trouble;
+use exos_modules::of_list;
 use exoslog::{begins_with_items, encode, form_of, is_in_words, item_list, module_words, records};
 use exoslog::{ItemList, Listing, Mistake, Record};
 use std::ffi::{OsStr, OsString};
@@ -73,11 +74,20 @@ impl Input {
     /// The list of items that the words are.
     pub(super) fn item_list(&self) -> Result<ItemList, Trouble> {
         item_list(&self.bytes).map_err(|mistakes| {
+            if self.is_a_list() {
+                return self.looks_like("a start and a list of items; exos-module");
+            }
             if !begins_with_items(&self.bytes) && module_words(&self.bytes).is_ok() {
                 return self.looks_like("a module; exoslog module --decode");
             }
             self.mistakes(&mistakes)
         })
+    }
+
+    /// Whether the bytes are a start and items, as the program takes them.
+    fn is_a_list(&self) -> bool {
+        let list = self.bytes.get(3..).filter(|list| !list.is_empty());
+        !is_in_words(&self.bytes) && list.is_some_and(|list| of_list(list).is_some())
     }
 
     /// The input is in another form, which another command reads.

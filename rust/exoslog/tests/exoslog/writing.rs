@@ -138,6 +138,12 @@ fn the_other_form_is_named() {
         "exoslog: <stdin> looks like a module; exoslog module --decode reads those\n",
     );
     holds(
+        run(&["module"], &[1, 0, 2, 1, 0x34, 0x12]),
+        1,
+        b"",
+        "exoslog: <stdin> looks like a start and a list of items; exos-module reads those\n",
+    );
+    holds(
         run(&["module"], &[2, 0, 20, 0]),
         1,
         b"",

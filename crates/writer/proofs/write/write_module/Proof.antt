@@ -10,8 +10,8 @@ use Rattle.writer.proofs.write.write_module.Tie as tie
 list-in-requires : tie.Need-list-in-requires
 list-in-requires c κs = search needs
 
-enum-known-listing : tie.Need-enum-known-listing
-enum-known-listing c = search needs
+enum-known-checked : tie.Need-enum-known-checked
+enum-known-checked c = search needs
 
 enum-told : tie.Need-enum-told
 enum-told c = search needs
@@ -24,7 +24,7 @@ returns c =
     let list = c .before .before .before in
     let s = list .before .before .before in
     let items = now (s .args .items) in
-    writes-flaw (s .args .page) (s .args .offset) items (now (s .args .buffer)) _ (found-flaw items _ (sym (c .before .listing .given .1) ∙ list .list-in .ensures))
+    writes-flaw (s .args .page) (s .args .offset) items (now (s .args .buffer)) _ (found-flaw items _ (sym (c .before .checked .given .1) ∙ list .list-in .ensures))
 
 same-length : tie.Need-same-length
 same-length c = search needs
@@ -43,7 +43,7 @@ write-module-spec =
     tie.close
     (tie.spec
     list-in-requires
-    enum-known-listing
+    enum-known-checked
     enum-told
     answer-requires
     returns
