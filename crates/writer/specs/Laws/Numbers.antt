@@ -63,13 +63,6 @@ item-bits (Move x) = sym (headed 4 16 11 x)
 pub item-width : (i : Item) → length (itemBits i) ≡ widthOf i
 item-width i = ap length (item-bits i) ∙ bits-length (widthOf i) (codeOf i)
 
-pub width-few : (i : Item) → widthOf i ≤ 20
-width-few (Byte x) = omega arith
-width-few (Word x) = omega arith
-width-few (SetPage page) = omega arith
-width-few Restore = omega arith
-width-few (Move x) = omega arith
-
 pub code-fits : (i : Item) → codeOf i < 2 ^ widthOf i
 code-fits (Byte x) = omega arith
 code-fits (Word x) = omega arith
