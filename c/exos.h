@@ -65,6 +65,9 @@ extern "C" {
  * A list, a name, data or a stream is the rest of the body: its bytes alone. n is the length of a channel's buffer, m of
  * a device's RAM; flags are bit 4 for channels, 5 for devices too, 6 for user segments.
  *
+ * Read gives the bytes that remain from the offset on, up to the length: b says how many, 0 at or past the end. Write,
+ * user store and user load do not stop short.
+ *
  * Load module stores the items of a stream at a location counter. page (0 to 3) and offset (0 to 16,384, past the end) are
  * where the counter starts; its value is page * 16,384 + offset. Bytes go to the segment at the offset: the page enters
  * words' values alone. The stream, at most 4,090 bytes in a record, is read from bit 7 of its first byte on, each field's
@@ -85,7 +88,7 @@ enum exos_kind {
   EXOS_KIND_RESET = 0,              /* flags u8                                   0, 0 */
   EXOS_KIND_OPEN = 1,               /* channel u8, driver status u8, n u16, name  device, unit */
   EXOS_KIND_CLOSE = 3,              /* channel u8                                 0, 0 */
-  EXOS_KIND_READ = 6,               /* channel u8, offset u16, length u16         0, length */
+  EXOS_KIND_READ = 6,               /* channel u8, offset u16, length u16         0, bytes given */
   EXOS_KIND_WRITE = 8,              /* channel u8, offset u16, data               0, length */
   EXOS_KIND_DEFAULT = 19,           /* unit u8, name                              0, 0 */
   EXOS_KIND_STATUS = 20,            /* none                                       0, 5 */
@@ -115,8 +118,9 @@ enum exos_answer {
   EXOS_SEGMENT = 10,  /* nothing to allocate */
   EXOS_OWNER = 11,    /* segment not the caller's to free, store, load or put a module in */
   EXOS_BOUNDARY = 12, /* nothing shared, or value above the EXOS boundary */
-  EXOS_RANGE = 13,    /* offset + length past the end, lent output too short, or a module's store above the user boundary;
-                         write module: buffer too short */
+  EXOS_RANGE = 13,    /* write, user store, user load: offset + length past the end; read, status, user load: lent output
+                         too short for what would be given; load module: a store above the user boundary; write module:
+                         buffer too short */
   EXOS_GUARD = 14,    /* store touches page zero 30h to 5Bh, save 3Dh and 3Eh */
   EXOS_FLAGS = 15,    /* a bit other than 4, 5, 6 */
   EXOS_START = 16,    /* list, R or RAM length wrong */

@@ -4,6 +4,7 @@ pub mod Patched
 pub mod Each
 pub mod Words
 pub mod Buffers
+pub mod Sized
 pub mod Steps
 pub mod BytesRead
 pub mod LentOn

@@ -10,6 +10,7 @@ use lib.Dec.{ltb, eqb}
 use lib.ListN.{length, getD}
 use Rattle.names.specs.Definition.Tests.{lettersTest}
 use Rattle.line.specs.Definition.Line.{chainIndexOf, offsetOf, placeOf}
+use Rattle.line.specs.Definition.Given.{givenOf}
 use Rattle.line.specs.Definition.Lent.{lentAt}
 use Rattle.line.specs.declared.Lent.the-variants.{Part}
 use Rattle.modules.specs.Definition.Bits.{bitsIn}
@@ -22,16 +23,16 @@ use Rattle.kernel.specs.Cases.{opens}
 use Rattle.kernel.specs.Definition.Tables.{ramSize, classAt, rowOf}
 use Rattle.kernel.specs.Definition.Line.{grown, shrunk}
 use Rattle.kernel.specs.Definition.Start.{noTables}
-use Rattle.kernel.specs.Definition.Answers.{numberOf, granted, Decision}
+use Rattle.kernel.specs.Definition.Answers.{numberOf, bOf, granted, Decision}
 use Rattle.kernel.specs.Definition.Calls.{Call, start, close, read, write, link, set-user-boundary, allocate, store, load-module, isStart}
 use Rattle.kernel.specs.Definition.Step.{decided, completed, step}
 use Rattle.kernel.specs.Definition.Lend.{lentOnGood, lentOn, partOn}
 use Rattle.kernel.specs.Laws.Ready.{Ready, decided-ready, start-ready}
 use Rattle.kernel.specs.declared.Tables.{Tables}
 use Rattle.kernel.specs.declared.Answer.the-variants.{NoRoom}
-use Rattle.history.specs.Definition.Runs.{State, Event, History, after, event, Started, Runs, stay, then, Any, Run}
+use Rattle.history.specs.Definition.Runs.{State, Event, History, after, event, Started, Runs, stay, then, Any, Run, ReadRight}
 use Rattle.history.specs.Bytes.Patched.{patched}
-use Rattle.history.specs.Bytes.Words.{written, lastWritten, last-written, written-one, stored, lastStored, last-stored, stored-one}
+use Rattle.history.specs.Bytes.Words.{written, lastWritten, last-written, written-one, stored, lastStored, last-stored, stored-one, resized, lastSize, last-size, size-one}
 use Rattle.history.specs.Definition.Users.{shared, UsersIn, userByte}
 use Rattle.history.specs.Definition.Lent.{sizeOf}
 use Rattle.history.specs.Bytes.Steps.{step-sound, start-sound}
@@ -137,6 +138,11 @@ unfolding lastStored
 alike-stored none segment offset first = refl
 alike-stored (both p q a) segment offset first = rw (p, q, alike-stored a segment offset first)
 
+alike-size : {g h : History} → Alike g h → (channel : ℕ) → lastSize g channel ≡ lastSize h channel
+unfolding lastSize
+alike-size none channel = refl
+alike-size (both p q a) channel = rw (p, q, alike-size a channel)
+
 -- a place of a shared segment is the user's all the way, as a test
 abbrev sharedTest : (segment offset : ℕ) → Tables → Bool
 sharedTest segment offset t = ltb (rowOf t segment) (t .segments) && (eqb (classAt t (rowOf t segment)) SHARED && ltb offset (t .user))
@@ -235,21 +241,32 @@ module _ (ram : List ℕ) (four : length ram ≡ 65536) where
   sequence : Run (tells [] s₀ calls) s₁
   sequence = record { first = s₀; started = starts; runs = runs [] s₀ calls fit (anything s₀ calls) (stay tt) }
 
-  -- 1: channel 2's bytes, read after its buffer moved twice, are 0 and the 7 that was written
-  gave : granted (event s₁ (read 2 0 3) lent .answer) ≡ true
+  -- 1: of nine bytes asked from byte 1 of channel 2 on, whose buffer moved twice, three remain: the 7 that was written, and zeros
+  gave : granted (event s₁ (read 2 1 9) lent .answer) ≡ true
   unfolding decided noTables lettersTest upTo chainLength boundaryAt grown shrunk
-  gave = ap granted (known-answer k₁ (read 2 0 3))
+  gave = ap granted (known-answer k₁ (read 2 1 9))
+
+  gives : ReadRight 2 1 9 (tells [] s₀ calls) (event s₁ (read 2 1 9) lent)
+  gives = bytes-read sequence 2 1 9 lent gave
+
+  four-opened : gives .n ≡ 4
+  unfolding lastSize resized decided noTables lettersTest upTo chainLength boundaryAt grown shrunk
+  four-opened = size-one 2 (gives .opened) (last-size 2 _) ∙ alike-size (alike none k₀ calls fit) 2
+
+  pub three-given : bOf (event s₁ (read 2 1 9) lent .answer) ≡ 3
+  unfolding givenOf
+  three-given = gives .number ∙ ap (λ (n : ℕ). givenOf n 1 9) four-opened
 
   last : (k : ℕ) → lastWritten (tells [] s₀ calls) 2 k ≡ lastWritten (plain [] t₀ calls) 2 k
   last k = alike-written (alike none k₀ calls fit) 2 k
 
-  pub byte-zero : getD (event s₁ (read 2 0 3) lent .output) 0 0 ≡ 0
+  pub byte-written : getD (event s₁ (read 2 1 9) lent .output) 0 0 ≡ 7
   unfolding lastWritten written patched decided noTables lettersTest upTo chainLength boundaryAt grown shrunk
-  byte-zero = written-one 2 0 (bytes-read sequence 2 0 3 lent gave 0 (omega arith)) (last-written 2 0 _) ∙ last 0
+  byte-written = written-one 2 1 (gives .bytes 0 (rw three-given (omega arith))) (last-written 2 1 _) ∙ last 1
 
-  pub byte-one : getD (event s₁ (read 2 0 3) lent .output) 1 0 ≡ 7
+  pub byte-zero : getD (event s₁ (read 2 1 9) lent .output) 2 0 ≡ 0
   unfolding lastWritten written patched decided noTables lettersTest upTo chainLength boundaryAt grown shrunk
-  byte-one = written-one 2 1 (bytes-read sequence 2 0 3 lent gave 1 (omega arith)) (last-written 2 1 _) ∙ last 1
+  byte-zero = written-one 2 3 (gives .bytes 2 (rw three-given (omega arith))) (last-written 2 3 _) ∙ last 3
 
   -- 2: byte 5 of the shared segment is the 9 that was stored, and byte 7 the high byte of 1234h + 4006h, which was loaded
   byte-last : (k : ℕ) → sharedTest 255 k t₁ ≡ true → sharedAll 255 k t₁ more ≡ true

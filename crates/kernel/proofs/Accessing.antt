@@ -2,11 +2,12 @@
 use mathlib.Core.Path.{_≡_, refl, sym, _∙_}
 use mathlib.Core.Bool.{Bool, true, false, _||_, not}
 use mathlib.Core.List.{List, []}
-use Prim.Native.Nat.{ℕ, _+_, _*_, _≤_}
+use Prim.Native.Nat.{ℕ, _+_, _*_, _≤_, _<_}
 use borrow.Author.Tests.{lt-ltb, le-ltb, le-leb, not-true}
 use lib.Dec.{ltb}
 use lib.ListN.{length, take, drop}
 use Rattle.line.specs.Definition.Line.{lineFrom, putLine}
+use Rattle.line.specs.Definition.Given.{givenOf}
 use Rattle.line.specs.Definition.Ram.{putAt, filled}
 use Rattle.line.specs.Definition.Lent.{lentAt, partOf}
 use Rattle.line.specs.declared.Lent.{Lent}
@@ -32,21 +33,21 @@ module _ (t : Tables) (ram out : List ℕ) (channel offset size : ℕ) where
   unfolding completed onRead
   read-closed h = rw (le-leb (t .opened) (channelAt t channel) h)
 
-  module _ (i : ℕ) (o : Open t channel i) (n from count : ℕ) (far : Bool) (is : n ≡ sizeAt t i) (e : from ≡ offset) (f : count ≡ size)
-      (b : far ≡ ltb n (from + count)) where
-    read-test : far || ltb (length out) count ≡ ltb (sizeAt t i) (offset + size) || ltb (length out) size
-    read-test = rw (b, is, e, f)
+  module _ (i : ℕ) (o : Open t channel i) (n from asked count : ℕ) (is : n ≡ sizeAt t i) (e : from ≡ offset) (f : asked ≡ size)
+      (b : count ≡ givenOf n from asked) where
+    read-count : givenOf (sizeAt t i) offset size ≡ count
+    read-count = rw (b, is, e, f)
 
-    pub read-beyond : far || ltb (length out) count ≡ true
+    pub read-short : length out < count
         → result (gives BadRange t) ram out ≡ completed t (onRead t (length out) channel offset size) ram out
     unfolding completed onRead
-    read-beyond h = rw (o .found, o .here, sym read-test ∙ h)
+    read-short h = rw (o .found, o .here, read-count, lt-ltb (length out) count h)
 
-    pub read-done : far || ltb (length out) count ≡ false → (room start : ℕ) (after : List ℕ) → room ≡ t .room → start ≡ bufferAt t i
+    pub read-done : count ≤ length out → (room start : ℕ) (after : List ℕ) → room ≡ t .room → start ≡ bufferAt t i
         → after ≡ filled count (lineFrom (t .chain) room ram (start + from) count) out
-        → result (gives (Done 0 size) t) ram after ≡ completed t (onRead t (length out) channel offset size) ram out
+        → result (gives (Done 0 count) t) ram after ≡ completed t (onRead t (length out) channel offset size) ram out
     unfolding completed onRead
-    read-done h room start after r s a = rw (o .found, o .here, sym read-test ∙ h, a, e, f, r, s)
+    read-done h room start after r s a = rw (o .found, o .here, read-count, le-ltb (length out) count h, a, e, r, s)
 
 -- write
 

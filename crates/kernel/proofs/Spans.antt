@@ -8,7 +8,9 @@ use borrow.Author.Tests.{lt-ltb, le-ltb, lt-leb, ne-eqb, ltb-true, ltb-false, no
 use lib.Dec.{eqb, ltb, leb}
 use lib.ListN.{take}
 use Rattle.line.specs.Within.Chains.{Chain}
+use Rattle.line.specs.Definition.Given.{givenOf}
 use Rattle.line.specs.Laws.Places.{chain-less}
+use Rattle.line.specs.Laws.Given.{given-inside}
 use Rattle.rows.specs.Definition.Lists.{firstOf}
 use Rattle.rows.specs.Laws.Lists.{and-left}
 use Rattle.rows.specs.Definition.Classes.{USER, SHARED}
@@ -72,6 +74,11 @@ module _ (t : Tables) (i room start n : ℕ) (g : Good t) (h : i < t .opened) (r
 
   pub bytes-chain : (from count size : ℕ) (far : Bool) → size ≡ ramSize t → far ≡ ltb n (from + count) → far ≡ false → Chain (t .chain) room (start + from + count) size
   bytes-chain from count size far e b f = part-chain (start + from + count) size e (omega (arith, within n from count far b f))
+
+  -- a read that gives a byte ends within the buffer
+  pub given-chain : (from asked count size : ℕ) → size ≡ ramSize t → count ≡ givenOf n from asked → 0 < count → Chain (t .chain) room (start + from + count) size
+  given-chain from asked count size e b h =
+      part-chain (start + from + count) size e (omega (arith, given-inside n from asked (count - 1) (rw (← b) (omega arith))))
 
   pub buffer-chain : (size : ℕ) → size ≡ ramSize t → Chain (t .chain) room (start + n) size
   buffer-chain size e = part-chain (start + n) size e (omega arith)

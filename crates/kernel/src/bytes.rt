@@ -17,6 +17,7 @@ use super::Outcome;
 use super::Tables;
 use line::Lent;
 use line::get;
+use line::given;
 use line::guard::guards;
 use line::lend;
 use line::lent_at;
@@ -78,8 +79,9 @@ impl Tables {
             return self.refuse(Answer::NoChannel);
         };
         let from = wide16(offset);
-        let count = wide16(size);
-        if beyond(self.size_at(i), from, count) | (out.len() < count) {
+        let asked = wide16(size);
+        let count = given(self.size_at(i), from, asked);
+        if out.len() < count {
             return self.refuse(Answer::BadRange);
         }
         let chain = self.chain;
@@ -87,7 +89,7 @@ impl Tables {
         let start = self.buffer_at(i) + from;
         get(ram, &chain, room, start, out, count);
         Outcome {
-            answer: Answer::Done(0, size),
+            answer: Answer::Done(0, count as u16),
             tables: self,
         }
     }

@@ -1,5 +1,6 @@
--- The line of channel RAM, and what an open, a close and a link make of it.
+-- The line of channel RAM, what an open, a close and a link make of it, and what a read gives of a buffer.
 pub mod Ram
 pub mod Line
+pub mod Given
 pub mod Lent
 pub mod Guard

@@ -3,6 +3,7 @@ pub mod Points
 pub mod Walks
 pub mod Places
 pub mod Held
+pub mod Given
 pub mod Makes
 pub mod OneRam
 pub mod PointsClosed

@@ -5,6 +5,7 @@ ghost use lib.ListN.{length, replicate};
 ghost use Rattle.line.specs.Definition.Ram.{filled};
 ghost use Rattle.line.specs.Within.Chains.{Chain};
 ghost use Rattle.line.specs.Definition.Line.{placeOf, lineFrom, putLine, headingOf, afterClose, afterLink, afterOpen};
+ghost use Rattle.line.specs.Definition.Given.{givenOf};
 ghost use Rattle.line.specs.Within.Runs.{runUpTo};
 ghost use Rattle.line.specs.Definition.Lent.{lentAt, partOf};
 
@@ -94,9 +95,19 @@ pub fn put(ram: &mut [u8], chain: &[u8; 32], room: usize, start: usize, xs: &[u8
     }
 }
 
-// The n bytes on positions start, start + 1, .. come to the front of the output.
+// How many bytes a read of `size` bytes from `offset` on gives of a buffer of `n`.
+pub fn given(n: usize, offset: usize, size: usize) -> usize
+    ensures { λ r. ⌜ (r ≡ givenOf n offset size) × (r ≤ size) ⌝ }
+{
+    if n <= offset {
+        return 0;
+    }
+    if size < n - offset { size } else { n - offset }
+}
+
+// The n bytes on positions start, start + 1, .. come to the front of the output; where n is 0 they need not lie on the line.
 pub fn get(ram: &[u8], chain: &[u8; 32], room: usize, start: usize, out: &mut [u8], n: usize)
-    requires { ⌜ (n ≤ length (now out)) × Chain (now chain) room (start + n) (length (now ram)) ⌝ }
+    requires { ⌜ (n ≤ length (now out)) × (0 < n → Chain (now chain) room (start + n) (length (now ram))) ⌝ }
     ensures { λ _. ⌜ now (out .exit) ≡ filled n (lineFrom (now (chain .entry)) room (now (ram .entry)) start n) (now (out .entry)) ⌝ }
 {
     let mut k = 0;

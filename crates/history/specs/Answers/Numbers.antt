@@ -6,7 +6,7 @@ use mathlib.Core.Logic.{inl, inr}
 use Prim.Native.Nat.{ℕ}
 use Rattle.kernel.specs.Definition.Answers.{granted, Refusal, unless, Decision}
 use Rattle.kernel.specs.Definition.Calls.{Call, start, reset, «open», close, read, write, default, status, link, boundary, set-user-boundary, allocate, free, store, load, load-module, no-call, short-start, isStart}
-use Rattle.kernel.specs.Definition.Refusals.{Row, tables-bad, ram-wrong, call-unknown, start-short, allocate-caller, free-caller, module-start-page, module-start-offset, open-channel, close-channel, read-channel, write-channel, open-exists, open-name, link-name, default-name, open-device, open-driver, open-full, link-full, open-room, link-low, link-room, allocate-none, free-owner, store-owner, load-owner, module-owner, bound-none, bound-above, read-end, read-output, write-end, status-output, store-end, load-end, load-output, module-range, module-guard, store-guard, reset-flags, start-list, start-low, start-high, start-ram, module-bad, module-page}
+use Rattle.kernel.specs.Definition.Refusals.{Row, tables-bad, ram-wrong, call-unknown, start-short, allocate-caller, free-caller, module-start-page, module-start-offset, open-channel, close-channel, read-channel, write-channel, open-exists, open-name, link-name, default-name, open-device, open-driver, open-full, link-full, open-room, link-low, link-room, allocate-none, free-owner, store-owner, load-owner, module-owner, bound-none, bound-above, read-output, write-end, status-output, store-end, load-end, load-output, module-range, module-guard, store-guard, reset-flags, start-list, start-low, start-high, start-ram, module-bad, module-page}
 use Rattle.kernel.specs.declared.Tables.{Tables}
 use Rattle.history.specs.Answers.Lowest.{Among, clear, over, Below, Lowest, Rising, unless-lowest, none-holds}
 
@@ -80,8 +80,7 @@ module _ {t : Tables} {ram output : ℕ} where
   row-number c k (module-owner h) = inr (inr (inl refl))
   row-number c k (bound-none h) = inr (inl refl)
   row-number c k (bound-above h) = inr (inl refl)
-  row-number c k (read-end o h) = inr (inr (inl refl))
-  row-number c k (read-output h) = inr (inr (inl refl))
+  row-number c k (read-output o h) = inr (inr (inl refl))
   row-number c k (write-end o h) = inr (inr (inl refl))
   row-number c k (status-output h) = inr (inl refl)
   row-number c k (store-end o h) = inr (inr (inl refl))

@@ -9,11 +9,11 @@ use native.Mathlib.Omega.{arith}
 use borrow.Author.Tests.{eq-eqb, ne-eqb}
 use lib.Dec.{eqb}
 use lib.ListN.{length, getD, take, drop, replicate, length-take, length-append}
-use lib.Seq.{take-append-le, take-take, take-set-le, getD-set-other}
+use lib.Seq.{take-append-le, take-take, take-set-le}
 use Rattle.rows.specs.Definition.Lists.{at, without}
 use Rattle.rows.specs.Laws.Lists.{neither-below}
 use Rattle.rows.specs.Definition.Channels.{zeroChannel, sumOf}
-use Rattle.rows.specs.Laws.ChannelRows.{from, from-low, from-high, without-at, sum-without}
+use Rattle.rows.specs.Laws.ChannelRows.{from, from-low, from-high, sum-without}
 use Rattle.rows.specs.declared.Channel.{Channel}
 use Rattle.line.specs.Within.Chains.{Chain}
 use Rattle.line.specs.Definition.Line.{chainIndexOf, placeOf, putLine, afterLink}
@@ -32,7 +32,7 @@ use Rattle.kernel.specs.Definition.Segments.{mayReach, reachOf}
 use Rattle.kernel.specs.Definition.Reset.{bit4, bit5, bit6, emptying, restoring, releasing, resetting}
 use Rattle.kernel.specs.Definition.Bytes.{ramOpened, ramClosed, ramReset, segmentAt}
 use Rattle.kernel.specs.Laws.Chains.{good-chain, chain-shift}
-use Rattle.kernel.specs.Laws.Changes.{Opened, opens-row, opens-total, Closed, Linked}
+use Rattle.kernel.specs.Laws.Changes.{Opened, opens-row, opens-old, opens-total, Closed, closes-row, Linked}
 use Rattle.kernel.specs.Laws.Facts.{room-small}
 use Rattle.kernel.specs.Laws.Records.{record-before, record-within}
 use Rattle.kernel.specs.Laws.KeptReset.{emptying-opened}
@@ -66,6 +66,27 @@ take-less xs i j h l =
     ∙ take-take i j xs h
 
 -- ---- one law a call
+
+-- reset drops all buffers, or keeps them where they lie
+module _ (t : Tables) (ram : List ℕ) (P : Tables → List ℕ → Type 0) (none : (u : Tables) (ram₁ : List ℕ) → u .opened ≡ 0 → P u ram₁) (same : P t ram)
+    (freed : P (releasing t) ram) where
+  by-flags : (four five six : Bool)
+      → P (let u = cond (four || five) (emptying t) t in let v = cond five (restoring u) u in cond six (releasing v) v)
+      (let emptied = cond (four || five) (putLine (t .chain) (t .room) ram 0 (replicate (totalOf t) 0)) ram in
+      cond five (putLine (t .chain) (t .cold) emptied 0 (replicate (t .cold - t .room) 0)) emptied)
+  unfolding restoring releasing
+  by-flags true true true = none _ _ (emptying-opened t)
+  by-flags true true false = none _ _ (emptying-opened t)
+  by-flags true false true = none _ _ (emptying-opened t)
+  by-flags true false false = none _ _ (emptying-opened t)
+  by-flags false true true = none _ _ (emptying-opened t)
+  by-flags false true false = none _ _ (emptying-opened t)
+  by-flags false false true = freed
+  by-flags false false false = same
+
+  pub reset-by : (flags : ℕ) → P (resetting t flags) (ramReset t ram flags)
+  unfolding resetting
+  reset-by flags = by-flags (bit4 flags) (bit5 flags) (bit6 flags)
 
 module _ (t : Tables) (ram : List ℕ) (r : Ready t (length ram)) (f : ℕ → ℕ → ℕ) (holds : Holds f t ram) where
   chained : Chain (t .chain) (t .room) (totalOf t) (length ram)
@@ -131,9 +152,6 @@ module _ (t : Tables) (ram : List ℕ) (r : Ready t (length ram)) (f : ℕ → �
     new-row : getD (u .channels) (t .opened) zeroChannel ≡ c
     new-row = opens-row (r .good) o few
 
-    old-row : (i : ℕ) → i < t .opened → getD (u .channels) i zeroChannel ≡ getD (t .channels) i zeroChannel
-    old-row i h = rw (o .channels) (getD-set-other (t .channels) (t .opened) i c zeroChannel (λ e. omega arith))
-
     starts-same : (i : ℕ) → i ≤ t .opened → recordAt u i ≡ recordAt t i
     starts-same i h = rw (o .channels) (ap sumOf (take-set-le i (t .channels) (t .opened) c h))
 
@@ -146,9 +164,9 @@ module _ (t : Tables) (ram : List ℕ) (r : Ready t (length ram)) (f : ℕ → �
         elim (decLt i (t .opened)) [
           | yes h ↦
               let p = bufferAt t i + k in
-              let size : k < sizeAt t i = rw (sizeAt, old-row i h) at b in
+              let size : k < sizeAt t i = rw (sizeAt, opens-old o i h) at b in
               let within : p < totalOf t = inside i k h size in
-              let number : channelIn u i ≡ channelIn t i = ap (λ (x : Channel). x .number) (old-row i h) in
+              let number : channelIn u i ≡ channelIn t i = ap (λ (x : Channel). x .number) (opens-old o i h) in
               let buffer : bufferAt u i ≡ bufferAt t i = ap (λ (x : ℕ). x + 16) (starts-same i (omega arith)) in
               let apart : c .number ≡ channelIn t i → ⊥ = λ e.
               s .good .channels .differ i (t .opened) h (omega (arith, o .opened)) (number ∙ sym e ∙ sym (ap (λ (x : Channel). x .number) new-row)) in
@@ -176,7 +194,7 @@ module _ (t : Tables) (ram : List ℕ) (r : Ready t (length ram)) (f : ℕ → �
         let n : length cs ≡ 32 = r .good .sized .channels in
         let most = r .good .channels .most in
         let less : i < t .opened - 1 = rw (o .opened) at a in
-        let row : getD (u .channels) i zeroChannel ≡ getD cs (from j i) zeroChannel = rw (o .channels) (without-at zeroChannel zeroChannel j cs i (omega arith) (omega arith)) in
+        let row : getD (u .channels) i zeroChannel ≡ getD cs (from j i) zeroChannel = closes-row (r .good) o have i a in
         let gap = 16 + sizeAt t j in
         let points = closed-points (t .chain) (t .room) ram (recordAt t j) gap (totalOf t) chained (record-within t j (r .good) have) in
         let p = bufferAt u i + k in
@@ -242,27 +260,9 @@ module _ (t : Tables) (ram : List ℕ) (r : Ready t (length ram)) (f : ℕ → �
       off-line t (r .good) row (x - segmentAt row) (reach-users t row (x - segmentAt row) m (omega arith)) (bufferAt t i + k) (inside i k a b) there)
       ∙ holds i a k b
 
-  -- reset drops all buffers or keeps them
-  no-rows : (i : ℕ) → i < emptying t .opened → ⊥
-  no-rows i a = not-suc-le-zero (rw (emptying-opened t) at a)
-
-  flags-law : (four five six : Bool)
-      → Holds f (let u = cond (four || five) (emptying t) t in let v = cond five (restoring u) u in cond six (releasing v) v)
-      (let emptied = cond (four || five) (putLine (t .chain) (t .room) ram 0 (replicate (totalOf t) 0)) ram in
-      cond five (putLine (t .chain) (t .cold) emptied 0 (replicate (t .cold - t .room) 0)) emptied)
-  unfolding restoring releasing
-  flags-law true true true = λ i a. absurd (no-rows i a)
-  flags-law true true false = λ i a. absurd (no-rows i a)
-  flags-law true false true = λ i a. absurd (no-rows i a)
-  flags-law true false false = λ i a. absurd (no-rows i a)
-  flags-law false true true = λ i a. absurd (no-rows i a)
-  flags-law false true false = λ i a. absurd (no-rows i a)
-  flags-law false false true = holds
-  flags-law false false false = holds
-
   pub reset-law : (flags : ℕ) → Holds f (resetting t flags) (ramReset t ram flags)
-  unfolding resetting
-  reset-law flags = flags-law (bit4 flags) (bit5 flags) (bit6 flags)
+  unfolding releasing
+  reset-law flags = reset-by t ram (Holds f) (λ u ram₁ e i a. absurd (not-suc-le-zero (rw e at a))) holds holds flags
 
 -- a load of a module touches none: it is stores, one after the other
 pub load-law : (t : Tables) (ram : List ℕ) → Ready t (length ram) → (f : ℕ → ℕ → ℕ) → Holds f t ram → (row : ℕ) (puts : List Put) → mayReach t row ≡ true

@@ -1,4 +1,5 @@
 -- "A byte read from an open channel is the one last written there through that channel since its opening, or zero if none was, however often the buffer moved."
+-- "The byte rule of condition 3 speaks of the bytes given" (order 2).
 use mathlib.Core.Path.{_≡_, refl, sym, ap, subst, _∙_}
 use mathlib.Core.Bool.{true, cond}
 use mathlib.Core.List.{List, _∷_}
@@ -12,6 +13,8 @@ use lib.ListN.{length, getD, drop, List·getD-append}
 use Rattle.rows.specs.Definition.Classes.{SHARED}
 use Rattle.line.specs.Definition.Line.{placeOf, lineFrom}
 use Rattle.line.specs.Definition.Ram.{filled}
+use Rattle.line.specs.Definition.Given.{givenOf}
+use Rattle.line.specs.Laws.Given.{given-whole, given-inside}
 use Rattle.line.specs.Laws.Walks.{length-bytes, bytes-at}
 use Rattle.modules.specs.Laws.Stored.{stored-below}
 use Rattle.modules.specs.Definition.Judging.{putsIn}
@@ -20,19 +23,21 @@ use Rattle.kernel.specs.Definition.Line.{sizeAt, bufferAt, opening, closing}
 use Rattle.kernel.specs.Definition.Segments.{granting, sharingLast, freeing, bounding}
 use Rattle.kernel.specs.Definition.Devices.{linking, deviceNamed}
 use Rattle.kernel.specs.Definition.Start.{started}
-use Rattle.kernel.specs.Definition.Answers.{granted, Decision}
+use Rattle.kernel.specs.Definition.Answers.{bOf, granted, Decision}
 use Rattle.kernel.specs.Definition.Calls.{Call, read}
 use Rattle.kernel.specs.Definition.Bytes.{from-buffer, ramOpened, ramAfter, outputAfter}
 use Rattle.kernel.specs.Definition.Step.{completed, step}
+use Rattle.kernel.specs.Definition.Refusals.{OpenAt}
 use Rattle.kernel.specs.Laws.Keeps.{start-passed, start-is}
 use Rattle.kernel.specs.Laws.Effects.{Effect, resets, opens, closes, reads, writes, names, counts, links, tells, bounds, grants, shares, frees, stores, loads, loads-module, effect}
 use Rattle.kernel.specs.Laws.Changes.{opening-opens, closing-closes, linking-links}
 use Rattle.kernel.specs.Laws.Ready.{Ready}
 use Rattle.kernel.specs.declared.Tables.{Tables}
-use Rattle.history.specs.Definition.Runs.{State, History, after, event, Started, NotAccepted, Runs, stay, then, Run, LastWritten, ReadsRight}
-use Rattle.history.specs.Bytes.Words.{written, lastWritten, last-written}
+use Rattle.history.specs.Definition.Runs.{State, History, after, event, Started, NotAccepted, Runs, stay, then, Run, LastSize, ReadRight, ReadsRight}
+use Rattle.history.specs.Bytes.Words.{written, lastWritten, last-written, lastSize, last-size}
 use Rattle.history.specs.Answers.Found.{open-at}
-use Rattle.history.specs.Bytes.Buffers.{Holds, write-law, open-law, close-law, link-law, store-law, reset-law, load-law}
+use Rattle.history.specs.Bytes.Buffers.{channelIn, Holds, write-law, open-law, close-law, link-law, store-law, reset-law, load-law}
+use Rattle.history.specs.Bytes.Sized.{Sized, done-sized}
 use Rattle.history.specs.Bytes.Steps.{Sound, done-length, Stepped, refused, done, stepped, step-sound, start-sound}
 
 freeing-law : (t : Tables) (row : ℕ) (ram : List ℕ) (f : ℕ → ℕ → ℕ) → Holds f t ram → Holds f (freeing t row) ram
@@ -44,12 +49,12 @@ done-holds : {t : Tables} {c : Call} {d : Decision} (ram : List ℕ) (f : ℕ �
     → Effect t c d → Holds (λ channel k. written c channel k (f channel k)) (d .tables) (ramAfter t (d .tables) ram (d .ram))
 unfolding written ramAfter granting sharingLast bounding
 done-holds {t} ram f r s holds (resets {flags}) = reset-law t ram r f holds flags
-done-holds {t} ram f r s holds (opens c e low new device few fits) =
+done-holds {t} ram f r s holds (opens c e m low new device few fits) =
     subst (λ (x : ℕ). Holds (λ d k. cond (eqb x d) 0 (f d k)) (opening t c) (ramOpened t (opening t c) ram c)) e
     (open-law t ram r f holds (opening t c) c (opening-opens t c) few s)
 done-holds {t} ram f r s holds (closes {channel} h) =
     close-law t ram r f holds (closing t (channelAt t channel)) (channelAt t channel) (closing-closes t (channelAt t channel)) h s
-done-holds {t} ram f r s holds (reads h l) = holds
+done-holds {t} ram f r s holds (reads h) = holds
 done-holds {t} ram f r s holds (writes {channel} {offset} {bytes} h l) = write-law t ram r f holds channel offset bytes h l
 done-holds {t} ram f r s holds (names h) = holds
 done-holds {t} ram f r s holds counts = holds
@@ -74,68 +79,92 @@ start-none s z =
     ∙ ap (λ (d : Decision). d .tables .opened) (start-is (b .tables) (length (b .ram)) (length (z .output)) (z .room) (z .list) passed)
 
 step-holds : (s : State) (c : Call) (output : List ℕ) (h : History) → Sound s → NotAccepted (event s c output) → Holds (lastWritten h) (s .tables) (s .ram)
-    → Holds (lastWritten (event s c output ∷ h)) (after s c output .tables) (after s c output .ram)
-unfolding lastWritten
-step-holds s c output h r n holds = go (stepped s c output n)
+    → Sized (lastSize h) (s .tables)
+    → Holds (lastWritten (event s c output ∷ h)) (after s c output .tables) (after s c output .ram) × Sized (lastSize (event s c output ∷ h)) (after s c output .tables)
+unfolding lastWritten lastSize
+step-holds s c output h r n holds sized = go (stepped s c output n)
   where
-    go : Stepped s c output → Holds (lastWritten (event s c output ∷ h)) (after s c output .tables) (after s c output .ram)
+    go : Stepped s c output
+        → Holds (lastWritten (event s c output ∷ h)) (after s c output .tables) (after s c output .ram) × Sized (lastSize (event s c output ∷ h)) (after s c output .tables)
     go (refused e q) =
-        let same : Holds (lastWritten h) (after s c output .tables) (after s c output .ram) = subst (λ (x : State). Holds (lastWritten h) (x .tables) (x .ram)) (sym q) holds in
+        let same : Holds (lastWritten h) (after s c output .tables) (after s c output .ram) × Sized (lastSize h) (after s c output .tables) =
+        subst (λ (x : State). Holds (lastWritten h) (x .tables) (x .ram) × Sized (lastSize h) (x .tables)) (sym q) (holds, sized) in
         rw e same
     go (done d e m p q) =
         let there : Ready (d .tables) (length (s .ram)) = rw (p, q, done-length (s .ram) r m) at (step-sound s c output r n) in
-        rw (e, p, q) (done-holds (s .ram) (lastWritten h) r there holds m)
+        rw (e, p, q) (done-holds (s .ram) (lastWritten h) r there holds m, done-sized (lastSize h) (r .good) (there .good) sized m)
 
--- every state of a run is sound, and every byte of its open channels is the one last written there
-pub run-holds : {P : State → Type 0} {s t : State} {h : History} → Started s → Runs P s h t → Sound t × Holds (lastWritten h) (t .tables) (t .ram)
-run-holds {s = s} z (stay _) = (start-sound s z, λ i a. absurd (not-suc-le-zero (rw (start-none s z) at a)))
+-- every state of a run is sound, every byte of its open channels is the one last written there, and the size of each is the one it was last opened with
+pub run-holds : {P : State → Type 0} {s t : State} {h : History} → Started s → Runs P s h t
+    → Sound t × Holds (lastWritten h) (t .tables) (t .ram) × Sized (lastSize h) (t .tables)
+run-holds {s = s} z (stay _) =
+    (start-sound s z, λ i a. absurd (not-suc-le-zero (rw (start-none s z) at a)), λ i a. absurd (not-suc-le-zero (rw (start-none s z) at a)))
 run-holds z (then {h = h} {t = t} r c output n _) =
     let b = run-holds z r in
-    (step-sound t c output (b .0) n, step-holds t c output h (b .0) n (b .1))
+    let next = step-holds t c output h (b .0) n (b .1) (b .2) in
+    (step-sound t c output (b .0) n, next .0, next .1)
 
 -- a done read gives the bytes of its channel
 read-known : {t : Tables} {d : Decision} {channel offset size : ℕ} → Effect t (read channel offset size) d
-    → (channelAt t channel < t .opened) × (offset + size ≤ sizeAt t (channelAt t channel)) × (d .output ≡ from-buffer (channelAt t channel) offset size)
-read-known (reads h l) = (h, l, refl)
+    → (channelAt t channel < t .opened) × (bOf (d .answer) ≡ givenOf (sizeAt t (channelAt t channel)) offset size)
+    × (d .output ≡ from-buffer (channelAt t channel) offset (givenOf (sizeAt t (channelAt t channel)) offset size))
+read-known (reads h) = (h, refl, refl)
 
-module _ (t : State) (f : ℕ → ℕ → ℕ) (r : Sound t) (holds : Holds f (t .tables) (t .ram)) where
+module _ (t : State) (h : History) (r : Sound t) (holds : Holds (lastWritten h) (t .tables) (t .ram)) (sized : Sized (lastSize h) (t .tables)) where
   read-gives : (channel offset size : ℕ) (output : List ℕ) → granted (event t (read channel offset size) output .answer) ≡ true
-      → (i : ℕ) → i < size → getD (event t (read channel offset size) output .output) i 0 ≡ f channel (offset + i)
+      → ReadRight channel offset size h (event t (read channel offset size) output)
   unfolding step completed outputAfter filled
-  read-gives channel offset size output e i h =
+  read-gives channel offset size output e =
       let u = t .tables in
       let j = channelAt u channel in
       let c = read channel offset size in
+      let n = sizeAt u j in
+      let b = givenOf n offset size in
       let known = read-known (effect u (length (t .ram)) (length output) c refl e) in
+      let here : channelIn u j ≡ channel = open-at u (r .good) channel (known .0) .number in
       let walk = placeOf (u .chain) (u .room) in
       let p = bufferAt u j + offset in
-      let n : length (lineFrom (u .chain) (u .room) (t .ram) p size) ≡ size = length-bytes walk (t .ram) p size in
-      let at : p + i ≡ bufferAt u j + (offset + i) = omega arith in
-      rw (known .2) (List·getD-append (lineFrom (u .chain) (u .room) (t .ram) p size) (drop size output) 0 i (omega arith))
-      ∙ bytes-at walk (t .ram) p size i h
-      ∙ ap (λ (x : ℕ). getD (t .ram) (walk x) 0) at
-      ∙ holds j (known .0) (offset + i) (omega (arith, known .1))
-      ∙ ap (λ (x : ℕ). f x (offset + i)) (open-at u (r .good) channel (known .0) .number)
+      let many : length (lineFrom (u .chain) (u .room) (t .ram) p b) ≡ b = length-bytes walk (t .ram) p b in
+      record {
+        n = n;
+        opened = rw (sized j (known .0), here) (last-size channel h);
+        number = known .1;
+        whole = λ l. known .1 ∙ given-whole n offset size l;
+        bytes = λ i l.
+            let k : i < b = rw (← known .1) l in
+            let at : p + i ≡ bufferAt u j + (offset + i) = omega arith in
+            let byte : getD (event t (read channel offset size) output .output) i 0 ≡ lastWritten h channel (offset + i) =
+            rw (known .2) (List·getD-append (lineFrom (u .chain) (u .room) (t .ram) p b) (drop b output) 0 i (omega arith))
+            ∙ bytes-at walk (t .ram) p b i k
+            ∙ ap (λ (x : ℕ). getD (t .ram) (walk x) 0) at
+            ∙ holds j (known .0) (offset + i) (given-inside n offset size i k)
+            ∙ ap (λ (x : ℕ). lastWritten h x (offset + i)) here in
+            rw byte (last-written channel (offset + i) h);
+      }
 
--- A read that is done after any sequence of calls since an accepted start, with no second start: each byte that it gives is the one last written
--- there through that channel since its opening, or zero if none was.
+-- A read that is done after any sequence of calls since an accepted start, with no second start, gives what it should: as many bytes as remain of what the
+-- channel was opened with, up to the length asked, and each of them the one last written there through that channel since its opening, or zero if none was.
 pub bytes-read : {h : History} {t : State} → Run h t → (channel offset size : ℕ) (output : List ℕ)
     → granted (event t (read channel offset size) output .answer) ≡ true
-    → (i : ℕ) → i < size → LastWritten channel (offset + i) h (getD (event t (read channel offset size) output .output) i 0)
-bytes-read {h} {t} r channel offset size output e i l =
-    let b = run-holds (r .started) (r .runs) in
-    rw (read-gives t (lastWritten h) (b .0) (b .1) channel offset size output e i l) (last-written channel (offset + i) h)
+    → ReadRight channel offset size h (event t (read channel offset size) output)
+bytes-read {h} {t} r = let b = run-holds (r .started) (r .runs) in read-gives t h (b .0) (b .1) (b .2)
 
 right : {P : State → Type 0} {s t : State} {h : History} → Started s → Runs P s h t → ReadsRight h
 right z (stay _) = tt
 right z (then {h = h} {t = t} r c output n _) =
     let b = run-holds z r in (
       λ channel offset size q.
-          subst (λ (x : Call). granted (event t x output .answer) ≡ true → (i : ℕ) → i < size → LastWritten channel (offset + i) h (getD (event t x output .output) i 0))
-          (sym q) (λ d i l. rw (read-gives t (lastWritten h) (b .0) (b .1) channel offset size output d i l) (last-written channel (offset + i) h)),
+          subst (λ (x : Call). granted (event t x output .answer) ≡ true → ReadRight channel offset size h (event t x output))
+          (sym q) (read-gives t h (b .0) (b .1) (b .2) channel offset size output),
       right z r,
     )
 
 -- The same of every read of the sequence itself, over nothing but its calls and replies.
 pub reads-right : {h : History} {t : State} → Run h t → ReadsRight h
 reads-right r = right (r .started) (r .runs)
+
+-- The size that the tables have for an open channel is the one that it was last opened with.
+pub buffer-size : {h : History} {t : State} → Run h t → (channel row : ℕ) → OpenAt (t .tables) channel row → LastSize channel h (sizeAt (t .tables) row)
+buffer-size {h} {t} r channel row o =
+    let b = run-holds (r .started) (r .runs) in
+    rw (b .2 row (o .row), o .number) (last-size channel h)

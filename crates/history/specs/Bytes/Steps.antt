@@ -78,9 +78,9 @@ pub done-length : {t : Tables} {c : Call} {d : Decision} (ram : List ℕ) → Re
     → length (ramAfter t (d .tables) ram (d .ram)) ≡ length ram
 unfolding ramAfter afterOpen afterClose afterLink
 done-length {t} ram r (resets {flags}) = length-reset t ram (bit4 flags) (bit5 flags)
-done-length ram r (opens c e low new device few fits) = length-put (placeOf _ _) _ ram _
+done-length ram r (opens c e m low new device few fits) = length-put (placeOf _ _) _ ram _
 done-length ram r (closes h) = length-put (placeOf _ _) _ ram _
-done-length ram r (reads h l) = refl
+done-length ram r (reads h) = refl
 done-length ram r (writes h l) = length-put (placeOf _ _) _ ram _
 done-length ram r (names h) = refl
 done-length ram r counts = refl

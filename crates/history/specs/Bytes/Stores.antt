@@ -162,9 +162,9 @@ pub done-user : {t : Tables} {c : Call} {d : Decision} (ram : List ℕ) → Read
     → getD (ramAfter t (d .tables) ram (d .ram)) (segmentAt (rowOf t segment) + offset) 0 ≡ stored c segment offset (getD ram (segmentAt (rowOf t segment) + offset) 0)
 unfolding ramAfter stored
 done-user {t} ram r s segment offset b l (resets {flags}) = flags-user t _ ram r s (rowOf t segment) offset b l (bit4 flags) (bit5 flags)
-done-user {t} ram r s segment offset b l (opens c e low new device few fits) = open-user t (opening t c) ram r s (rowOf t segment) offset b l c (opening-opens t c) few
+done-user {t} ram r s segment offset b l (opens c e m low new device few fits) = open-user t (opening t c) ram r s (rowOf t segment) offset b l c (opening-opens t c) few
 done-user {t} ram r s segment offset b l (closes {channel} h) = close-user t _ ram r s (rowOf t segment) offset b l (channelAt t channel) h
-done-user ram r s segment offset b l (reads h k) = refl
+done-user ram r s segment offset b l (reads h) = refl
 done-user {t} ram r s segment offset b l (writes {channel} {offset = o} {bytes} h k) =
     write-user t t ram r s (rowOf t segment) offset b l (bufferAt t (channelAt t channel) + o) bytes (omega (arith, record-within t (channelAt t channel) (r .good) h))
 done-user ram r s segment offset b l (names h) = refl

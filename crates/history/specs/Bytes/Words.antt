@@ -1,4 +1,4 @@
--- The byte last written and the byte last stored: one byte of each history, computed by its calls.
+-- The byte last written, the byte last stored and the size last opened with: one of each history, computed by its calls.
 use mathlib.Core.Path.{_≡_, refl, sym, ap, _∙_}
 use mathlib.Core.Bool.{Bool, true, false, cond}
 use mathlib.Core.List.{List, [], _∷_}
@@ -12,7 +12,7 @@ use lib.ListN.{length, getD}
 use Rattle.modules.specs.Definition.Judging.{putsIn}
 use Rattle.kernel.specs.Definition.Answers.{granted}
 use Rattle.kernel.specs.Definition.Calls.{Call, start, reset, «open», close, read, write, default, status, link, boundary, set-user-boundary, allocate, free, store, load, load-module, no-call, short-start}
-use Rattle.history.specs.Definition.Runs.{Event, History, Last, never, now, before, Writes, opened, wrote, LastWritten, Stores, put, loaded, LastStored}
+use Rattle.history.specs.Definition.Runs.{Event, History, Last, never, now, before, Writes, opened, wrote, LastWritten, Stores, put, loaded, LastStored, Sizes, sized, LastSize}
 use Rattle.history.specs.Bytes.Patched.{patched, patched-in, patched-not}
 use Rattle.history.specs.Bytes.Each.{patchedEach, each-none, each-last, each-kinds}
 
@@ -54,7 +54,7 @@ deed (load-module segment page offset stream) = loads segment page offset stream
 deed no-call = other no-call
 deed short-start = other short-start
 
--- Of a byte that some deeds make anew: which do (`kinds`), and what they make of it (`makes`). Then one byte is the last, and it is computed.
+-- Of a number that some deeds make anew: which do (`kinds`), and what they make of it (`makes`). Then one is the last, and it is computed.
 module _ (Makes : Event → ℕ → Type 0) (by : (c : Call) → Deed c → ℕ → ℕ)
     (makes : (e : Event) (x : ℕ) → Makes e x → (granted (e .answer) ≡ true) × ((old : ℕ) → by (e .call) (deed (e .call)) old ≡ x))
     (kinds : (c : Call) (d : Deed c) → ((e : Event) → e .call ≡ c → granted (e .answer) ≡ true → (x : ℕ) × Makes e x) ⊎ ((old : ℕ) → by c d old ≡ old)) where
@@ -203,3 +203,46 @@ module _ (segment k : ℕ) where
 
   pub stored-one : {first : ℕ} {h : History} {x y : ℕ} → LastStored segment k first h x → LastStored segment k first h y → x ≡ y
   stored-one = one-made (Stores segment k) (storedBy segment k) stores-it store-kinds
+
+-- ---- a buffer's size
+
+-- what a done call makes of the size of a channel's buffer, which was `old`: an open of the channel makes it what it asks
+abbrev sizedBy : (channel : ℕ) (c : Call) → Deed c → (old : ℕ) → ℕ
+sizedBy channel c (opens d driver n name) old = cond (eqb d channel) n old
+sizedBy channel c (writes d offset bytes) old = old
+sizedBy channel c (stores segment offset bytes) old = old
+sizedBy channel c (loads segment page offset stream) old = old
+sizedBy channel c (other _) old = old
+
+unfoldable pub resized : Call → (channel old : ℕ) → ℕ
+resized c channel old = sizedBy channel c (deed c) old
+
+-- the size last opened with, computed
+unfoldable pub lastSize : History → (channel : ℕ) → ℕ
+unfolding resized
+lastSize [] channel = 0
+lastSize (e ∷ h) channel = cond (granted (e .answer)) (resized (e .call) channel (lastSize h channel)) (lastSize h channel)
+
+module _ (channel : ℕ) where
+  sizes-it : (e : Event) (x : ℕ) → Sizes channel e x → (granted (e .answer) ≡ true) × ((old : ℕ) → sizedBy channel (e .call) (deed (e .call)) old ≡ x)
+  sizes-it e x (sized g c) = (g, λ old. rw (c, eq-eqb channel channel refl))
+
+  size-kinds : (c : Call) (d : Deed c)
+      → ((e : Event) → e .call ≡ c → granted (e .answer) ≡ true → (x : ℕ) × Sizes channel e x) ⊎ ((old : ℕ) → sizedBy channel c d old ≡ old)
+  size-kinds _ (opens d driver n name) =
+      elim (ℕ-discrete d channel) [
+        | yes q ↦ inl (λ e c g. (n, sized {driver = driver} {name = name} g (c ∙ ap (λ (x : ℕ). «open» x driver n name) q)))
+        | no q ↦ inr (λ old. rw (ne-eqb d channel q))
+      ]
+  size-kinds _ (writes d offset bytes) = inr (λ old. refl)
+  size-kinds _ (stores segment offset bytes) = inr (λ old. refl)
+  size-kinds _ (loads segment page offset stream) = inr (λ old. refl)
+  size-kinds _ (other c) = inr (λ old. refl)
+
+  pub last-size : (h : History) → LastSize channel h (lastSize h channel)
+  unfolding lastSize
+  last-size [] = never
+  last-size (e ∷ h) = last-made (Sizes channel) (sizedBy channel) sizes-it size-kinds e h (lastSize h channel) (last-size h)
+
+  pub size-one : {h : History} {x y : ℕ} → LastSize channel h x → LastSize channel h y → x ≡ y
+  size-one = one-made (Sizes channel) (sizedBy channel) sizes-it size-kinds

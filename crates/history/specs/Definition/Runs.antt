@@ -5,9 +5,10 @@ use mathlib.Core.Logic.{_≢_}
 use mathlib.Core.List.{List, [], _∷_}
 use Prim.Native.Nat.{ℕ, _+_, _-_, _≤_, _<_}
 use lib.ListN.{length, getD}
+use Rattle.line.specs.Definition.Given.{givenOf}
 use Rattle.modules.specs.Definition.Counter.{Put}
 use Rattle.modules.specs.Definition.Judging.{putsIn}
-use Rattle.kernel.specs.Definition.Answers.{granted}
+use Rattle.kernel.specs.Definition.Answers.{bOf, granted}
 use Rattle.kernel.specs.Definition.Calls.{Call, start, «open», read, write, store, load-module, isStart}
 use Rattle.kernel.specs.Definition.Step.{step}
 use Rattle.kernel.specs.declared.Tables.{Tables}
@@ -105,9 +106,27 @@ pub data Stores (segment k : ℕ) (e : Event) : ℕ → Type 0 where
 abbrev pub LastStored : (segment k first : ℕ) → History → ℕ → Type 0
 LastStored segment k first = Last (Stores segment k) first
 
--- "A byte read from an open channel is the one last written there": every done read of a history gave the bytes last written before it
+-- the size n of a channel's buffer: a done open of the channel makes it what it asks
+pub data Sizes (channel : ℕ) (e : Event) : ℕ → Type 0 where
+  sized : {driver n : ℕ} {name : List ℕ} → granted (e .answer) ≡ true → e .call ≡ «open» channel driver n name → Sizes channel e n
+
+-- the size that the channel was last opened with, or 0 if it never was
+abbrev pub LastSize : (channel : ℕ) → History → ℕ → Type 0
+LastSize channel = Last (Sizes channel) 0
+
+-- "The byte rule of condition 3 speaks of the bytes given" (order 2): what the done read e gave after the history h, of a buffer of n bytes
+pub record ReadRight (channel offset size : ℕ) (h : History) (e : Event) : Type 0 where
+  pub n : ℕ
+  pub opened : LastSize channel h n
+  -- "b is their number"
+  pub number : bOf (e .answer) ≡ givenOf n offset size
+  -- all that was asked, wherever the buffer has it
+  pub whole : offset + size ≤ n → bOf (e .answer) ≡ size
+  -- "A byte read from an open channel is the one last written there"
+  pub bytes : (i : ℕ) → i < bOf (e .answer) → LastWritten channel (offset + i) h (getD (e .output) i 0)
+
+-- every done read of a history gave what it should, by the events before it
 abbrev pub ReadsRight : History → Type 0
 ReadsRight [] = Unit {0}
 ReadsRight (e ∷ h) =
-    ((channel offset size : ℕ) → e .call ≡ read channel offset size → granted (e .answer) ≡ true
-    → (i : ℕ) → i < size → LastWritten channel (offset + i) h (getD (e .output) i 0)) × ReadsRight h
+    ((channel offset size : ℕ) → e .call ≡ read channel offset size → granted (e .answer) ≡ true → ReadRight channel offset size h e) × ReadsRight h

@@ -6,6 +6,7 @@ use mathlib.Core.Option.{Option, none, some}
 use Prim.Native.Nat.{ℕ, _+_, _-_}
 use lib.Dec.{leb, ltb, eqb}
 use lib.ListN.{length}
+use Rattle.line.specs.Definition.Given.{givenOf}
 use Rattle.line.specs.Definition.Guard.{guarded}
 use Rattle.modules.specs.Definition.Counter.{pastRange, counter}
 use Rattle.modules.specs.Definition.Judging.{judged, putsIn, refusalOf, usedOf}
@@ -120,15 +121,18 @@ onClose t channel =
     unless (NoChannel when leb (t .opened) i ∷ []) t
     (gives (Done 0 0) (closing t i) changing removed i)
 
--- "0, length"
+-- order 2: "A channel read now gives the bytes that remain, up to the length asked; b is their number"; "read gives RANGE only where the lent output is shorter
+-- than what it would give"
 unfoldable pub onRead : Tables → (output channel offset size : ℕ) → Decision
+unfolding givenOf
 onRead t output channel offset size =
     let i = channelAt t channel in
+    let b = givenOf (sizeAt t i) offset size in
     unless
     (NoChannel when leb (t .opened) i
-    ∷ BadRange when (ltb (sizeAt t i) (offset + size) || ltb output size)
+    ∷ BadRange when ltb output b
     ∷ []) t
-    (gives (Done 0 size) t filling from-buffer i offset size)
+    (gives (Done 0 b) t filling from-buffer i offset b)
 
 -- "0, length"
 unfoldable pub onWrite : Tables → (channel offset : ℕ) (bytes : List ℕ) → Decision

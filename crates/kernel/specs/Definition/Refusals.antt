@@ -6,6 +6,7 @@ use mathlib.Core.Logic.{_≢_, _⊎_}
 use mathlib.Core.List.{List}
 use Prim.Native.Nat.{ℕ, _+_, _-_, _*_, _/_, _%_, _^_, _≤_, _<_}
 use lib.ListN.{length, getD}
+use Rattle.line.specs.Definition.Given.{givenOf}
 use Rattle.line.specs.Definition.Guard.{GuardedByte}
 use Rattle.modules.specs.Definition.Reading.{streamBits}
 use Rattle.modules.specs.Definition.Counter.{counter}
@@ -130,13 +131,13 @@ pub data Row (t : Tables) (ram output : ℕ) : (c : Call) (k : ℕ) → Type 0 w
   bound-none : {value : ℕ} → ¬ HasClass t SHARED → Row t ram output (set-user-boundary value) 12
   bound-above : {value : ℕ} → boundaryOf t < value → Row t ram output (set-user-boundary value) 12
   -- 13 RANGE: "offset + length past the end, or lent output too short"
-  read-end : {channel offset size i : ℕ} → OpenAt t channel i → sizeAt t i < offset + size → Row t ram output (read channel offset size) 13
-  read-output : {channel offset size : ℕ} → output < size → Row t ram output (read channel offset size) 13
   write-end : {channel offset i : ℕ} {bytes : List ℕ} → OpenAt t channel i → sizeAt t i < offset + length bytes → Row t ram output (write channel offset bytes) 13
   status-output : output < 5 → Row t ram output status 13
   store-end : {segment offset row : ℕ} {bytes : List ℕ} → InList t segment row → reachOf t row < offset + length bytes → Row t ram output (store segment offset bytes) 13
   load-end : {segment offset size row : ℕ} → InList t segment row → reachOf t row < offset + size → Row t ram output (load segment offset size) 13
   load-output : {segment offset size : ℕ} → output < size → Row t ram output (load segment offset size) 13
+  -- order 2: "read gives RANGE only where the lent output is shorter than what it would give"
+  read-output : {channel offset size i : ℕ} → OpenAt t channel i → output < givenOf (sizeAt t i) offset size → Row t ram output (read channel offset size) 13
   -- order 3: "then RANGE above the user boundary", of the first item at fault
   module-range : {segment page offset row : ℕ} {stream : List ℕ} → InList t segment row → ModuleRefused t row page offset stream Range
       → Row t ram output (load-module segment page offset stream) 13

@@ -6,12 +6,12 @@ use native.Mathlib.Decide.{ℕ-discrete}
 use native.Mathlib.Omega.{arith}
 use borrow.Author.Tests.{eq-eqb, ne-eqb}
 use lib.ListN.{getD, set, replicate}
-use lib.Seq.{getD-set-same}
+use lib.Seq.{getD-set-same, getD-set-other}
 use Rattle.rows.specs.Definition.Lists.{at, without}
 use Rattle.rows.specs.Definition.Classes.{SHARED}
 use Rattle.rows.specs.Definition.Channels.{zeroChannel}
 use Rattle.rows.specs.Definition.Devices.{added}
-use Rattle.rows.specs.Laws.ChannelRows.{sum-set}
+use Rattle.rows.specs.Laws.ChannelRows.{sum-set, from, without-at}
 use Rattle.rows.specs.Definition.Sizes.{chainLength}
 use Rattle.rows.specs.declared.Channel.{Channel}
 use Rattle.rows.specs.declared.Device.{Device}
@@ -53,6 +53,9 @@ opening-opens t c =
 pub opens-row : {t u : Tables} {c : Channel} → Good t → Opened t u c → t .opened < 32 → getD (u .channels) (t .opened) zeroChannel ≡ c
 opens-row {t} {u} {c} g o few = rw (o .channels) (getD-set-same (t .channels) (t .opened) c zeroChannel (omega (arith, g .sized .channels)))
 
+pub opens-old : {t u : Tables} {c : Channel} → Opened t u c → (i : ℕ) → i < t .opened → getD (u .channels) i zeroChannel ≡ getD (t .channels) i zeroChannel
+opens-old {t} {u} {c} o i h = rw (o .channels) (getD-set-other (t .channels) (t .opened) i c zeroChannel (λ e. omega arith))
+
 pub opens-total : {t u : Tables} {c : Channel} → Good t → Opened t u c → t .opened < 32 → totalOf u ≡ totalOf t + 16 + c .n
 opens-total {t} {u} {c} g o few =
     let e : totalOf u ≡ totalOf t + (16 + c .n) = rw (o .opened, o .channels) (sum-set (t .channels) (t .opened) c (omega (arith, g .sized .channels))) in
@@ -74,6 +77,14 @@ closing-closes t j =
     let r = shrunk-rest n v in
     let k = r .keeps in
     record { listed = record { segments = k .segments; list = k .list }; room = k .room; opened = k .opened; channels = k .channels; chain = r .chain }
+
+pub closes-row : {t u : Tables} {j : ℕ} → Good t → Closed t u j → j < t .opened → (i : ℕ) → i < u .opened
+    → getD (u .channels) i zeroChannel ≡ getD (t .channels) (from j i) zeroChannel
+closes-row {t} {u} {j} g o h i a =
+    let n = g .sized .channels in
+    let most = g .channels .most in
+    let less : i < t .opened - 1 = rw (o .opened) at a in
+    rw (o .channels) (without-at zeroChannel zeroChannel j (t .channels) i (omega arith) (omega arith))
 
 -- "R falls by m .. It appends any further chain segments"
 pub record Linked (t u : Tables) (m : ℕ) : Type 0 where
@@ -121,9 +132,9 @@ freeing-listed t row =
 pub effect-listed : {t : Tables} {c : Call} {d : Decision} → Effect t c d → Listed t (d .tables)
 unfolding granting sharingLast bounding
 effect-listed {t} (resets {flags}) = resetting-listed t flags
-effect-listed {t} (opens c e low new device few fits) = opening-opens t c .listed
+effect-listed {t} (opens c e m low new device few fits) = opening-opens t c .listed
 effect-listed {t} (closes {channel} h) = closing-closes t _ .listed
-effect-listed (reads h l) = record { segments = refl; list = refl }
+effect-listed (reads h) = record { segments = refl; list = refl }
 effect-listed (writes h l) = record { segments = refl; list = refl }
 effect-listed (names h) = record { segments = refl; list = refl }
 effect-listed counts = record { segments = refl; list = refl }

@@ -8,6 +8,7 @@ use Prim.Native.Nat.{ℕ, _+_, _-_, _≤_, _<_}
 use borrow.Author.Tests.{ltb-true, ltb-false, leb-false, eqb-true, eqb-false, not-true, not-false}
 use lib.Dec.{eqb, ltb, leb}
 use lib.ListN.{length}
+use Rattle.line.specs.Definition.Given.{givenOf}
 use Rattle.line.specs.Definition.Guard.{guarded}
 use Rattle.modules.specs.Definition.Counter.{counter}
 use Rattle.modules.specs.Definition.Judging.{judged, putsIn, refusalOf, usedOf}
@@ -58,12 +59,13 @@ plain-is answer e =
 -- a call, no start, that was done on the tables t, and what was decided
 pub data Effect (t : Tables) : Call → Decision → Type 0 where
   resets : {flags : ℕ} → Effect t (reset flags) (gives (Done 0 0) (resetting t flags) changing cleared flags)
-  opens : {channel driver n : ℕ} {name : List ℕ} (c : Channel) → c .number ≡ channel → channel < 255 → t .opened ≤ channelAt t (c .number) → c .device < t .known
+  opens : {channel driver n : ℕ} {name : List ℕ} (c : Channel) → c .number ≡ channel → c .n ≡ n → channel < 255 → t .opened ≤ channelAt t (c .number) → c .device < t .known
       → t .opened < 32 → roomFor t (t .room) (totalOf t + (16 + c .n)) ≡ true
       → Effect t («open» channel driver n name) (gives (Done (c .device) (c .unit)) (opening t c) changing appended c)
   closes : {channel : ℕ} → channelAt t channel < t .opened → Effect t (close channel) (gives (Done 0 0) (closing t (channelAt t channel)) changing removed (channelAt t channel))
-  reads : {channel offset size : ℕ} → channelAt t channel < t .opened → offset + size ≤ sizeAt t (channelAt t channel)
-      → Effect t (read channel offset size) (gives (Done 0 size) t filling from-buffer (channelAt t channel) offset size)
+  reads : {channel offset size : ℕ} → channelAt t channel < t .opened
+      → Effect t (read channel offset size)
+      (let b = givenOf (sizeAt t (channelAt t channel)) offset size in gives (Done 0 b) t filling from-buffer (channelAt t channel) offset b)
   writes : {channel offset : ℕ} {bytes : List ℕ} → channelAt t channel < t .opened → offset + length bytes ≤ sizeAt t (channelAt t channel)
       → Effect t (write channel offset bytes) (gives (Done 0 (length bytes)) t changing in-buffer (channelAt t channel) offset bytes)
   names : {unit : ℕ} {name : List ℕ} → DefaultName name
@@ -120,7 +122,7 @@ module _ (t : Tables) (ram : ℕ) where
         either (not (eqb driver 0)) (λ e. drives (eqb-false driver 0 (not-true _ e))) (λ _.
         past (leb 32 (t .opened)) _ refl (λ few.
         past (not (roomFor t (t .room) (totalOf t + (16 + n)))) _ refl (λ fits.
-        does refl (opens (newChannel channel (deviceFor t w) (w .unit) n) refl low new (leb-false _ _ device) (leb-false _ _ few) (not-false _ fits))))))
+        does refl (opens (newChannel channel (deviceFor t w) (w .unit) n) refl refl low new (leb-false _ _ device) (leb-false _ _ few) (not-false _ fits))))))
 
     open-named : (r : Option Reading) → Verdict t ram («open» channel driver n name) (onOpenNamed t channel driver n r)
     unfolding onOpenNamed
@@ -153,11 +155,10 @@ module _ (t : Tables) (ram : ℕ) where
   heard-verdict output (close channel) = past (leb (t .opened) (channelAt t channel)) _ refl (λ e. does refl (closes (leb-false _ _ e)))
   heard-verdict output (read channel offset size) =
       past (leb (t .opened) (channelAt t channel)) _ refl (λ e.
-      past (ltb (sizeAt t (channelAt t channel)) (offset + size) || ltb output size) _ refl (λ f.
-      does refl (reads (leb-false _ _ e) (ltb-false _ _ (or-left _ (ltb output size) f)))))
+      past (ltb output (givenOf (sizeAt t (channelAt t channel)) offset size)) _ refl (λ _. does refl (reads (leb-false _ _ e))))
   heard-verdict output (write channel offset bytes) =
       past (leb (t .opened) (channelAt t channel)) _ refl (λ e.
-      past (ltb (sizeAt t (channelAt t channel)) (offset + length bytes)) _ refl (λ f. does refl (writes (leb-false _ _ e) (ltb-false _ _ f))))
+      past _ _ refl (λ f. does refl (writes (leb-false _ _ e) (ltb-false _ _ f))))
   heard-verdict output (default unit name) = past (not (defaultNameTest name)) _ refl (λ e. does refl (names (default-right name (not-false _ e))))
   heard-verdict output status = past (ltb output 5) _ refl (λ _. does refl counts)
   heard-verdict output (link m name) =
@@ -182,11 +183,11 @@ module _ (t : Tables) (ram : ℕ) where
       (freed caller row (eqb (classAt t row) (classFor caller)) refl (and-right (ltb row (t .segments)) _ may)))))
   heard-verdict output (store segment offset bytes) =
       past (not (mayReach t (rowOf t segment))) _ refl (λ e.
-      past (ltb (reachOf t (rowOf t segment)) (offset + length bytes)) _ refl (λ f.
+      past _ _ refl (λ f.
       past (guarded (rowOf t segment) offset (length bytes)) _ refl (λ _. does refl (stores (not-false _ e) (ltb-false _ _ f)))))
   heard-verdict output (load segment offset size) =
       past (not (mayReach t (rowOf t segment))) _ refl (λ e.
-      past (ltb (reachOf t (rowOf t segment)) (offset + size) || ltb output size) _ refl (λ f.
+      past _ _ refl (λ f.
       does refl (loads (not-false _ e) (ltb-false _ _ (or-left _ (ltb output size) f)))))
   heard-verdict output (load-module segment page offset stream) =
       let target = targetOf t (rowOf t segment) page in

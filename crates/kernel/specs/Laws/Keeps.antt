@@ -30,11 +30,11 @@ use Rattle.kernel.specs.declared.Answer.the-variants.{Done, BadStart}
 
 effect-keeps : {t : Tables} {c : Call} {d : Decision} → Good t → Effect t c d → Good (d .tables)
 effect-keeps {t} g (resets {flags}) = resetting-keeps t flags g
-effect-keeps {t} g (opens c e low new device few fits) =
+effect-keeps {t} g (opens c e m low new device few fits) =
     opening-keeps t c g few (omega arith) device
     (place-none (t .channels) (c .number) (t .opened) (omega (arith, g .sized .channels, g .channels .most)) new) fits
 effect-keeps {t} g (closes {channel} h) = closing-keeps t (channelAt t channel) g h
-effect-keeps g (reads h l) = g
+effect-keeps g (reads h) = g
 effect-keeps g (writes h l) = g
 effect-keeps {t} g (names {unit} {name} h) = naming-keeps t (wordOf name) (length name) unit g (word-good name h) (h .0)
 effect-keeps g counts = g

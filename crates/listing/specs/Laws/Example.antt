@@ -1,12 +1,12 @@
--- 01's example of a listing, to the letter.
+-- 01's example of a listing, to the letter; order 2: "The line `6 13 0 0` of 01's listing becomes `6 0 0 1 55`."
 -- It is shown a record at a time, whatever bytes the RAM has: one computation over all would write 65,536 bytes anew for each byte put.
 use mathlib.Core.Path.{_≡_, refl, ap, _∙_}
 use mathlib.Core.List.{List, [], _∷_, _++_}
-use Prim.Native.Nat.{ℕ, zero, suc}
+use Prim.Native.Nat.{ℕ, zero, suc, _≤_}
 use Prim.Native.Char.{code}
 use Prim.Native.String.{String, [] as []ˢ, _∷_ as _∷ˢ_}
 use native.Mathlib.Omega.{arith}
-use lib.ListN.{length, getD, drop, set, replicate, length-replicate, length-set, length-drop}
+use lib.ListN.{length, getD, drop, set, replicate, length-append, length-replicate, length-set, length-drop}
 use lib.Seq.{getD-set-same, getD-set-other}
 use Rattle.rows.specs.Definition.Lists.{upTo}
 use Rattle.rows.specs.Definition.Sizes.{chainLength, boundaryAt}
@@ -62,7 +62,7 @@ output =
     ∷ "22 0 255 10958"
     ∷ "8 0 0 2"
     ∷ "6 0 0 2 aa55"
-    ∷ "6 13 0 0"
+    ∷ "6 0 0 1 55"
     ∷ "3 0 0 0"
     ∷ "22 0 255 11074"
     ∷ []
@@ -137,23 +137,35 @@ said-6 =
     says Any Any 6 (refl, refl, refl) refl refl
     (λ ram out h g p. record { line-is = refl; ram-length = length-put _ _ ram _ ∙ h; output-length = g; such = tt }) said-7
 
-said-5 : Says Any 5
-unfolding left frontOf lentTo lineOf showsOf fieldsOf decimalOf decimalIn
-said-5 = says Any Any 5 (refl, refl, refl) refl refl (λ ram out h g p. record { line-is = refl; ram-length = h; output-length = g; such = tt }) said-6
-
-shown : (x y : ℕ) (out : List ℕ) → x ≡ 0xAA → y ≡ 0x55 → lineOf 6 0 0 2 (filled 2 (x ∷ y ∷ []) out) ≡ lineWith "6 0 0 2 aa55"
+shown-one : (x : ℕ) (out : List ℕ) → x ≡ 0x55 → lineOf 6 0 0 1 (filled 1 (x ∷ []) out) ≡ lineWith "6 0 0 1 55"
 unfolding lineOf showsOf fieldsOf decimalOf decimalIn filled
-shown x y out e f = rw (e, f)
+shown-one x out e = rw e
 
-filled-length : (x y : ℕ) (out : List ℕ) → length out ≡ 4096 → length (filled 2 (x ∷ y ∷ []) out) ≡ 4096
+shown-two : (x y : ℕ) (out : List ℕ) → x ≡ 0xAA → y ≡ 0x55 → lineOf 6 0 0 2 (filled 2 (x ∷ y ∷ []) out) ≡ lineWith "6 0 0 2 aa55"
+unfolding lineOf showsOf fieldsOf decimalOf decimalIn filled
+shown-two x y out e f = rw (e, f)
+
+filled-length : (xs out : List ℕ) → length xs ≤ 4096 → length out ≡ 4096 → length (filled (length xs) xs out) ≡ 4096
 unfolding filled
-filled-length x y out g = rw length-drop (omega arith)
+filled-length xs out h g = omega (arith, length-append xs (drop (length xs) out), length-drop (length xs) out)
+
+-- the byte on position 115 is all that remains
+said-5 : Says Written 5
+unfolding left frontOf lentTo filled bytesFrom placeOf chainIndexOf offsetOf
+said-5 =
+    says Written Any 5 (refl, refl, refl) refl refl
+    (λ ram out h g p. record { line-is = shown-one (getD ram 60110 0) out (p .1); ram-length = h; output-length = filled-length (getD ram 60110 0 ∷ []) out (omega arith) g; such = tt }) said-6
 
 said-4 : Says Written 4
 unfolding left frontOf lentTo filled bytesFrom placeOf chainIndexOf offsetOf
 said-4 =
-    says Written Any 4 (refl, refl, refl) refl refl
-    (λ ram out h g p. record { line-is = shown (getD ram 60111 0) (getD ram 60110 0) out (p .0) (p .1); ram-length = h; output-length = filled-length (getD ram 60111 0) (getD ram 60110 0) out g; such = tt }) said-5
+    says Written Written 4 (refl, refl, refl) refl refl
+    (λ ram out h g p. record {
+      line-is = shown-two (getD ram 60111 0) (getD ram 60110 0) out (p .0) (p .1);
+      ram-length = h;
+      output-length = filled-length (getD ram 60111 0 ∷ getD ram 60110 0 ∷ []) out (omega arith) g;
+      such = p;
+    }) said-5
 
 said-3 : Says Any 3
 unfolding left frontOf lentTo lineOf showsOf fieldsOf decimalOf decimalIn putFrom placeOf chainIndexOf offsetOf

@@ -3,12 +3,11 @@ use mathlib.Core.Path.{_≡_, refl}
 use mathlib.Core.Bool.{Bool, true, false, cond, false≢true}
 use mathlib.Core.List.{List, [], _∷_, _++_}
 use mathlib.Core.Logic.{inl, inr}
-use Prim.Native.Nat.{ℕ, _+_, _<_}
-use lib.ListN.{getD}
+use Prim.Native.Nat.{ℕ}
 use Rattle.kernel.specs.Definition.Answers.{granted}
 use Rattle.kernel.specs.Definition.Calls.{Call, start, reset, «open», close, read, write, default, status, link, boundary, set-user-boundary, allocate, free, store, load, load-module, no-call, short-start}
 use Rattle.kernel.specs.Definition.Step.{Result, heard, decided, completed, step}
-use Rattle.history.specs.Definition.Runs.{State, History, after, event, stay, then, Run, LastWritten}
+use Rattle.history.specs.Definition.Runs.{State, History, after, event, stay, then, Run, ReadRight}
 use Rattle.history.specs.Bytes.BytesRead.{bytes-read}
 use Rattle.replay.specs.Definition.Replay.{EventRecord, records, asked, replayed}
 use Rattle.replay.specs.Definition.Runs.{stateOf, callOf, eventOf, acceptedStart, since, HasAcceptedStart}
@@ -71,12 +70,12 @@ replayed-last : (m : Result) (rs : List EventRecord) (q : EventRecord) → repla
 replayed-last m [] q = refl
 replayed-last m (r ∷ rs) q = replayed-last (asked m r) rs q
 
--- The last record of a replayed buffer is a read, and is done: each byte that it gives is the one last written there through that channel since its
--- opening, or zero if none was.
+-- The last record of a replayed buffer is a read, and is done: what it gives is what it should, as many bytes as remain of what the channel was opened
+-- with, up to the length asked, and each the one last written there through that channel since its opening, or zero if none was.
 pub last-read : (m : Result) (xs : List ℕ) (rs : List EventRecord) (q : EventRecord) → records xs ≡ rs ++ (q ∷ []) → HasAcceptedStart m rs
     → (channel offset size : ℕ) → callOf q ≡ read channel offset size → granted (replayed m (records xs) .answer) ≡ true
-    → (i : ℕ) → i < size → LastWritten channel (offset + i) (since [] m rs) (getD (replayed m (records xs) .output) i 0)
-last-read m xs rs q e s channel offset size is done i h =
+    → ReadRight channel offset size (since [] m rs)
+    (record { call = callOf q; answer = replayed m (records xs) .answer; output = replayed m (records xs) .output })
+last-read m xs rs q e s channel offset size is done =
     let last = replayed-last m rs q in
-    let given = bytes-read (run-from [] m rs s) channel offset size (replayed m rs .output) in
-    rw (e, last, is) (given (rw (e, last, is) at done) i h)
+    rw (e, last, is) (bytes-read (run-from [] m rs s) channel offset size (replayed m rs .output) (rw (e, last, is) at done))

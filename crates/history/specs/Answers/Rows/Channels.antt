@@ -1,27 +1,27 @@
 -- Close, read and write.
 use mathlib.Core.Path.{refl}
+use mathlib.Core.Bool.{Bool}
 use mathlib.Core.List.{List}
-use mathlib.Core.Logic.{_⊎_, inl, inr, ⊎-elim}
 use Prim.Native.Nat.{ℕ, _+_, _<_}
 use native.Mathlib.Omega.{arith}
 use borrow.Author.Tests.{leb-false}
-use lib.Dec.{ltb}
 use lib.ListN.{length}
-use Rattle.rows.specs.Laws.Says.{Says, says-lt, says-no, says-or, says-as}
+use Rattle.line.specs.Definition.Given.{givenOf}
+use Rattle.rows.specs.Laws.Says.{Says, says-lt, says-no, says-as}
 use Rattle.kernel.specs.Definition.Tables.{channelAt}
 use Rattle.kernel.specs.Definition.Good.{Good}
 use Rattle.kernel.specs.Definition.Line.{sizeAt}
 use Rattle.kernel.specs.Definition.Calls.{close, read, write, onClose, onRead, onWrite}
-use Rattle.kernel.specs.Definition.Refusals.{Row, OpenAt, NotOpen, close-channel, read-channel, write-channel, read-end, read-output, write-end}
+use Rattle.kernel.specs.Definition.Refusals.{Row, OpenAt, NotOpen, close-channel, read-channel, write-channel, read-output, write-end}
 use Rattle.kernel.specs.declared.Tables.{Tables}
 use Rattle.kernel.specs.declared.Answer.the-variants.{NoChannel, BadRange}
 use Rattle.history.specs.Answers.Lowest.{Below, Lowest, end, rule}
 use Rattle.history.specs.Answers.Numbers.{by-rows, by-none}
 use Rattle.history.specs.Answers.Found.{open-at, open-one, not-open-says}
 
--- an open channel's row whose buffer ends before an offset
-abbrev Past : Tables → (channel stop : ℕ) → Type 0
-Past t channel stop = (i : ℕ) × OpenAt t channel i × (sizeAt t i < stop)
+-- the channel is open, and P of the size of its buffer
+abbrev SizeIs : Tables → (channel : ℕ) → (ℕ → Type 0) → Type 0
+SizeIs t channel P = (i : ℕ) × OpenAt t channel i × P (sizeAt t i)
 
 module _ {t : Tables} {ram output : ℕ} where
   close-3 : {channel : ℕ} → Row t ram output (close channel) 3 → NotOpen t channel
@@ -33,21 +33,18 @@ module _ {t : Tables} {ram output : ℕ} where
   write-3 : {channel offset : ℕ} {bytes : List ℕ} → Row t ram output (write channel offset bytes) 3 → NotOpen t channel
   write-3 (write-channel n) = n
 
-  read-13 : {channel offset size : ℕ} → Row t ram output (read channel offset size) 13 → Past t channel (offset + size) ⊎ (output < size)
-  read-13 (read-end {i = i} o h) = inl (i, o, h)
-  read-13 (read-output h) = inr h
+  read-13 : {channel offset size : ℕ} → Row t ram output (read channel offset size) 13 → SizeIs t channel (λ n. output < givenOf n offset size)
+  read-13 (read-output {i = i} o h) = (i, o, h)
 
-  write-13 : {channel offset : ℕ} {bytes : List ℕ} → Row t ram output (write channel offset bytes) 13 → Past t channel (offset + length bytes)
+  write-13 : {channel offset : ℕ} {bytes : List ℕ} → Row t ram output (write channel offset bytes) 13 → SizeIs t channel (λ n. n < offset + length bytes)
   write-13 (write-end {i = i} o h) = (i, o, h)
 
 module _ (t : Tables) (g : Good t) (ram output : ℕ) where
-  -- 13 RANGE, of a channel that is open: "offset + length past the end"
-  past-says : (channel stop : ℕ) → ¬ NotOpen t channel → Says (ltb (sizeAt t (channelAt t channel)) stop) (Past t channel stop)
-  past-says channel stop n =
+  -- a test of the size of the buffer of a channel that is open
+  size-says : (channel : ℕ) {test : Bool} (P : ℕ → Type 0) → ¬ NotOpen t channel → Says test (P (sizeAt t (channelAt t channel))) → Says test (SizeIs t channel P)
+  size-says channel P n s =
       let h = leb-false (t .opened) (channelAt t channel) (says-no (not-open-says t g channel) n) in
-      says-as (says-lt (sizeAt t (channelAt t channel)) stop)
-      (λ a. (channelAt t channel, open-at t g channel h, a))
-      (λ (i, o, a). rw (open-one t g channel i o) a)
+      says-as s (λ a. (channelAt t channel, open-at t g channel h, a)) (λ (i, o, a). rw (open-one t g channel i o) a)
 
   pub close-lowest : (channel : ℕ) → Below (Row t ram output (close channel)) 2 → Lowest (Row t ram output (close channel)) (onClose t channel)
   unfolding onClose
@@ -64,8 +61,8 @@ module _ (t : Tables) (g : Good t) (ram output : ℕ) where
       by-rows (read channel offset size) _
       (rule NoChannel refl (λ _. says-as (not-open-says t g channel) read-channel read-3)
       (rule BadRange refl (λ low.
-      says-as (says-or (past-says channel (offset + size) (λ n. low 3 (omega arith) (read-channel n))) (says-lt output size))
-      (⊎-elim (λ (i, o, h). read-end o h) read-output) read-13)
+      says-as (size-says channel (λ n. output < givenOf n offset size) (λ n. low 3 (omega arith) (read-channel n)) (says-lt _ _))
+      (λ (i, o, h). read-output o h) read-13)
       end))
       (by-none (read channel offset size) _ refl refl)
 
@@ -76,6 +73,7 @@ module _ (t : Tables) (g : Good t) (ram output : ℕ) where
       by-rows (write channel offset bytes) _
       (rule NoChannel refl (λ _. says-as (not-open-says t g channel) write-channel write-3)
       (rule BadRange refl (λ low.
-      says-as (past-says channel (offset + length bytes) (λ n. low 3 (omega arith) (write-channel n))) (λ (i, o, h). write-end o h) write-13)
+      says-as (size-says channel (λ n. n < offset + length bytes) (λ n. low 3 (omega arith) (write-channel n)) (says-lt _ _))
+      (λ (i, o, h). write-end o h) write-13)
       end))
       (by-none (write channel offset bytes) _ refl refl)

@@ -1,9 +1,7 @@
 -- `read_good` meets its contract: each refusal and the read are a branch of `onRead`, and the buffer lies inside the line.
 use native.Mathlib.Omega.{arith}
-use borrow.Author.Tests.{ltb-false}
-use Rattle.rows.specs.Laws.Lists.{or-left, or-right}
-use Rattle.kernel.proofs.Spans.{Open, open-at, open-none, bytes-chain}
-use Rattle.kernel.proofs.Accessing.{read-closed, read-beyond, read-done}
+use Rattle.kernel.proofs.Spans.{Open, open-at, open-none, given-chain}
+use Rattle.kernel.proofs.Accessing.{read-closed, read-short, read-done}
 use borrow.Author.Needs.{needs}
 use Rattle.kernel.proofs.Tables.read_good.Statement.{statement}
 use Rattle.kernel.proofs.Tables.read_good.Tie as tie
@@ -39,14 +37,14 @@ wide16-requires-2 c κs = search needs
 size-at-requires : tie.Need-size-at-requires
 size-at-requires c κs = placed (c .before .before) .row
 
-beyond-requires : tie.Need-beyond-requires
-beyond-requires c κs = search needs
+given-requires : tie.Need-given-requires
+given-requires c κs = search needs
 
 refuse-requires-2 : tie.Need-refuse-requires-2
 refuse-requires-2 c κs = search needs
 
 returns-2 : tie.Need-returns-2
-returns-2 c = rw (c .refuse2 .ensures) (read-beyond _ _ _ _ _ _ _ (placed (c .before .before .before .before .before .before)) _ _ _ _ (c .before .before .before .size-at .ensures .0) (c .before .before .before .before .before .wide16 .ensures .0) (c .before .before .before .before .wide162 .ensures .0) (c .before .before .beyond .ensures) (c .before .if1 .taken))
+returns-2 c = rw (c .refuse2 .ensures) (read-short _ _ _ _ _ _ _ (placed (c .before .before .before .before .before .before)) _ _ _ _ (c .before .before .before .size-at .ensures .0) (c .before .before .before .before .before .wide16 .ensures .0) (c .before .before .before .before .wide162 .ensures .0) (c .before .before .given .ensures .0) (c .before .if1 .taken))
 
 wide16-requires-3 : tie.Need-wide16-requires-3
 wide16-requires-3 c κs = search needs
@@ -58,13 +56,16 @@ add-start : tie.Need-add-start
 add-start c = search needs
 
 get-requires : tie.Need-get-requires
-get-requires c κs = (ltb-false _ _ (or-right (c .before .before .before .before .before .before .beyond .result) _ (c .before .before .before .before .before .if1 .left)), bytes-chain (c .before .before .before .before .before .before .before .before .before .before .before .before .before .before .before .before .before .before .args .self) _ _ _ _ (c .before .before .before .before .before .before .before .before .before .before .before .before .before .before .before .before .before .before .pre .0) (placed (c .before .before .before .before .before .before .before .before .before .before) .among) (c .before .before .before .wide163 .ensures .0) (c .before .before .buffer-at .ensures .0) (c .before .before .before .before .before .before .before .size-at .ensures .0) _ _ _ _ (c .before .before .before .before .before .before .before .before .before .before .before .before .before .before .before .before .before .before .pre .1) (c .before .before .before .before .before .before .beyond .ensures) (or-left (c .before .before .before .before .before .before .beyond .result) _ (c .before .before .before .before .before .if1 .left)))
+get-requires c κs = (c .before .before .before .before .before .if1 .left, λ some. given-chain (c .before .before .before .before .before .before .before .before .before .before .before .before .before .before .before .before .before .before .args .self) _ _ _ _ (c .before .before .before .before .before .before .before .before .before .before .before .before .before .before .before .before .before .before .pre .0) (placed (c .before .before .before .before .before .before .before .before .before .before) .among) (c .before .before .before .wide163 .ensures .0) (c .before .before .buffer-at .ensures .0) (c .before .before .before .before .before .before .before .size-at .ensures .0) _ _ _ _ (c .before .before .before .before .before .before .before .before .before .before .before .before .before .before .before .before .before .before .pre .1) (c .before .before .before .before .before .before .given .ensures .0) some)
+
+cast-t25 : tie.Need-cast-t25
+cast-t25 c = omega (arith, c .before .before .before .before .before .before .before .before .before .given .ensures .1, c .before .before .before .before .before .before .before .before .before .before .before .wide162 .ensures .1)
 
 same-length : tie.Need-same-length
 same-length c = search needs
 
 returns-3 : tie.Need-returns-3
-returns-3 c = read-done _ _ _ _ _ _ _ (placed (c .before .before .before .before .before .before .before .before .before .before .before .before .before)) _ _ _ _ (c .before .before .before .before .before .before .before .before .before .before .size-at .ensures .0) (c .before .before .before .before .before .before .before .before .before .before .before .before .wide16 .ensures .0) (c .before .before .before .before .before .before .before .before .before .before .before .wide162 .ensures .0) (c .before .before .before .before .before .before .before .before .before .beyond .ensures) (c .before .before .before .before .before .before .before .before .if1 .left) _ _ _ (c .before .before .before .before .before .before .wide163 .ensures .0) (c .before .before .before .before .before .buffer-at .ensures .0) (c .before .before .get .ensures)
+returns-3 c = read-done _ _ _ _ _ _ _ (placed (c .before .before .before .before .before .before .before .before .before .before .before .before .before)) _ _ _ _ (c .before .before .before .before .before .before .before .before .before .before .size-at .ensures .0) (c .before .before .before .before .before .before .before .before .before .before .before .before .wide16 .ensures .0) (c .before .before .before .before .before .before .before .before .before .before .before .wide162 .ensures .0) (c .before .before .before .before .before .before .before .before .before .given .ensures .0) (c .before .before .before .before .before .before .before .before .if1 .left) _ _ _ (c .before .before .before .before .before .before .wide163 .ensures .0) (c .before .before .before .before .before .buffer-at .ensures .0) (c .before .before .get .ensures)
 
 pub read-good-spec : {M : Type 1} → statement M
 read-good-spec =
@@ -79,12 +80,13 @@ read-good-spec =
     wide16-requires
     wide16-requires-2
     size-at-requires
-    beyond-requires
+    given-requires
     refuse-requires-2
     returns-2
     wide16-requires-3
     buffer-at-requires
     add-start
     get-requires
+    cast-t25
     same-length
     returns-3)
