@@ -251,11 +251,11 @@ module _ (ram : List ℕ) (four : length ram ≡ 65536) where
 
   four-opened : gives .n ≡ 4
   unfolding lastSize resized decided noTables lettersTest upTo chainLength boundaryAt grown shrunk
-  four-opened = size-one 2 (gives .opened) (last-size 2 _) ∙ alike-size (alike none k₀ calls fit) 2
+  four-opened = size-one 2 (gives .opening) (last-size 2 _) ∙ alike-size (alike none k₀ calls fit) 2
 
   pub three-given : bOf (event s₁ (read 2 1 9) lent .answer) ≡ 3
   unfolding givenOf
-  three-given = gives .number ∙ ap (λ (n : ℕ). givenOf n 1 9) four-opened
+  three-given = ap bOf (gives .number) ∙ ap (λ (n : ℕ). givenOf n 1 9) four-opened
 
   last : (k : ℕ) → lastWritten (tells [] s₀ calls) 2 k ≡ lastWritten (plain [] t₀ calls) 2 k
   last k = alike-written (alike none k₀ calls fit) 2 k

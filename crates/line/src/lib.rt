@@ -95,14 +95,15 @@ pub fn put(ram: &mut [u8], chain: &[u8; 32], room: usize, start: usize, xs: &[u8
     }
 }
 
-// How many bytes a read of `size` bytes from `offset` on gives of a buffer of `n`.
-pub fn given(n: usize, offset: usize, size: usize) -> usize
-    ensures { λ r. ⌜ (r ≡ givenOf n offset size) × (r ≤ size) ⌝ }
+// How many bytes a read gives of a buffer of `n`, where it asks for `asked` bytes from `offset` on.
+pub fn given(n: usize, offset: usize, asked: usize) -> usize
+    ensures { λ r. ⌜ (r ≡ givenOf n offset asked) × (r ≤ asked) ⌝ }
 {
     if n <= offset {
         return 0;
     }
-    if size < n - offset { size } else { n - offset }
+    let rest = n - offset;
+    if asked < rest { asked } else { rest }
 }
 
 // The n bytes on positions start, start + 1, .. come to the front of the output; where n is 0 they need not lie on the line.

@@ -1,15 +1,15 @@
 -- "A byte read from an open channel is the one last written there through that channel since its opening, or zero if none was, however often the buffer moved."
 -- "The byte rule of condition 3 speaks of the bytes given" (order 2).
 use mathlib.Core.Path.{_≡_, refl, sym, ap, subst, _∙_}
-use mathlib.Core.Bool.{true, cond}
-use mathlib.Core.List.{List, _∷_}
+use mathlib.Core.Bool.{true, false, cond}
+use mathlib.Core.List.{List, _∷_, _++_}
 use Prim.Native.Nat.{ℕ, _+_, _≤_, _<_}
 use native.Mathlib.Nat.{not-suc-le-zero}
 use native.Mathlib.Decide.{ℕ-discrete}
 use native.Mathlib.Omega.{arith}
-use borrow.Author.Tests.{eq-eqb, ne-eqb}
-use lib.Dec.{eqb}
-use lib.ListN.{length, getD, drop, List·getD-append}
+use borrow.Author.Tests.{eq-eqb, ne-eqb, lt-ltb, le-ltb, lt-leb}
+use lib.Dec.{eqb, leb}
+use lib.ListN.{length, getD, drop, length-append, List·getD-append}
 use Rattle.rows.specs.Definition.Classes.{SHARED}
 use Rattle.line.specs.Definition.Line.{placeOf, lineFrom}
 use Rattle.line.specs.Definition.Ram.{filled}
@@ -24,18 +24,19 @@ use Rattle.kernel.specs.Definition.Segments.{granting, sharingLast, freeing, bo
 use Rattle.kernel.specs.Definition.Devices.{linking, deviceNamed}
 use Rattle.kernel.specs.Definition.Start.{started}
 use Rattle.kernel.specs.Definition.Answers.{bOf, granted, Decision}
-use Rattle.kernel.specs.Definition.Calls.{Call, read}
+use Rattle.kernel.specs.Definition.Calls.{Call, read, onRead}
 use Rattle.kernel.specs.Definition.Bytes.{from-buffer, ramOpened, ramAfter, outputAfter}
-use Rattle.kernel.specs.Definition.Step.{completed, step}
+use Rattle.kernel.specs.Definition.Step.{heard, decided, completed, step}
 use Rattle.kernel.specs.Definition.Refusals.{OpenAt}
 use Rattle.kernel.specs.Laws.Keeps.{start-passed, start-is}
 use Rattle.kernel.specs.Laws.Effects.{Effect, resets, opens, closes, reads, writes, names, counts, links, tells, bounds, grants, shares, frees, stores, loads, loads-module, effect}
 use Rattle.kernel.specs.Laws.Changes.{opening-opens, closing-closes, linking-links}
-use Rattle.kernel.specs.Laws.Ready.{Ready}
+use Rattle.kernel.specs.Laws.Ready.{Ready, ready-test}
 use Rattle.kernel.specs.declared.Tables.{Tables}
+use Rattle.kernel.specs.declared.Answer.the-variants.{Done, BadRange}
 use Rattle.history.specs.Definition.Runs.{State, History, after, event, Started, NotAccepted, Runs, stay, then, Run, LastSize, ReadRight, ReadsRight}
 use Rattle.history.specs.Bytes.Words.{written, lastWritten, last-written, lastSize, last-size}
-use Rattle.history.specs.Answers.Found.{open-at}
+use Rattle.history.specs.Answers.Found.{open-at, open-one}
 use Rattle.history.specs.Bytes.Buffers.{channelIn, Holds, write-law, open-law, close-law, link-law, store-law, reset-law, load-law}
 use Rattle.history.specs.Bytes.Sized.{Sized, done-sized}
 use Rattle.history.specs.Bytes.Steps.{Sound, done-length, Stepped, refused, done, stepped, step-sound, start-sound}
@@ -105,57 +106,61 @@ run-holds z (then {h = h} {t = t} r c output n _) =
     (step-sound t c output (b .0) n, next .0, next .1)
 
 -- a done read gives the bytes of its channel
-read-known : {t : Tables} {d : Decision} {channel offset size : ℕ} → Effect t (read channel offset size) d
-    → (channelAt t channel < t .opened) × (bOf (d .answer) ≡ givenOf (sizeAt t (channelAt t channel)) offset size)
-    × (d .output ≡ from-buffer (channelAt t channel) offset (givenOf (sizeAt t (channelAt t channel)) offset size))
+read-known : {t : Tables} {d : Decision} {channel offset asked : ℕ} → Effect t (read channel offset asked) d
+    → (channelAt t channel < t .opened) × (d .answer ≡ Done 0 (givenOf (sizeAt t (channelAt t channel)) offset asked))
+    × (d .output ≡ from-buffer (channelAt t channel) offset (givenOf (sizeAt t (channelAt t channel)) offset asked))
 read-known (reads h) = (h, refl, refl)
 
 module _ (t : State) (h : History) (r : Sound t) (holds : Holds (lastWritten h) (t .tables) (t .ram)) (sized : Sized (lastSize h) (t .tables)) where
-  read-gives : (channel offset size : ℕ) (output : List ℕ) → granted (event t (read channel offset size) output .answer) ≡ true
-      → ReadRight channel offset size h (event t (read channel offset size) output)
+  read-gives : (channel offset asked : ℕ) (output : List ℕ) → granted (event t (read channel offset asked) output .answer) ≡ true
+      → ReadRight channel offset asked h (event t (read channel offset asked) output)
   unfolding step completed outputAfter filled
-  read-gives channel offset size output e =
+  read-gives channel offset asked output e =
       let u = t .tables in
       let j = channelAt u channel in
-      let c = read channel offset size in
+      let c = read channel offset asked in
       let n = sizeAt u j in
-      let b = givenOf n offset size in
+      let b = givenOf n offset asked in
       let known = read-known (effect u (length (t .ram)) (length output) c refl e) in
+      let number : bOf (event t c output .answer) ≡ b = ap bOf (known .1) in
       let here : channelIn u j ≡ channel = open-at u (r .good) channel (known .0) .number in
       let walk = placeOf (u .chain) (u .room) in
       let p = bufferAt u j + offset in
-      let many : length (lineFrom (u .chain) (u .room) (t .ram) p b) ≡ b = length-bytes walk (t .ram) p b in
+      let given = lineFrom (u .chain) (u .room) (t .ram) p b in
+      let many : length given ≡ b = length-bytes walk (t .ram) p b in
+      let filled-is : event t c output .output ≡ given ++ drop b output = rw (known .2) in
       record {
         n = n;
-        opened = rw (sized j (known .0), here) (last-size channel h);
+        opening = rw (sized j (known .0), here) (last-size channel h);
         number = known .1;
-        whole = λ l. known .1 ∙ given-whole n offset size l;
+        whole = λ l. number ∙ given-whole n offset asked l;
+        fits = omega (arith, number, many, ap length filled-is, length-append given (drop b output));
         bytes = λ i l.
-            let k : i < b = rw (← known .1) l in
+            let k : i < b = rw (← number) l in
             let at : p + i ≡ bufferAt u j + (offset + i) = omega arith in
-            let byte : getD (event t (read channel offset size) output .output) i 0 ≡ lastWritten h channel (offset + i) =
-            rw (known .2) (List·getD-append (lineFrom (u .chain) (u .room) (t .ram) p b) (drop b output) 0 i (omega arith))
+            let byte : getD (event t c output .output) i 0 ≡ lastWritten h channel (offset + i) =
+            rw filled-is (List·getD-append given (drop b output) 0 i (omega arith))
             ∙ bytes-at walk (t .ram) p b i k
             ∙ ap (λ (x : ℕ). getD (t .ram) (walk x) 0) at
-            ∙ holds j (known .0) (offset + i) (given-inside n offset size i k)
+            ∙ holds j (known .0) (offset + i) (given-inside n offset asked i k)
             ∙ ap (λ (x : ℕ). lastWritten h x (offset + i)) here in
             rw byte (last-written channel (offset + i) h);
       }
 
--- A read that is done after any sequence of calls since an accepted start, with no second start, gives what it should: as many bytes as remain of what the
--- channel was opened with, up to the length asked, and each of them the one last written there through that channel since its opening, or zero if none was.
-pub bytes-read : {h : History} {t : State} → Run h t → (channel offset size : ℕ) (output : List ℕ)
-    → granted (event t (read channel offset size) output .answer) ≡ true
-    → ReadRight channel offset size h (event t (read channel offset size) output)
+-- A read that is done after any sequence of calls since an accepted start, with no second start, gives as many bytes as remain of the n that the channel was
+-- opened with, up to the length asked, and each of them is the one last written there through that channel since its opening, or zero if none was.
+pub bytes-read : {h : History} {t : State} → Run h t → (channel offset asked : ℕ) (output : List ℕ)
+    → granted (event t (read channel offset asked) output .answer) ≡ true
+    → ReadRight channel offset asked h (event t (read channel offset asked) output)
 bytes-read {h} {t} r = let b = run-holds (r .started) (r .runs) in read-gives t h (b .0) (b .1) (b .2)
 
 right : {P : State → Type 0} {s t : State} {h : History} → Started s → Runs P s h t → ReadsRight h
 right z (stay _) = tt
 right z (then {h = h} {t = t} r c output n _) =
     let b = run-holds z r in (
-      λ channel offset size q.
-          subst (λ (x : Call). granted (event t x output .answer) ≡ true → ReadRight channel offset size h (event t x output))
-          (sym q) (read-gives t h (b .0) (b .1) (b .2) channel offset size output),
+      λ channel offset asked q.
+          subst (λ (x : Call). granted (event t x output .answer) ≡ true → ReadRight channel offset asked h (event t x output))
+          (sym q) (read-gives t h (b .0) (b .1) (b .2) channel offset asked output),
       right z r,
     )
 
@@ -163,8 +168,21 @@ right z (then {h = h} {t = t} r c output n _) =
 pub reads-right : {h : History} {t : State} → Run h t → ReadsRight h
 reads-right r = right (r .started) (r .runs)
 
--- The size that the tables have for an open channel is the one that it was last opened with.
+-- The n that the tables have for an open channel is the one that it was last opened with.
 pub buffer-size : {h : History} {t : State} → Run h t → (channel row : ℕ) → OpenAt (t .tables) channel row → LastSize channel h (sizeAt (t .tables) row)
 buffer-size {h} {t} r channel row o =
     let b = run-holds (r .started) (r .runs) in
     rw (b .2 row (o .row), o .number) (last-size channel h)
+
+-- "read gives RANGE only where the lent output is shorter than what it would give": a read of an open channel is done, or refused for that alone.
+pub read-exactly : {h : History} {t : State} → Run h t → (channel row : ℕ) → OpenAt (t .tables) channel row → (offset asked : ℕ) (output : List ℕ)
+    → let b = givenOf (sizeAt (t .tables) row) offset asked in
+    (b ≤ length output → event t (read channel offset asked) output .answer ≡ Done 0 b)
+    × (length output < b → event t (read channel offset asked) output .answer ≡ BadRange)
+unfolding step decided heard completed onRead
+read-exactly {h} {t} r channel row o offset asked output =
+    let s = run-holds (r .started) (r .runs) .0 in
+    let b = givenOf (sizeAt (t .tables) row) offset asked in
+    let here : channelAt (t .tables) channel ≡ row = open-one (t .tables) (s .good) channel row o in
+    let is-open : leb (t .tables .opened) row ≡ false = lt-leb (t .tables .opened) row (o .row) in
+    (λ l. rw (ready-test s, here, is-open, le-ltb (length output) b l), λ l. rw (ready-test s, here, is-open, lt-ltb (length output) b l))

@@ -1,17 +1,17 @@
 -- The size of an open channel's buffer is the one that it was last opened with.
-use mathlib.Core.Path.{_≡_, sym, ap, subst, _∙_}
+use mathlib.Core.Path.{_≡_, sym, ap, _∙_}
 use mathlib.Core.Bool.{cond}
-use Prim.Native.Nat.{ℕ, _<_}
+use Prim.Native.Nat.{ℕ, _-_, _<_}
 use native.Mathlib.Nat.{not-suc-le-zero}
 use native.Mathlib.Decide.{decLt, ℕ-discrete}
 use native.Mathlib.Omega.{arith}
 use borrow.Author.Tests.{eq-eqb, ne-eqb}
-use mathlib.Core.List.{List}
+use mathlib.Core.List.{[]}
 use lib.Dec.{eqb}
 use lib.ListN.{getD}
 use Rattle.rows.specs.Definition.Channels.{zeroChannel}
 use Rattle.rows.specs.Definition.Classes.{SHARED}
-use Rattle.rows.specs.Laws.ChannelRows.{from, from-low, from-high}
+use Rattle.rows.specs.Laws.ChannelRows.{from, from-most}
 use Rattle.rows.specs.declared.Channel.{Channel}
 use Rattle.kernel.specs.Definition.Tables.{classAt, rowOf, channelAt}
 use Rattle.kernel.specs.Definition.Good.{Good}
@@ -35,22 +35,25 @@ module _ (t : Tables) (g : Good t) (f : ℕ → ℕ) (sized : Sized f t) where
   open-sized : (u : Tables) (c : Channel) → Good u → Opened t u c → t .opened < 32 → Sized (λ d. cond (eqb (c .number) d) (c .n) (f d)) u
   open-sized u c s o few i a =
       let new : getD (u .channels) (t .opened) zeroChannel ≡ c = opens-row g o few in
+      let last : channelIn u (t .opened) ≡ c .number = ap (λ (x : Channel). x .number) new in
       elim (decLt i (t .opened)) [
         | yes h ↦
             let old : getD (u .channels) i zeroChannel ≡ getD (t .channels) i zeroChannel = opens-old o i h in
-            let apart : c .number ≡ channelIn t i → ⊥ = λ e.
-            s .channels .differ i (t .opened) h (omega (arith, o .opened)) (ap (λ (x : Channel). x .number) old ∙ sym e ∙ sym (ap (λ (x : Channel). x .number) new)) in
-            rw (old, ne-eqb (c .number) (channelIn t i) apart) (sized i h)
+            let number : channelIn u i ≡ channelIn t i = ap (λ (x : Channel). x .number) old in
+            let apart : c .number ≡ channelIn t i → ⊥ = λ e. s .channels .differ i (t .opened) h (omega (arith, o .opened)) (number ∙ sym e ∙ sym last) in
+            rw (number, ne-eqb (c .number) (channelIn t i) apart) (ap (λ (x : Channel). x .n) old ∙ sized i h)
         | no h ↦
             let q : i ≡ t .opened = omega (arith, o .opened) in
-            rw (q, new, eq-eqb (c .number) (c .number) refl)
+            rw (q, eq-eqb (c .number) (channelIn u (t .opened)) (sym last)) (ap (λ (x : Channel). x .n) new)
       ]
 
   close-sized : (u : Tables) (j : ℕ) → Closed t u j → j < t .opened → Sized f u
   close-sized u j o h i a =
+      let row : getD (u .channels) i zeroChannel ≡ getD (t .channels) (from j i) zeroChannel = closes-row g o h i a in
       let less : i < t .opened - 1 = rw (o .opened) at a in
-      let within : from j i < t .opened = elim (decLt i j) [ yes l ↦ omega (arith, from-low j i l) | no l ↦ omega (arith, from-high j i (omega arith)) ] in
-      rw (closes-row g o h i a) (sized (from j i) within)
+      ap (λ (x : Channel). x .n) row
+      ∙ sized (from j i) (omega (arith, from-most j i))
+      ∙ sym (ap (λ (x : Channel). f (x .number)) row)
 
   link-sized : (u : Tables) (m : ℕ) → Linked t u m → Sized f u
   link-sized u m o i a = rw (o .channels) (sized i (rw (o .opened) at a))

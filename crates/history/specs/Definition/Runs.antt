@@ -13,6 +13,7 @@ use Rattle.kernel.specs.Definition.Calls.{Call, start, «open», read, write, s
 use Rattle.kernel.specs.Definition.Step.{step}
 use Rattle.kernel.specs.declared.Tables.{Tables}
 use Rattle.kernel.specs.declared.Answer.{Answer}
+use Rattle.kernel.specs.declared.Answer.the-variants.{Done}
 
 -- what a call is made on
 pub record State : Type 0 where
@@ -115,18 +116,19 @@ abbrev pub LastSize : (channel : ℕ) → History → ℕ → Type 0
 LastSize channel = Last (Sizes channel) 0
 
 -- "The byte rule of condition 3 speaks of the bytes given" (order 2): what the done read e gave after the history h, of a buffer of n bytes
-pub record ReadRight (channel offset size : ℕ) (h : History) (e : Event) : Type 0 where
+pub record ReadRight (channel offset asked : ℕ) (h : History) (e : Event) : Type 0 where
   pub n : ℕ
-  pub opened : LastSize channel h n
-  -- "b is their number"
-  pub number : bOf (e .answer) ≡ givenOf n offset size
+  pub opening : LastSize channel h n
+  -- "the bytes that remain, up to the length asked; b is their number"
+  pub number : e .answer ≡ Done 0 (givenOf n offset asked)
   -- all that was asked, wherever the buffer has it
-  pub whole : offset + size ≤ n → bOf (e .answer) ≡ size
-  -- "A byte read from an open channel is the one last written there"
+  pub whole : offset + asked ≤ n → bOf (e .answer) ≡ asked
+  -- they are in the output, and each "is the one last written there"
+  pub fits : bOf (e .answer) ≤ length (e .output)
   pub bytes : (i : ℕ) → i < bOf (e .answer) → LastWritten channel (offset + i) h (getD (e .output) i 0)
 
 -- every done read of a history gave what it should, by the events before it
 abbrev pub ReadsRight : History → Type 0
 ReadsRight [] = Unit {0}
 ReadsRight (e ∷ h) =
-    ((channel offset size : ℕ) → e .call ≡ read channel offset size → granted (e .answer) ≡ true → ReadRight channel offset size h e) × ReadsRight h
+    ((channel offset asked : ℕ) → e .call ≡ read channel offset asked → granted (e .answer) ≡ true → ReadRight channel offset asked h e) × ReadsRight h

@@ -121,8 +121,8 @@ onClose t channel =
     unless (NoChannel when leb (t .opened) i ∷ []) t
     (gives (Done 0 0) (closing t i) changing removed i)
 
--- order 2: "A channel read now gives the bytes that remain, up to the length asked; b is their number"; "read gives RANGE only where the lent output is shorter
--- than what it would give"
+-- a is 0; order 2: "A channel read now gives the bytes that remain, up to the length asked; b is their number"; "read gives RANGE only where the lent
+-- output is shorter than what it would give"
 unfoldable pub onRead : Tables → (output channel offset size : ℕ) → Decision
 unfolding givenOf
 onRead t output channel offset size =

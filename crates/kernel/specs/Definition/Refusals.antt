@@ -130,7 +130,7 @@ pub data Row (t : Tables) (ram output : ℕ) : (c : Call) (k : ℕ) → Type 0 w
   -- 12 BOUNDARY: "nothing shared, or value above the EXOS boundary"
   bound-none : {value : ℕ} → ¬ HasClass t SHARED → Row t ram output (set-user-boundary value) 12
   bound-above : {value : ℕ} → boundaryOf t < value → Row t ram output (set-user-boundary value) 12
-  -- 13 RANGE: "offset + length past the end, or lent output too short"
+  -- 13 RANGE: "offset + length past the end, or lent output too short"; order 2: "Write, store and load keep RANGE."
   write-end : {channel offset i : ℕ} {bytes : List ℕ} → OpenAt t channel i → sizeAt t i < offset + length bytes → Row t ram output (write channel offset bytes) 13
   status-output : output < 5 → Row t ram output status 13
   store-end : {segment offset row : ℕ} {bytes : List ℕ} → InList t segment row → reachOf t row < offset + length bytes → Row t ram output (store segment offset bytes) 13

@@ -9,11 +9,8 @@ returns : tie.Need-returns
 unfolding givenOf
 returns c = omega arith
 
-sub-if2 : tie.Need-sub-if2
-sub-if2 c = search needs
-
-sub-result : tie.Need-sub-result
-sub-result c = search needs
+sub-rest : tie.Need-sub-rest
+sub-rest c = search needs
 
 returns-2 : tie.Need-returns-2
 unfolding givenOf
@@ -24,4 +21,4 @@ unfolding givenOf
 returns-3 c = omega arith
 
 pub given-spec : {M : Type 1} → statement M
-given-spec = tie.close (tie.spec returns sub-if2 sub-result returns-2 returns-3)
+given-spec = tie.close (tie.spec returns sub-rest returns-2 returns-3)

@@ -4,23 +4,19 @@ use Prim.Native.Nat.{ℕ, _+_, _≤_, _<_}
 use native.Mathlib.Omega.{arith}
 use Rattle.line.specs.Definition.Given.{givenOf}
 
-pub given-whole : (n offset size : ℕ) → offset + size ≤ n → givenOf n offset size ≡ size
+pub given-whole : (n offset asked : ℕ) → offset + asked ≤ n → givenOf n offset asked ≡ asked
 unfolding givenOf
-given-whole n offset size h = omega arith
+given-whole n offset asked h = omega arith
 
-pub given-rest : (n offset size : ℕ) → offset ≤ n → n ≤ offset + size → offset + givenOf n offset size ≡ n
+pub given-rest : (n offset asked : ℕ) → offset ≤ n → n ≤ offset + asked → offset + givenOf n offset asked ≡ n
 unfolding givenOf
-given-rest n offset size h l = omega arith
+given-rest n offset asked h l = omega arith
 
-pub given-none : (n offset size : ℕ) → n ≤ offset → givenOf n offset size ≡ 0
+pub given-none : (n offset asked : ℕ) → n ≤ offset → givenOf n offset asked ≡ 0
 unfolding givenOf
-given-none n offset size h = omega arith
+given-none n offset asked h = omega arith
 
--- never more than is asked, and no byte past the end
-pub given-most : (n offset size : ℕ) → givenOf n offset size ≤ size
+-- each byte given lies before the end
+pub given-inside : (n offset asked i : ℕ) → i < givenOf n offset asked → offset + i < n
 unfolding givenOf
-given-most n offset size = omega arith
-
-pub given-inside : (n offset size i : ℕ) → i < givenOf n offset size → offset + i < n
-unfolding givenOf
-given-inside n offset size i h = omega arith
+given-inside n offset asked i h = omega arith

@@ -1,4 +1,4 @@
--- 01's example of a listing, to the letter; order 2: "The line `6 13 0 0` of 01's listing becomes `6 0 0 1 55`."
+-- 01's example of a listing, to the letter, with the line that order 2 changes.
 -- It is shown a record at a time, whatever bytes the RAM has: one computation over all would write 65,536 bytes anew for each byte put.
 use mathlib.Core.Path.{_≡_, refl, ap, _∙_}
 use mathlib.Core.List.{List, [], _∷_, _++_}
@@ -54,7 +54,7 @@ input =
     ∷ (2 ∷ 0 ∷ 22 ∷ 0 ∷ [])
     ∷ []
 
--- "Output"
+-- "Output"; of the second read order 2: "The line `6 13 0 0` of 01's listing becomes `6 0 0 1 55`."
 abbrev pub output : List String
 output =
     "256 0 4 11074"
