@@ -50,7 +50,9 @@ pub enum Refusal {
     Owner,
     /// "Nothing shared, or value above the EXOS boundary."
     Boundary,
-    /// "Offset + length past the end, or lent output too short."
+    /// "Offset + length past the end, or lent output too short"; order 2: "read
+    /// gives RANGE only where the lent output is shorter than what it would
+    /// give".
     Range,
     /// "Store touches page zero 30h to 5Bh, save 3Dh and 3Eh."
     Guard,

@@ -42,7 +42,7 @@ pub enum Call<'a> {
         channel: u8,
         /// Where in the buffer.
         offset: u16,
-        /// How many bytes.
+        /// How many bytes at most.
         length: u16,
     },
     /// 8

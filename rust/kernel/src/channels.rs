@@ -7,7 +7,6 @@ use crate::line::Line;
 use crate::names;
 use crate::segments;
 use crate::tables::{chain_length, Channel, Tables, HEADING, ROWS_OF_CHANNELS};
-use std::ops::Range;
 
 /// The one number that no channel has.
 const NO_CHANNEL: u8 = 255;
@@ -22,14 +21,14 @@ struct Found {
 }
 
 impl Found {
-    /// The positions of `length` bytes of the buffer from `offset` on.
-    /// "RANGE: offset + length past the end."
-    fn buffer(&self, offset: u16, length: usize) -> Result<Range<usize>, Refusal> {
-        let offset = usize::from(offset);
-        let start = self.start + HEADING + offset;
-        (length <= self.n && offset <= self.n - length)
-            .then(|| start..start + length)
-            .ok_or(Refusal::Range)
+    /// The position of an offset of the buffer.
+    fn position(&self, offset: usize) -> usize {
+        self.start + HEADING + offset
+    }
+
+    /// How many bytes remain from an offset on: order 2: "0 at or past the end".
+    fn remaining(&self, offset: usize) -> usize {
+        self.n.saturating_sub(offset)
     }
 }
 
@@ -134,8 +133,9 @@ pub(crate) fn close_all(tables: &mut Tables, ram: &mut [u8]) {
     segments::shorten_chain(tables, 1);
 }
 
-/// Reads from a buffer: "RANGE: offset + length past the end, or lent output
-/// too short."
+/// Order 2: "A channel read now gives the bytes that remain, up to the length
+/// asked; b is their number, 0 at or past the end"; "read gives RANGE only where
+/// the lent output is shorter than what it would give".
 pub(crate) fn read(
     tables: &Tables,
     ram: &[u8],
@@ -145,15 +145,15 @@ pub(crate) fn read(
     output: &mut [u8],
 ) -> Result<Reply, Refusal> {
     let found = find(tables, number)?;
-    let positions = found.buffer(offset, usize::from(length))?;
-    let lent = output
-        .get_mut(..usize::from(length))
-        .ok_or(Refusal::Range)?;
-    Line::of(tables).take(ram, positions.start, lent);
-    Ok(Reply::done(0, length))
+    let offset = usize::from(offset);
+    let given = found.remaining(offset).min(usize::from(length));
+    let lent = output.get_mut(..given).ok_or(Refusal::Range)?;
+    Line::of(tables).take(ram, found.position(offset), lent);
+    Ok(Reply::done(0, given as u16))
 }
 
-/// Writes into a buffer: "RANGE: offset + length past the end."
+/// Writes into a buffer: "RANGE: offset + length past the end"; order 2: "write,
+/// store and load keep RANGE".
 pub(crate) fn write(
     tables: &Tables,
     ram: &mut [u8],
@@ -162,8 +162,11 @@ pub(crate) fn write(
     data: &[u8],
 ) -> Result<Reply, Refusal> {
     let found = find(tables, number)?;
-    let positions = found.buffer(offset, data.len())?;
-    Line::of(tables).put(ram, positions.start, data);
+    let offset = usize::from(offset);
+    if offset + data.len() > found.n {
+        return Err(Refusal::Range);
+    }
+    Line::of(tables).put(ram, found.position(offset), data);
     Ok(Reply::done(0, data.len() as u16))
 }
 

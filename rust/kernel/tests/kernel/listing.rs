@@ -27,7 +27,8 @@ fn the_example_to_the_letter() {
     input.extend(record(6, &[5, 99, 0, 2, 0]));
     input.extend(record(3, &[5]));
     input.extend(record(22, &[]));
-    let expected = "256 0 4 11074\n1 0 0 0\n22 0 255 10958\n8 0 0 2\n6 0 0 2 aa55\n6 13 0 0\n3 0 0 0\n22 0 255 11074\n";
+    // order 2: "the line `6 13 0 0` of 01's listing becomes `6 0 0 1 55`"
+    let expected = "256 0 4 11074\n1 0 0 0\n22 0 255 10958\n8 0 0 2\n6 0 0 2 aa55\n6 0 0 1 55\n3 0 0 0\n22 0 255 11074\n";
     assert_eq!(list(&input), expected);
 }
 
@@ -81,12 +82,39 @@ fn the_fifth_field_needs_bytes() {
 }
 
 #[test]
+fn a_read_at_or_past_the_end_has_no_fifth_field() {
+    let mut input = START.to_vec();
+    input.extend(record(1, b"\x05\x00\x01\x00VIDEO:"));
+    input.extend(record(6, &[5, 0, 0, 0, 1]));
+    input.extend(record(6, &[5, 1, 0, 0, 1]));
+    input.extend(record(6, &[5, 2, 0, 0, 0]));
+    input.extend(record(6, &[5, 0xFF, 0xFF, 0xFF, 0xFF]));
+    assert_eq!(
+        list(&input),
+        "256 0 4 11074\n1 0 0 0\n6 0 0 1 00\n6 0 0 0\n6 0 0 0\n6 0 0 0\n"
+    );
+}
+
+#[test]
 fn the_lent_output_has_4096_bytes() {
     let mut input = START.to_vec();
     input.extend(record(258, &[252, 0, 0, 0x01, 0x10]));
     input.extend(record(258, &[252, 0, 0, 0x00, 0x10]));
     let full = format!("258 0 0 4096 {}\n", "00".repeat(4096));
     assert_eq!(list(&input), format!("256 0 4 11074\n258 13 0 0\n{full}"));
+}
+
+#[test]
+fn a_read_may_ask_for_more_than_4096_bytes() {
+    let mut input = START.to_vec();
+    input.extend(record(1, b"\x05\x00\x01\x10VIDEO:"));
+    input.extend(record(6, &[5, 0, 0, 0xFF, 0xFF]));
+    input.extend(record(6, &[5, 1, 0, 0xFF, 0xFF]));
+    let full = format!("6 0 0 4096 {}\n", "00".repeat(4096));
+    assert_eq!(
+        list(&input),
+        format!("256 0 4 11074\n1 0 0 0\n6 13 0 0\n{full}")
+    );
 }
 
 #[test]

@@ -17,6 +17,7 @@ mod plain_good;
 mod plain_modules;
 mod random_calls;
 mod random_tables;
+mod reads;
 mod refusals;
 mod resets;
 mod writer;

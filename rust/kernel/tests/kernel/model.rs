@@ -2,9 +2,10 @@
 //!
 //! It keeps a vector of bytes a channel and draws the whole line anew, byte by
 //! byte, after each change. With it: "A byte read from an open channel is the
-//! one last written there", "a user's byte changes only by the user's store
-//! while that place stays the user's", "the system holds the fewest segments"
-//! and an open "is refused for room exactly when no such layout fits".
+//! one last written there", which by order 2 "speaks of the bytes given", "a
+//! user's byte changes only by the user's store while that place stays the
+//! user's", "the system holds the fewest segments" and an open "is refused for
+//! room exactly when no such layout fits".
 
 use crate::machine::{Answer, Machine};
 use std::collections::HashMap;
@@ -184,10 +185,11 @@ impl Model {
         (0, 0, 0)
     }
 
+    /// "The bytes that remain, up to the length asked."
     pub fn read(&self, number: u8, offset: usize, length: usize) -> Result<&[u8], Answer> {
         let at = self.find(number).ok_or((3, 0, 0))?;
-        let part = self.opens[at].bytes.get(offset..offset + length);
-        part.ok_or((13, 0, 0))
+        let rest = self.opens[at].bytes.get(offset..).unwrap_or(&[]);
+        Ok(rest.get(..length).unwrap_or(rest))
     }
 
     pub fn write(&mut self, number: u8, offset: usize, data: &[u8]) -> Answer {

@@ -5,7 +5,7 @@ use crate::machine::Machine;
 use exos_kernel::class;
 
 /// Bytes that differ from place to place.
-fn pattern(n: usize, seed: usize) -> Vec<u8> {
+pub fn pattern(n: usize, seed: usize) -> Vec<u8> {
     (0..n)
         .map(|at| (at * 7 + at / 251 + seed * 31 + 1) as u8)
         .collect()

@@ -5,6 +5,7 @@ use crate::model::{Model, Spelling};
 use crate::plain_modules::some_stream;
 use exos_kernel::Call;
 use exos_random::Random;
+use std::mem;
 
 const SPELLINGS: [Spelling; 9] = [
     ("VIDEO:", Some("VIDEO"), None),
@@ -52,15 +53,31 @@ fn some_offset(random: &mut Random, length: usize) -> usize {
     }
 }
 
-fn check_read(machine: &mut Machine, expected: Result<&[u8], Answer>, request: Call) {
+/// An output that mostly holds so many bytes.
+fn some_output(random: &mut Random, length: usize) -> Vec<u8> {
+    let more = random.below(9);
+    vec![0xDD; (length + more).saturating_sub(1)]
+}
+
+/// A read or a load: bytes where the lent output holds them.
+fn check_read(
+    random: &mut Random,
+    machine: &mut Machine,
+    expected: Result<&[u8], Answer>,
+    request: Call,
+) {
+    let output = some_output(random, expected.map_or(0, <[u8]>::len));
+    let others = mem::replace(&mut machine.output, output);
     let answer = machine.call(request);
     match expected {
-        Ok(bytes) => {
+        Ok(bytes) if bytes.len() <= machine.output.len() => {
             assert_eq!(answer, (0, 0, bytes.len() as u16));
             assert!(machine.output[..bytes.len()] == *bytes);
         }
+        Ok(_) => assert_eq!(answer, (13, 0, 0)),
         Err(refused) => assert_eq!(answer, refused),
     }
+    machine.output = others;
 }
 
 fn step_channel(random: &mut Random, model: &mut Model, machine: &mut Machine) {
@@ -84,13 +101,17 @@ fn step_channel(random: &mut Random, model: &mut Model, machine: &mut Machine) {
             assert_eq!(machine.write(number, offset as u16, &data), expected);
         }
         _ => {
-            let length = random.pick(&[0, 1, 2, 300, n, n - offset.min(n)]);
+            let offset = random.pick(&[offset, offset, offset, 65_535]);
+            let left = n - offset.min(n);
+            let lengths = [0, 1, 2, 256, left, left + 1, 65_535];
+            let length = random.pick(&lengths).min(65_535);
+            let expected = model.read(number, offset, length);
             let request = Call::Read {
                 channel: number,
                 offset: offset as u16,
                 length: length as u16,
             };
-            check_read(machine, model.read(number, offset, length), request);
+            check_read(random, machine, expected, request);
         }
     }
 }
@@ -125,12 +146,13 @@ fn step_segment(random: &mut Random, model: &mut Model, machine: &mut Machine) {
         }
         _ => {
             let length = random.pick(&[0, 1, 12, end, end.saturating_sub(offset)]);
+            let expected = model.load(segment, offset, length);
             let request = Call::Load {
                 segment,
                 offset: offset as u16,
                 length: length as u16,
             };
-            check_read(machine, model.load(segment, offset, length), request);
+            check_read(random, machine, expected, request);
         }
     }
 }
