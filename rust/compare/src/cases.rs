@@ -1,5 +1,5 @@
-//! The cases of a seed: tables by sentences, modules, the writer, logs steered to
-//! the edges, damaged logs, damaged tables, RAM of a wrong length.
+//! The cases of a seed: tables by sentences, modules, the writer, reads, logs
+//! steered to the edges, damaged logs, damaged tables, RAM of a wrong length.
 
 use crate::damage::damage;
 use crate::edges::ram_length_for;
@@ -8,6 +8,7 @@ use crate::plan::{plan, Plan};
 use crate::player::{Played, Player};
 use crate::protocol::{image_of, Case, Request, IMAGE, MOST_RAM};
 use crate::quietly::is_good;
+use crate::reads::{far_reads, reads};
 use crate::steer::{some_list, some_r, Mood, Steer};
 use crate::writers::{lists, there_and_back, writers};
 use exos_kernel::{Tables, SEGMENT};
@@ -20,6 +21,8 @@ pub fn played(seed: u64, number: u64) -> Played {
         Plan::Sentence(change) => Player::of(about(change)).played,
         Plan::Modules => Player::of(modules()).played,
         Plan::Writers => Player::of(writers()).played,
+        Plan::Reads => Player::of(reads()).played,
+        Plan::FarReads => Player::of(far_reads()).played,
         Plan::Lists => lists(&mut Random::new(seed, number)),
         Plan::ThereAndBack => there_and_back(&mut Random::new(seed, number)),
         plan => steered(&mut Random::new(seed, number), plan),

@@ -29,8 +29,11 @@ fn allowed(kind: Option<u16>) -> &'static [u16] {
         Some(1) => &[0, 1, 2, 3, 4, 5, 6, 7, 8, 9],
         // CHANNEL: "255, or not open"
         Some(3) => &[0, 1, 2, 3],
-        // RANGE: "offset + length past the end, or lent output too short"
-        Some(6 | 8) => &[0, 1, 2, 3, 13],
+        // CHANNEL; RANGE: order 2: "only where the lent output is shorter than what it
+        // would give"
+        Some(6) => &[0, 1, 2, 3, 13],
+        // CHANNEL; RANGE: "offset + length past the end"
+        Some(8) => &[0, 1, 2, 3, 13],
         // NAME: "against the rules above"
         Some(19) => &[0, 1, 2, 5],
         // RANGE: "lent output too short"

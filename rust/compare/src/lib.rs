@@ -18,6 +18,7 @@ pub mod player;
 pub mod program;
 pub mod protocol;
 mod quietly;
+mod reads;
 pub mod report;
 mod round_trips;
 pub mod run;

@@ -12,6 +12,10 @@ pub enum Plan {
     Sentence(&'static Change),
     /// Modules that leave nothing to chance.
     Modules,
+    /// Reads that leave nothing to chance.
+    Reads,
+    /// The same on the longest line.
+    FarReads,
     /// Requests to the writer that leave nothing to chance.
     Writers,
     /// A log of so many segments, whose line comes to fill them.
@@ -38,7 +42,8 @@ const FIRST_SENTENCE: u64 = 100;
 
 /// What the case of a number is about. Of a hundred cases most are damaged
 /// tables, which take few calls each, so that most calls are those of logs;
-/// after the first hundred come the sentences, the modules and the writer.
+/// after the first hundred come the sentences, the modules, the writer and the
+/// reads.
 pub fn plan(number: u64) -> Plan {
     planned(number).unwrap_or_else(|| plan_in_hundred(number))
 }
@@ -47,7 +52,7 @@ pub fn plan(number: u64) -> Plan {
 fn planned(number: u64) -> Option<Plan> {
     let row = number.checked_sub(FIRST_SENTENCE)?;
     let sentences = BROKEN.iter().chain(KEPT).map(Plan::Sentence);
-    let fixed = [Plan::Modules, Plan::Writers];
+    let fixed = [Plan::Modules, Plan::Writers, Plan::Reads, Plan::FarReads];
     sentences.chain(fixed).nth(row as usize)
 }
 
@@ -140,6 +145,6 @@ mod tests {
     #[test]
     fn every_sentence_comes() {
         let count = (0..5_000).filter_map(planned).count();
-        assert_eq!(count, BROKEN.len() + KEPT.len() + 2);
+        assert_eq!(count, BROKEN.len() + KEPT.len() + 4);
     }
 }

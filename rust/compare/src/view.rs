@@ -7,6 +7,14 @@ pub fn further(r: usize, t: usize) -> usize {
     t.saturating_sub(r).div_ceil(SEGMENT)
 }
 
+/// The sum of the lengths of some records.
+fn lengths(channels: &[Channel]) -> usize {
+    let lengths = channels.iter();
+    lengths
+        .map(|channel| HEADING + usize::from(channel.n))
+        .sum()
+}
+
 /// A view of good tables.
 #[derive(Clone, Copy)]
 pub struct View<'a>(pub &'a Tables);
@@ -44,6 +52,30 @@ impl<'a> View<'a> {
         self.row_of(number).map(|row| &self.channels()[row])
     }
 
+    /// The position of the first byte of a row's buffer.
+    fn first(self, row: usize) -> usize {
+        lengths(&self.channels()[..row]) + HEADING
+    }
+
+    /// In which segments of the chain the first and the last of some bytes of a
+    /// row's buffer lie; none where there are no bytes.
+    pub fn links(self, row: usize, offset: usize, length: usize) -> Option<(usize, usize)> {
+        let link = |position: usize| (position + SEGMENT - self.r()) / SEGMENT;
+        let first = self.first(row) + offset;
+        let last = first + length.checked_sub(1)?;
+        Some((link(first), link(last)))
+    }
+
+    /// The offset at which the last segment of a row's buffer begins, if it lies
+    /// in more than one.
+    pub fn last_edge(self, row: usize) -> Option<usize> {
+        let first = self.first(row);
+        let end = first + usize::from(self.channels()[row].n);
+        let beyond = end.checked_sub(self.r() + 1)?;
+        let edge = self.r() + beyond / SEGMENT * SEGMENT;
+        edge.checked_sub(first).filter(|&offset| offset > 0)
+    }
+
     /// The segment numbers of a class.
     pub fn segments(self, class: u8) -> impl Iterator<Item = u8> + 'a {
         let rows = self.list().iter().zip(self.classes());
@@ -73,10 +105,7 @@ impl<'a> View<'a> {
 
     /// T, the sum of the records' lengths.
     pub fn t(self) -> usize {
-        let lengths = self.channels().iter();
-        lengths
-            .map(|channel| HEADING + usize::from(channel.n))
-            .sum()
+        lengths(self.channels())
     }
 
     /// What T may reach by the room rule.
@@ -104,5 +133,41 @@ impl<'a> View<'a> {
             class::SHARED => Some(usize::from(self.0.user_boundary)),
             _ => None,
         }
+    }
+}
+
+#[cfg(test)]
+mod tests {
+    use super::*;
+    use exos_sentences::tables;
+
+    /// The second buffer of [`tables`] has the positions 532 to 1,531, and R is
+    /// 900.
+    #[test]
+    fn where_a_buffer_lies() {
+        let tables = tables();
+        let view = View(&tables);
+        assert_eq!(view.links(0, 0, 500), Some((0, 0)));
+        assert_eq!(view.links(1, 367, 1), Some((0, 0)));
+        assert_eq!(view.links(1, 367, 2), Some((0, 1)));
+        assert_eq!(view.links(1, 368, 632), Some((1, 1)));
+        assert_eq!(view.links(1, 368, 0), None);
+        assert_eq!(view.last_edge(0), None);
+        assert_eq!(view.last_edge(1), Some(368));
+    }
+
+    #[test]
+    fn a_buffer_that_ends_or_begins_at_an_edge_has_no_edge_within() {
+        let mut tables = tables();
+        tables.channels[1].n = 368;
+        assert_eq!(View(&tables).last_edge(1), None);
+        tables.channels[1].n = 369;
+        assert_eq!(View(&tables).last_edge(1), Some(368));
+        tables.channels[0].n = 868;
+        assert_eq!(View(&tables).last_edge(1), None);
+        tables.channels[0].n = 867;
+        assert_eq!(View(&tables).last_edge(1), Some(1));
+        tables.channels[1].n = 0;
+        assert_eq!(View(&tables).last_edge(1), None);
     }
 }

@@ -6,10 +6,11 @@ use crate::view::View;
 use exos_kernel::{HEADING, LEAST_R, NAME, ROWS_OF_CHANNELS, ROWS_OF_DEVICES};
 
 /// The pairs that can be had, but for those with TABLES: a kind, the refusal
-/// that wins and the other. A channel that is open is not 255, a string
-/// against the rules names no device, and only the page zero segment, which
-/// is the user's, has a guard. At an item of a module MODULE wins over PAGE,
-/// and these over RANGE and GUARD.
+/// that wins and the other. A channel that is open is not 255, one that is not
+/// open has no byte for an output to be short of, a string against the rules
+/// names no device, and only the page zero segment, which is the user's, has a
+/// guard. At an item of a module MODULE wins over PAGE, and these over RANGE and
+/// GUARD.
 pub(super) const BOTH: &[(u16, u16, u16)] = &[
     (1, 3, 5),
     (1, 3, 6),
@@ -30,7 +31,6 @@ pub(super) const BOTH: &[(u16, u16, u16)] = &[
     (1, 7, 8),
     (1, 7, 9),
     (1, 8, 9),
-    (6, 3, 13),
     (21, 5, 8),
     (21, 5, 9),
     (21, 8, 9),

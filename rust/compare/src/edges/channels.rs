@@ -1,4 +1,4 @@
-//! The edges of open, close, read and write.
+//! The edges of open, close and write.
 
 use super::{Edge, Meeting, LONGEST_CHAIN};
 use crate::view::further;
@@ -51,27 +51,6 @@ impl<Met: FnMut(Edge)> Meeting<'_, Met> {
         self.done(!gives_up && view.is_shared(), Edge::CloseShared);
     }
 
-    fn buffer(&mut self, n: usize, offset: usize, length: usize) {
-        self.done(length == 0 && offset == n, Edge::NoBytesAtEnd);
-        self.answered(13, length == 0 && offset == n + 1, Edge::NoBytesPast);
-    }
-
-    pub(super) fn read(&mut self, channel: u8, offset: usize, length: usize) {
-        let view = self.view;
-        let short = self.output < length;
-        self.both(6, &[(13, view.row_of(channel).is_none() && short)]);
-        let Some(row) = view.row_of(channel) else {
-            return;
-        };
-        self.done(is_last(row), Edge::ReadRow32);
-        let (n, end) = (usize::from(view.channels()[row].n), offset + length);
-        self.buffer(n, offset, length);
-        self.done(end == n && length > 0, Edge::ReadEnd);
-        self.answered(13, end == n + 1 && self.output >= length, Edge::ReadPast);
-        self.done(self.output == length && length > 0, Edge::ReadExact);
-        self.answered(13, end <= n && self.output + 1 == length, Edge::ReadShort);
-    }
-
     pub(super) fn write(&mut self, channel: u8, offset: usize, length: usize) {
         let view = self.view;
         let Some(row) = view.row_of(channel) else {
@@ -79,19 +58,18 @@ impl<Met: FnMut(Edge)> Meeting<'_, Met> {
         };
         self.done(is_last(row), Edge::WriteRow32);
         let (n, end) = (usize::from(view.channels()[row].n), offset + length);
-        self.buffer(n, offset, length);
         self.done(end == n && length > 0, Edge::WriteEnd);
-        self.answered(13, end == n + 1, Edge::WritePast);
-        let before = view.channels()[..row].iter();
-        let start: usize = before.map(|other| HEADING + usize::from(other.n)).sum();
-        let first = start + HEADING + offset;
-        let link = |position: usize| (position + SEGMENT - view.r()) / SEGMENT;
-        let last = link((first + length).saturating_sub(1));
-        self.done(length > 0 && link(first) < last, Edge::WriteAcross);
-        self.done(length > 0 && last + 1 == LONGEST_CHAIN, Edge::WriteFar);
+        self.answered(13, end == n + 1 && length > 0, Edge::WritePast);
+        self.done(end == n && length == 0, Edge::WriteNothing);
+        self.answered(13, end == n + 1 && length == 0, Edge::WriteNothingPast);
+        if let Some((first, last)) = view.links(row, offset, length) {
+            self.done(first < last, Edge::WriteAcross);
+            self.done(last + 1 == LONGEST_CHAIN, Edge::WriteFar);
+        }
     }
 }
 
-fn is_last(row: usize) -> bool {
+/// Whether a row of channels is the last.
+pub(super) fn is_last(row: usize) -> bool {
     row + 1 == ROWS_OF_CHANNELS
 }

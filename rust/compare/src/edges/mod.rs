@@ -7,6 +7,7 @@ mod lent;
 mod modules;
 mod names;
 mod naming;
+mod reads;
 mod reset;
 mod segments;
 mod sentences;
@@ -21,6 +22,8 @@ use exos_kernel::{decode, Call, Tables, ROWS_OF_SEGMENTS, SEGMENT};
 
 #[cfg(test)]
 pub use modules::ModuleEdge;
+#[cfg(test)]
+pub use reads::ReadEdge;
 pub use sentences::ram_length_for;
 pub use words::{all_edges, Edge};
 

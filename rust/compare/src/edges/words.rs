@@ -3,6 +3,7 @@
 use super::both::BOTH;
 use super::modules::{all_module_edges, ModuleEdge};
 use super::naming::name_edges;
+use super::reads::{all_read_edges, ReadEdge};
 use super::writer::{all_writer_edges, WriterEdge};
 use exos_kernel::ROWS_OF_SEGMENTS;
 use exos_sentences::{BROKEN, KEPT};
@@ -19,6 +20,7 @@ pub fn all_edges() -> impl Iterator<Item = Edge> {
         .chain(segments.clone().map(Edge::StartOf))
         .chain(segments.map(Edge::CallOn))
         .chain(both.map(|&(kind, given, other)| Edge::Both(kind, given, other)))
+        .chain(all_read_edges().map(Edge::Read))
         .chain(all_module_edges().map(Edge::Module))
         .chain(all_writer_edges().map(Edge::Writer))
         .chain((0..KEPT.len()).map(Edge::Kept))
@@ -37,6 +39,8 @@ name_edges! {
             let words = form_of(kind).map_or("", |form| form.words);
             format!("{words}: {given} and {other} at once: {given}")
         };
+        /// An edge of read.
+        Read(edge: ReadEdge) format!("read: {edge}");
         /// An edge of load module.
         Module(edge: ModuleEdge) format!("load module: {edge}");
         /// An edge of writing modules.
@@ -96,18 +100,13 @@ name_edges! {
     CloseShared "close: a segment stays shared"
     CloseFar "close: later records move, some out of the chain's 31st segment"
     CloseRow32 "close: the channel of the 32nd row"
-    ReadEnd "read: to the buffer's end"
-    ReadPast "read: one past it: 13"
-    ReadExact "read: the output just long enough"
-    ReadShort "read: the output one short: 13"
-    ReadRow32 "read: the channel of the 32nd row"
     WriteEnd "write: to the buffer's end"
     WritePast "write: one past it: 13"
     WriteAcross "write: over a segment's edge"
     WriteFar "write: into the chain's 31st segment"
     WriteRow32 "write: the channel of the 32nd row"
-    NoBytesAtEnd "read or write of no bytes at the buffer's end"
-    NoBytesPast "read or write of no bytes past it: 13"
+    WriteNothing "write: no bytes at the buffer's end"
+    WriteNothingPast "write: no bytes past it: 13"
     DefaultLongest "default: 28 letters"
     DefaultLonger "default: 29 letters: 5"
     StatusExact "status: 5 bytes of output"

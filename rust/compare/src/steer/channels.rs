@@ -5,6 +5,13 @@ use crate::protocol::Request;
 use crate::view::further;
 use exos_kernel::{HEADING, SEGMENT};
 
+/// The most that an offset, a length or an n can be.
+const MOST: usize = u16::MAX as usize;
+/// "Log readers ask for 256 bytes at a time."
+const AT_A_TIME: usize = 256;
+/// The listing program lends "4,096 bytes of output".
+const LISTED: usize = 4_096;
+
 impl Steer<'_> {
     pub(super) fn open(&mut self) -> Request {
         if self.random.one_in(16) {
@@ -80,8 +87,8 @@ impl Steer<'_> {
 
     /// The longest n that there is room for.
     fn longest(&mut self) -> usize {
-        let (view, most) = (self.view(), usize::from(u16::MAX));
-        most.min(view.limit().saturating_sub(view.t() + HEADING))
+        let view = self.view();
+        MOST.min(view.limit().saturating_sub(view.t() + HEADING))
     }
 
     /// An n with which T comes to the room's limit, to R or to a segment's end.
@@ -94,7 +101,7 @@ impl Steer<'_> {
         let targets = [limit, often, often, next, next, next + SEGMENT];
         let target = self.random.pick(&targets).min(limit);
         let n = self.near(target).saturating_sub(start);
-        n.min(usize::from(u16::MAX))
+        n.min(MOST)
     }
 
     pub(super) fn close(&mut self) -> Request {
@@ -102,21 +109,61 @@ impl Steer<'_> {
         self.made(3, &[channel], &[])
     }
 
-    fn channel_part(&mut self) -> (usize, usize, usize) {
-        let channel = self.open_channel();
-        let found = self.view().channel(channel as u8);
-        let (offset, length) = self.part(found.map_or(9, |found| usize::from(found.n)));
-        (channel, offset, length)
-    }
-
     pub(super) fn read(&mut self) -> Request {
-        let (channel, offset, length) = self.channel_part();
-        let output = self.output_for(length);
+        let channel = self.open_channel();
+        let view = self.view();
+        let row = view.row_of(channel as u8);
+        let n = row.map_or(9, |row| usize::from(view.channels()[row].n));
+        let edge = row.and_then(|row| view.last_edge(row));
+        let offset = self.offset_to_read(n, edge.unwrap_or(n));
+        let left = n.saturating_sub(offset);
+        let length = self.length_to_read(left);
+        let output = self.output_to_read(length, length.min(left));
         self.lent(output, 6, &[channel, offset, length], &[])
     }
 
+    /// An offset within a buffer, around its end, far past it, or just before a
+    /// segment's edge.
+    fn offset_to_read(&mut self, n: usize, edge: usize) -> usize {
+        let offset = match self.random.below(10) {
+            0 => 0,
+            1 | 2 => self.near(n),
+            3 => edge.saturating_sub(self.random.below(9)),
+            4 => usize::from(self.random.word()),
+            5 if self.random.one_in(2) => MOST,
+            _ => self.random.below(n + 1),
+        };
+        offset.min(MOST)
+    }
+
+    /// A length: none or one, around what is left, any, the longest, what log
+    /// readers ask for, or a short one.
+    fn length_to_read(&mut self, left: usize) -> usize {
+        let length = match self.random.below(12) {
+            0 => self.random.below(2),
+            1 | 2 if left < 2_000 || self.random.one_in(4) => self.near(left),
+            3 if self.random.one_in(2) => usize::from(self.random.word()),
+            3 => MOST,
+            4..=6 => AT_A_TIME,
+            _ => self.random.below(left.min(300) + 1),
+        };
+        length.min(MOST)
+    }
+
+    /// An output: mostly for what is given; or one short of what is asked, or the
+    /// listing program's.
+    fn output_to_read(&mut self, asked: usize, given: usize) -> usize {
+        match self.random.below(12) {
+            0 => asked.saturating_sub(1),
+            1 => LISTED,
+            _ => self.output_for(given),
+        }
+    }
+
     pub(super) fn write(&mut self) -> Request {
-        let (channel, offset, length) = self.channel_part();
+        let channel = self.open_channel();
+        let found = self.view().channel(channel as u8);
+        let (offset, length) = self.part(found.map_or(9, |found| usize::from(found.n)));
         let data = self.random.bytes(length);
         self.made(8, &[channel, offset], &data)
     }
