@@ -1,4 +1,4 @@
-//! The table "Calls and their bodies" with the rows that orders add, from which
+//! The table "Calls and their bodies" with what orders put into it, from which
 //! words are read and written.
 
 /// A field of a body. A number has the words that a message calls it by.
@@ -94,7 +94,7 @@ pub const FORMS: [Form; 16] = [
         words: "read",
         fields: &[CHANNEL, OFFSET, LENGTH],
         a: None,
-        b: Some("length"),
+        b: Some("bytes given"),
     },
     Form {
         kind: 8,

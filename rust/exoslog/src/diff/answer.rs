@@ -15,6 +15,17 @@ pub(super) struct Answer<'a> {
 
 const NAMES: [&str; 4] = ["kind", "answer", "a", "b"];
 
+/// "0 is done."
+const DONE: &str = "0";
+/// The answer RANGE.
+const RANGE: &str = "13";
+/// The kind of a read.
+const READ: &str = "6";
+
+/// Order 2's sentence on the refusals of a read.
+const RANGE_OF_READ: &str =
+    "order 2: read gives RANGE only where the lent output is shorter than what it would give";
+
 impl<'a> Answer<'a> {
     /// Reads the fields, or says what is wrong with the line.
     pub(super) fn read(text: &'a [u8]) -> Result<Answer<'a>, String> {
@@ -53,7 +64,7 @@ impl<'a> Answer<'a> {
 
     fn is_granted(&self) -> bool {
         let number = self.values()[1];
-        number == "0" || number == SHARED_GRANT.to_string()
+        number == DONE || number == SHARED_GRANT.to_string()
     }
 
     pub(super) fn has_the_values_of(&self, other: &Answer) -> bool {
@@ -96,7 +107,15 @@ impl<'a> Answer<'a> {
         differ
             .map(|(name, (left, right))| format!("{name}: {left}, {right}"))
             .chain(bytes_words(self.bytes, other.bytes))
+            .chain(self.range_of_read(other))
             .collect()
+    }
+
+    /// When a read is refused with RANGE, where only one of two listings has that.
+    fn range_of_read(&self, other: &Answer) -> Option<String> {
+        let mut answers = [self, other].map(|answer| (answer.kind(), answer.values()[1]));
+        answers.sort_unstable();
+        (answers == [(READ, DONE), (READ, RANGE)]).then(|| RANGE_OF_READ.to_string())
     }
 
     /// The names of a and b, with what they are where both lines are of one

@@ -139,6 +139,32 @@ fn fields_are_named_by_what_they_are() {
 }
 
 #[test]
+fn a_read_that_one_refuses_with_range_has_order_2s_sentence() {
+    let sentence = "  order 2: read gives RANGE only where the lent output is shorter than what \
+                    it would give\n";
+    assert_eq!(
+        reasons("6 0 0 1 55", "6 13 0 0"),
+        format!(
+            "  answer: 0 done, 13 RANGE\n  b (bytes given): 1, 0\n  \
+             bytes: byte 0 is 55, none\n{sentence}"
+        )
+    );
+    assert_eq!(
+        reasons("6 13 0 0", "6 0 0 0"),
+        format!("  answer: 13 RANGE, 0 done\n{sentence}")
+    );
+    for (one, two) in [
+        ("6 0 0 2 aa55", "6 0 0 1 aa"),
+        ("6 3 0 0", "6 13 0 0"),
+        ("6 0 0 1 55", "8 13 0 0"),
+        ("8 0 0 1", "8 13 0 0"),
+        ("258 0 0 1 55", "258 13 0 0"),
+    ] {
+        assert!(!reasons(one, two).contains("order 2"), "{one}, {two}");
+    }
+}
+
+#[test]
 fn the_form_of_a_line_is_noted_once_and_hides_no_difference() {
     let ours = "256 0 4 11074\n6 0 0 2 aa55\n22 0 255 10958\n";
     let theirs = "\u{feff}256 00 4 11074\r\n6 0 00 2 AA55 \r\n22 0 255 10752";

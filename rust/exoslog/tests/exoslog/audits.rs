@@ -55,6 +55,27 @@ fn a_worked_audit() {
     assert!(ran.text().contains(numbers));
 }
 
+/// A maker's board refuses a read that order 2 has stop at the end.
+#[test]
+fn a_board_that_refuses_a_read_at_the_end() {
+    let mut ours = Vec::new();
+    exos_kernel::listing(&run(&["encode"], EXAMPLE.as_bytes()).out[..], &mut ours).unwrap();
+    let maker = String::from_utf8(ours.clone()).unwrap();
+    let maker = maker.replace("6 0 0 1 55\n", "6 13 0 0\n");
+    let ours = File::new("stops.list", &ours);
+    let maker = File::new("refuses.list", maker.as_bytes());
+    let log = File::new("stops.words", EXAMPLE.as_bytes());
+    let ran = run(&["diff", ours.name(), maker.name(), log.name()], b"");
+    let expected = format!(
+        "record 6 differs\n  record: read 5 99 2\n  {}: 6 0 0 1 55\n  {}: 6 13 0 0\n  \
+         answer: 0 done, 13 RANGE\n  b (bytes given): 1, 0\n  bytes: byte 0 is 55, none\n  \
+         order 2: read gives RANGE only where the lent output is shorter than what it would give\n",
+        ours.name(),
+        maker.name()
+    );
+    assert_eq!((ran.status, ran.text()), (1, expected.as_str()));
+}
+
 #[test]
 fn a_difference_that_nobody_reads_is_told_by_the_status() {
     let listing = File::new("unread.list", b"3 0 0 0\n");

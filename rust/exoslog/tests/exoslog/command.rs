@@ -28,13 +28,14 @@ fn encode_and_decode_over_streams_and_files() {
     assert_eq!(ran.text(), expected);
 }
 
+/// "The line `6 13 0 0` of 01's listing becomes `6 0 0 1 55`."
 #[test]
-fn the_listing_of_the_example_is_01s() {
+fn the_listing_of_the_example_is_01s_with_the_line_of_order_2() {
     let records = run(&["encode"], EXAMPLE.as_bytes()).out;
     let mut listing = Vec::new();
     exos_kernel::listing(&records[..], &mut listing).unwrap();
     let expected = "256 0 4 11074\n1 0 0 0\n22 0 255 10958\n8 0 0 2\n6 0 0 2 aa55\n\
-                    6 13 0 0\n3 0 0 0\n22 0 255 11074\n";
+                    6 0 0 1 55\n3 0 0 0\n22 0 255 11074\n";
     assert_eq!(String::from_utf8(listing).unwrap(), expected);
 }
 
