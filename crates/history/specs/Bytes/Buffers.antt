@@ -11,6 +11,7 @@ use lib.Dec.{eqb}
 use lib.ListN.{length, getD, take, drop, replicate, length-take, length-append}
 use lib.Seq.{take-append-le, take-take, take-set-le}
 use Rattle.rows.specs.Definition.Lists.{at, without}
+use Rattle.rows.specs.Definition.Classes.{SHARED}
 use Rattle.rows.specs.Laws.Lists.{neither-below}
 use Rattle.rows.specs.Definition.Channels.{zeroChannel, sumOf}
 use Rattle.rows.specs.Laws.ChannelRows.{from, from-low, from-high, sum-without}
@@ -26,9 +27,9 @@ use Rattle.line.specs.Laws.PointsClosed.{closed-points}
 use Rattle.line.specs.Laws.PointsLinked.{linked-points}
 use Rattle.modules.specs.Definition.Counter.{Put, putEach}
 use Rattle.modules.specs.Laws.Stored.{Below}
-use Rattle.kernel.specs.Definition.Tables.{channelAt}
+use Rattle.kernel.specs.Definition.Tables.{classAt, channelAt, withSegments}
 use Rattle.kernel.specs.Definition.Line.{totalOf, recordAt, sizeAt, bufferAt}
-use Rattle.kernel.specs.Definition.Segments.{mayReach, reachOf}
+use Rattle.kernel.specs.Definition.Segments.{freeing, mayReach, reachOf}
 use Rattle.kernel.specs.Definition.Reset.{bit4, bit5, bit6, emptying, restoring, releasing, resetting}
 use Rattle.kernel.specs.Definition.Bytes.{ramOpened, ramClosed, ramReset, segmentAt}
 use Rattle.kernel.specs.Laws.Chains.{good-chain, chain-shift}
@@ -66,6 +67,12 @@ take-less xs i j h l =
     ∙ take-take i j xs h
 
 -- ---- one law a call
+
+-- free gives a segment another class, and keeps all buffers where they lie
+pub free-by : (t : Tables) (row : ℕ) (P : Tables → Type 0) → ((classes : List ℕ) (user : ℕ) → P (withSegments t classes (t .held) (t .chain) user))
+    → P (freeing t row)
+unfolding freeing
+free-by t row P kept = elim (ℕ-discrete (classAt t row) SHARED) [ yes q ↦ rw (eq-eqb _ _ q) (kept _ _) | no q ↦ rw (ne-eqb _ _ q) (kept _ _) ]
 
 -- reset drops all buffers, or keeps them where they lie
 module _ (t : Tables) (ram : List ℕ) (P : Tables → List ℕ → Type 0) (none : (u : Tables) (ram₁ : List ℕ) → u .opened ≡ 0 → P u ram₁) (same : P t ram)

@@ -5,12 +5,10 @@ use mathlib.Core.Bool.{true, false, cond}
 use mathlib.Core.List.{List, _∷_, _++_}
 use Prim.Native.Nat.{ℕ, _+_, _≤_, _<_}
 use native.Mathlib.Nat.{not-suc-le-zero}
-use native.Mathlib.Decide.{ℕ-discrete}
 use native.Mathlib.Omega.{arith}
-use borrow.Author.Tests.{eq-eqb, ne-eqb, lt-ltb, le-ltb, lt-leb}
+use borrow.Author.Tests.{lt-ltb, le-ltb, lt-leb}
 use lib.Dec.{eqb, leb}
 use lib.ListN.{length, getD, drop, length-append, List·getD-append}
-use Rattle.rows.specs.Definition.Classes.{SHARED}
 use Rattle.line.specs.Definition.Line.{placeOf, lineFrom}
 use Rattle.line.specs.Definition.Ram.{filled}
 use Rattle.line.specs.Definition.Given.{givenOf}
@@ -18,9 +16,9 @@ use Rattle.line.specs.Laws.Given.{given-whole, given-inside}
 use Rattle.line.specs.Laws.Walks.{length-bytes, bytes-at}
 use Rattle.modules.specs.Laws.Stored.{stored-below}
 use Rattle.modules.specs.Definition.Judging.{putsIn}
-use Rattle.kernel.specs.Definition.Tables.{classAt, rowOf, channelAt}
+use Rattle.kernel.specs.Definition.Tables.{rowOf, channelAt}
 use Rattle.kernel.specs.Definition.Line.{sizeAt, bufferAt, opening, closing}
-use Rattle.kernel.specs.Definition.Segments.{granting, sharingLast, freeing, bounding}
+use Rattle.kernel.specs.Definition.Segments.{granting, sharingLast, bounding}
 use Rattle.kernel.specs.Definition.Devices.{linking, deviceNamed}
 use Rattle.kernel.specs.Definition.Start.{started}
 use Rattle.kernel.specs.Definition.Answers.{bOf, granted, Decision}
@@ -37,13 +35,9 @@ use Rattle.kernel.specs.declared.Answer.the-variants.{Done, BadRange}
 use Rattle.history.specs.Definition.Runs.{State, History, after, event, Started, NotAccepted, Runs, stay, then, Run, LastSize, ReadRight, ReadsRight}
 use Rattle.history.specs.Bytes.Words.{written, lastWritten, last-written, lastSize, last-size}
 use Rattle.history.specs.Answers.Found.{open-at, open-one}
-use Rattle.history.specs.Bytes.Buffers.{channelIn, Holds, write-law, open-law, close-law, link-law, store-law, reset-law, load-law}
+use Rattle.history.specs.Bytes.Buffers.{channelIn, Holds, free-by, write-law, open-law, close-law, link-law, store-law, reset-law, load-law}
 use Rattle.history.specs.Bytes.Sized.{Sized, done-sized}
 use Rattle.history.specs.Bytes.Steps.{Sound, done-length, Stepped, refused, done, stepped, step-sound, start-sound}
-
-freeing-law : (t : Tables) (row : ℕ) (ram : List ℕ) (f : ℕ → ℕ → ℕ) → Holds f t ram → Holds f (freeing t row) ram
-unfolding freeing
-freeing-law t row ram f holds = elim (ℕ-discrete (classAt t row) SHARED) [ yes q ↦ rw (eq-eqb _ _ q) holds | no q ↦ rw (ne-eqb _ _ q) holds ]
 
 -- every done call makes of every open channel's bytes what `written` says
 done-holds : {t : Tables} {c : Call} {d : Decision} (ram : List ℕ) (f : ℕ → ℕ → ℕ) → Ready t (length ram) → Ready (d .tables) (length ram) → Holds f t ram
@@ -65,7 +59,7 @@ done-holds {t} ram f r s holds tells = holds
 done-holds {t} ram f r s holds (bounds a h) = holds
 done-holds {t} ram f r s holds (grants h) = holds
 done-holds {t} ram f r s holds (shares a) = holds
-done-holds {t} ram f r s holds (frees {caller} {segment} h o) = freeing-law t (rowOf t segment) ram f holds
+done-holds {t} ram f r s holds (frees {caller} {segment} h o) = free-by t (rowOf t segment) (λ u. Holds f u ram) (λ classes user. holds)
 done-holds {t} ram f r s holds (stores {segment} {offset} {bytes} m h) = store-law t ram r f holds (rowOf t segment) offset bytes m h
 done-holds {t} ram f r s holds (loads m h) = holds
 done-holds {t} ram f r s holds (loads-module {segment} {page} {offset} {stream} b m h) = load-law t ram r f holds (rowOf t segment) (putsIn page offset stream) m (stored-below _ _ _ h)

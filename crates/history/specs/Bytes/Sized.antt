@@ -3,20 +3,19 @@ use mathlib.Core.Path.{_≡_, sym, ap, _∙_}
 use mathlib.Core.Bool.{cond}
 use Prim.Native.Nat.{ℕ, _-_, _<_}
 use native.Mathlib.Nat.{not-suc-le-zero}
-use native.Mathlib.Decide.{decLt, ℕ-discrete}
+use native.Mathlib.Decide.{decLt}
 use native.Mathlib.Omega.{arith}
 use borrow.Author.Tests.{eq-eqb, ne-eqb}
 use mathlib.Core.List.{[]}
 use lib.Dec.{eqb}
 use lib.ListN.{getD}
 use Rattle.rows.specs.Definition.Channels.{zeroChannel}
-use Rattle.rows.specs.Definition.Classes.{SHARED}
 use Rattle.rows.specs.Laws.ChannelRows.{from, from-most}
 use Rattle.rows.specs.declared.Channel.{Channel}
-use Rattle.kernel.specs.Definition.Tables.{classAt, rowOf, channelAt}
+use Rattle.kernel.specs.Definition.Tables.{rowOf, channelAt}
 use Rattle.kernel.specs.Definition.Good.{Good}
 use Rattle.kernel.specs.Definition.Line.{sizeAt, opening, closing}
-use Rattle.kernel.specs.Definition.Segments.{granting, sharingLast, freeing, bounding}
+use Rattle.kernel.specs.Definition.Segments.{granting, sharingLast, bounding}
 use Rattle.kernel.specs.Definition.Devices.{linking, deviceNamed}
 use Rattle.kernel.specs.Definition.Reset.{releasing, resetting}
 use Rattle.kernel.specs.Definition.Answers.{Decision}
@@ -25,7 +24,7 @@ use Rattle.kernel.specs.Laws.Changes.{Opened, opening-opens, opens-row, opens-o
 use Rattle.kernel.specs.Laws.Effects.{Effect, resets, opens, closes, reads, writes, names, counts, links, tells, bounds, grants, shares, frees, stores, loads, loads-module}
 use Rattle.kernel.specs.declared.Tables.{Tables}
 use Rattle.history.specs.Bytes.Words.{resized}
-use Rattle.history.specs.Bytes.Buffers.{channelIn, reset-by}
+use Rattle.history.specs.Bytes.Buffers.{channelIn, free-by, reset-by}
 
 -- the size of every open channel's buffer is what f gives for the channel's number
 abbrev pub Sized : (ℕ → ℕ) → Tables → Type 0
@@ -58,10 +57,6 @@ module _ (t : Tables) (g : Good t) (f : ℕ → ℕ) (sized : Sized f t) where
   link-sized : (u : Tables) (m : ℕ) → Linked t u m → Sized f u
   link-sized u m o i a = rw (o .channels) (sized i (rw (o .opened) at a))
 
-  free-sized : (row : ℕ) → Sized f (freeing t row)
-  unfolding freeing
-  free-sized row = elim (ℕ-discrete (classAt t row) SHARED) [ yes q ↦ rw (eq-eqb _ _ q) sized | no q ↦ rw (ne-eqb _ _ q) sized ]
-
   reset-sized : (flags : ℕ) → Sized f (resetting t flags)
   unfolding releasing
   reset-sized flags = reset-by t [] (λ u ram. Sized f u) (λ u ram e i a. absurd (not-suc-le-zero (rw e at a))) sized sized flags
@@ -83,7 +78,7 @@ done-sized f g s sized tells = sized
 done-sized f g s sized (bounds a h) = sized
 done-sized f g s sized (grants h) = sized
 done-sized f g s sized (shares a) = sized
-done-sized {t} f g s sized (frees {caller} {segment} h o) = free-sized t g f sized (rowOf t segment)
+done-sized {t} f g s sized (frees {caller} {segment} h o) = free-by t (rowOf t segment) (Sized f) (λ classes user. sized)
 done-sized f g s sized (stores m h) = sized
 done-sized f g s sized (loads m h) = sized
 done-sized f g s sized (loads-module b m h) = sized
