@@ -1,12 +1,12 @@
 -- The size of an open channel's buffer is the one that it was last opened with.
 use mathlib.Core.Path.{_≡_, sym, ap, _∙_}
 use mathlib.Core.Bool.{cond}
+use mathlib.Core.List.{[]}
 use Prim.Native.Nat.{ℕ, _-_, _<_}
 use native.Mathlib.Nat.{not-suc-le-zero}
 use native.Mathlib.Decide.{decLt}
 use native.Mathlib.Omega.{arith}
 use borrow.Author.Tests.{eq-eqb, ne-eqb}
-use mathlib.Core.List.{[]}
 use lib.Dec.{eqb}
 use lib.ListN.{getD}
 use Rattle.rows.specs.Definition.Channels.{zeroChannel}
