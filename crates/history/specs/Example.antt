@@ -241,7 +241,7 @@ module _ (ram : List ℕ) (four : length ram ≡ 65536) where
   sequence : Run (tells [] s₀ calls) s₁
   sequence = record { first = s₀; started = starts; runs = runs [] s₀ calls fit (anything s₀ calls) (stay tt) }
 
-  -- 1: of nine bytes asked from byte 1 of channel 2 on, whose buffer moved twice, three remain: the 7 that was written, and zeros
+  -- 1: of nine bytes asked from byte 1 of channel 2 on, whose buffer moved twice, three remain, and as many are lent: the 7 that was written, and zeros
   gave : granted (event s₁ (read 2 1 9) lent .answer) ≡ true
   unfolding decided noTables lettersTest upTo chainLength boundaryAt grown shrunk
   gave = ap granted (known-answer k₁ (read 2 1 9))
@@ -251,7 +251,7 @@ module _ (ram : List ℕ) (four : length ram ≡ 65536) where
 
   four-opened : gives .n ≡ 4
   unfolding lastSize resized decided noTables lettersTest upTo chainLength boundaryAt grown shrunk
-  four-opened = size-one 2 (gives .opening) (last-size 2 _) ∙ alike-size (alike none k₀ calls fit) 2
+  four-opened = size-one 2 (gives .opened-with) (last-size 2 _) ∙ alike-size (alike none k₀ calls fit) 2
 
   pub three-given : bOf (event s₁ (read 2 1 9) lent .answer) ≡ 3
   unfolding givenOf
@@ -264,9 +264,13 @@ module _ (ram : List ℕ) (four : length ram ≡ 65536) where
   unfolding lastWritten written patched decided noTables lettersTest upTo chainLength boundaryAt grown shrunk
   byte-written = written-one 2 1 (gives .bytes 0 (rw three-given (omega arith))) (last-written 2 1 _) ∙ last 1
 
-  pub byte-zero : getD (event s₁ (read 2 1 9) lent .output) 2 0 ≡ 0
+  pub byte-zero : getD (event s₁ (read 2 1 9) lent .output) 1 0 ≡ 0
   unfolding lastWritten written patched decided noTables lettersTest upTo chainLength boundaryAt grown shrunk
-  byte-zero = written-one 2 3 (gives .bytes 2 (rw three-given (omega arith))) (last-written 2 3 _) ∙ last 3
+  byte-zero = written-one 2 2 (gives .bytes 1 (rw three-given (omega arith))) (last-written 2 2 _) ∙ last 2
+
+  pub last-zero : getD (event s₁ (read 2 1 9) lent .output) 2 0 ≡ 0
+  unfolding lastWritten written patched decided noTables lettersTest upTo chainLength boundaryAt grown shrunk
+  last-zero = written-one 2 3 (gives .bytes 2 (rw three-given (omega arith))) (last-written 2 3 _) ∙ last 3
 
   -- 2: byte 5 of the shared segment is the 9 that was stored, and byte 7 the high byte of 1234h + 4006h, which was loaded
   byte-last : (k : ℕ) → sharedTest 255 k t₁ ≡ true → sharedAll 255 k t₁ more ≡ true

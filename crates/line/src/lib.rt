@@ -106,7 +106,7 @@ pub fn given(n: usize, offset: usize, asked: usize) -> usize
     if asked < rest { asked } else { rest }
 }
 
-// The n bytes on positions start, start + 1, .. come to the front of the output; where n is 0 they need not lie on the line.
+// The n bytes on positions start, start + 1, .. come to the front of the output; where n is 0, start need not lie on the line.
 pub fn get(ram: &[u8], chain: &[u8; 32], room: usize, start: usize, out: &mut [u8], n: usize)
     requires { ⌜ (n ≤ length (now out)) × (0 < n → Chain (now chain) room (start + n) (length (now ram))) ⌝ }
     ensures { λ _. ⌜ now (out .exit) ≡ filled n (lineFrom (now (chain .entry)) room (now (ram .entry)) start n) (now (out .entry)) ⌝ }

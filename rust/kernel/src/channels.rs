@@ -152,8 +152,8 @@ pub(crate) fn read(
     Ok(Reply::done(0, given as u16))
 }
 
-/// Writes into a buffer: "RANGE: offset + length past the end"; order 2: "write,
-/// store and load keep RANGE".
+/// Writes into a buffer: "RANGE: offset + length past the end"; order 2: "Write,
+/// store and load keep RANGE."
 pub(crate) fn write(
     tables: &Tables,
     ram: &mut [u8],

@@ -36,8 +36,8 @@ impl UserPart {
         Ok(UserPart { row, end })
     }
 
-    /// "RANGE: offset + length past the end"; order 2: "write, store and load
-    /// keep RANGE".
+    /// "RANGE: offset + length past the end"; order 2: "Write, store and load
+    /// keep RANGE."
     fn check_range(&self, offsets: &Range<usize>) -> Result<(), Refusal> {
         if offsets.end > self.end {
             return Err(Refusal::Range);

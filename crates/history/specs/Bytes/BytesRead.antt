@@ -125,7 +125,7 @@ module _ (t : State) (h : History) (r : Sound t) (holds : Holds (lastWritten h) 
       let filled-is : event t c output .output ≡ given ++ drop b output = rw (known .2) in
       record {
         n = n;
-        opening = rw (sized j (known .0), here) (last-size channel h);
+        opened-with = rw (sized j (known .0), here) (last-size channel h);
         number = known .1;
         whole = λ l. number ∙ given-whole n offset asked l;
         fits = omega (arith, number, many, ap length filled-is, length-append given (drop b output));

@@ -118,7 +118,7 @@ LastSize channel = Last (Sizes channel) 0
 -- "The byte rule of condition 3 speaks of the bytes given" (order 2): what the done read e gave after the history h, of a buffer of n bytes
 pub record ReadRight (channel offset asked : ℕ) (h : History) (e : Event) : Type 0 where
   pub n : ℕ
-  pub opening : LastSize channel h n
+  pub opened-with : LastSize channel h n
   -- "the bytes that remain, up to the length asked; b is their number"
   pub number : e .answer ≡ Done 0 (givenOf n offset asked)
   -- all that was asked, wherever the buffer has it

@@ -35,7 +35,7 @@ pub data Call : Type 0 where
   -- "The driver's reply to an open is an input."
   «open» : (channel driver n : ℕ) (name : List ℕ) → Call
   close : (channel : ℕ) → Call
-  read : (channel offset size : ℕ) → Call
+  read : (channel offset asked : ℕ) → Call
   write : (channel offset : ℕ) (bytes : List ℕ) → Call
   default : (unit : ℕ) (name : List ℕ) → Call
   status : Call
@@ -58,7 +58,7 @@ isStart (start room list) = true
 isStart (reset flags) = false
 isStart («open» channel driver n name) = false
 isStart (close channel) = false
-isStart (read channel offset size) = false
+isStart (read channel offset asked) = false
 isStart (write channel offset bytes) = false
 isStart (default unit name) = false
 isStart status = false
@@ -123,11 +123,11 @@ onClose t channel =
 
 -- a is 0; order 2: "A channel read now gives the bytes that remain, up to the length asked; b is their number"; "read gives RANGE only where the lent
 -- output is shorter than what it would give"
-unfoldable pub onRead : Tables → (output channel offset size : ℕ) → Decision
+unfoldable pub onRead : Tables → (output channel offset asked : ℕ) → Decision
 unfolding givenOf
-onRead t output channel offset size =
+onRead t output channel offset asked =
     let i = channelAt t channel in
-    let b = givenOf (sizeAt t i) offset size in
+    let b = givenOf (sizeAt t i) offset asked in
     unless
     (NoChannel when leb (t .opened) i
     ∷ BadRange when ltb output b

@@ -99,7 +99,7 @@ pub data Row (t : Tables) (ram output : ℕ) : (c : Call) (k : ℕ) → Type 0 w
   -- 3 CHANNEL: "255, or not open (open: 255 only)"; no u8 is beyond 255
   open-channel : {channel driver n : ℕ} {name : List ℕ} → 255 ≤ channel → Row t ram output («open» channel driver n name) 3
   close-channel : {channel : ℕ} → NotOpen t channel → Row t ram output (close channel) 3
-  read-channel : {channel offset size : ℕ} → NotOpen t channel → Row t ram output (read channel offset size) 3
+  read-channel : {channel offset asked : ℕ} → NotOpen t channel → Row t ram output (read channel offset asked) 3
   write-channel : {channel offset : ℕ} {bytes : List ℕ} → NotOpen t channel → Row t ram output (write channel offset bytes) 3
   -- 4 EXISTS: "open: already open"
   open-exists : {channel driver n i : ℕ} {name : List ℕ} → OpenAt t channel i → Row t ram output («open» channel driver n name) 4
@@ -137,7 +137,7 @@ pub data Row (t : Tables) (ram output : ℕ) : (c : Call) (k : ℕ) → Type 0 w
   load-end : {segment offset size row : ℕ} → InList t segment row → reachOf t row < offset + size → Row t ram output (load segment offset size) 13
   load-output : {segment offset size : ℕ} → output < size → Row t ram output (load segment offset size) 13
   -- order 2: "read gives RANGE only where the lent output is shorter than what it would give"
-  read-output : {channel offset size i : ℕ} → OpenAt t channel i → output < givenOf (sizeAt t i) offset size → Row t ram output (read channel offset size) 13
+  read-output : {channel offset asked i : ℕ} → OpenAt t channel i → output < givenOf (sizeAt t i) offset asked → Row t ram output (read channel offset asked) 13
   -- order 3: "then RANGE above the user boundary", of the first item at fault
   module-range : {segment page offset row : ℕ} {stream : List ℕ} → InList t segment row → ModuleRefused t row page offset stream Range
       → Row t ram output (load-module segment page offset stream) 13

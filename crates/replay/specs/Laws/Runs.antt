@@ -73,9 +73,9 @@ replayed-last m (r ∷ rs) q = replayed-last (asked m r) rs q
 -- The last record of a replayed buffer is a read, and is done: what it gives is what it should, as many bytes as remain of what the channel was opened
 -- with, up to the length asked, and each the one last written there through that channel since its opening, or zero if none was.
 pub last-read : (m : Result) (xs : List ℕ) (rs : List EventRecord) (q : EventRecord) → records xs ≡ rs ++ (q ∷ []) → HasAcceptedStart m rs
-    → (channel offset asked : ℕ) → callOf q ≡ read channel offset asked → granted (replayed m (records xs) .answer) ≡ true
-    → ReadRight channel offset asked (since [] m rs)
+    → (channel offset wanted : ℕ) → callOf q ≡ read channel offset wanted → granted (replayed m (records xs) .answer) ≡ true
+    → ReadRight channel offset wanted (since [] m rs)
     (record { call = callOf q; answer = replayed m (records xs) .answer; output = replayed m (records xs) .output })
-last-read m xs rs q e s channel offset asked is done =
+last-read m xs rs q e s channel offset wanted is done =
     let last = replayed-last m rs q in
-    rw (e, last, is) (bytes-read (run-from [] m rs s) channel offset asked (replayed m rs .output) (rw (e, last, is) at done))
+    rw (e, last, is) (bytes-read (run-from [] m rs s) channel offset wanted (replayed m rs .output) (rw (e, last, is) at done))

@@ -99,11 +99,11 @@ usage: exoslog diff [--from FORM] LISTING1 LISTING2 [LOG]
 
 Prints nothing where the listings are the same. Else tells the first record
 whose values differ: its number, the record in words if LOG is given, both
-lines, and which fields differ, the value of LISTING1 first; of a read that only
-one of them refuses with 13 RANGE also when order 2 allows that. What is not in
-01's form but has the values (line ends, zeros before a number, capitals in hex)
-is noted above that, the first of each sort. One of the files may be -, standard
-input.
+lines, and which fields differ, the value of LISTING1 first; where one has a
+read done and the other refuses it with 13 RANGE, order 2's sentence on that.
+What is not in 01's form but has the values (line ends, zeros before a number,
+capitals in hex) is noted above that, the first of each sort. One of the files
+may be -, standard input.
 
 exit status: 0 the same byte by byte, 1 they differ, 2 trouble.
 ";

@@ -111,7 +111,8 @@ impl<'a> Answer<'a> {
             .collect()
     }
 
-    /// When a read is refused with RANGE, where only one of two listings has that.
+    /// When a read is refused with RANGE, where one of two listings has it done
+    /// and the other has RANGE.
     fn range_of_read(&self, other: &Answer) -> Option<String> {
         let mut answers = [self, other].map(|answer| (answer.kind(), answer.values()[1]));
         answers.sort_unstable();

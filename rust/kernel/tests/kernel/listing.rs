@@ -27,7 +27,7 @@ fn the_example_to_the_letter() {
     input.extend(record(6, &[5, 99, 0, 2, 0]));
     input.extend(record(3, &[5]));
     input.extend(record(22, &[]));
-    // order 2: "the line `6 13 0 0` of 01's listing becomes `6 0 0 1 55`"
+    // order 2: "The line `6 13 0 0` of 01's listing becomes `6 0 0 1 55`."
     let expected = "256 0 4 11074\n1 0 0 0\n22 0 255 10958\n8 0 0 2\n6 0 0 2 aa55\n6 0 0 1 55\n3 0 0 0\n22 0 255 11074\n";
     assert_eq!(list(&input), expected);
 }

@@ -12,7 +12,8 @@ pub use words::{all_read_edges, ReadEdge};
 /// The listing program lends "4,096 bytes of output".
 const LISTED: usize = 4_096;
 
-/// A read of an open channel: in which row, and of how many bytes.
+/// A read of an open channel: its row, the buffer's n, what is asked and what is
+/// given.
 struct Reading {
     row: usize,
     n: usize,
