@@ -40,9 +40,9 @@ pub read-bad : (body : List ℕ) → (length body ≡ 5 → ⊥) → readIn body
 unfolding readIn
 read-bad body h = rw (ne-eqb (length body) 5 h)
 
-pub read-taken : (body : List ℕ) (offset size : ℕ) → length body ≡ 5 → offset ≡ u16At body 1 → size ≡ u16At body 3 → readIn body ≡ read (u8At body 0) offset size
+pub read-taken : (body : List ℕ) (offset asked : ℕ) → length body ≡ 5 → offset ≡ u16At body 1 → asked ≡ u16At body 3 → readIn body ≡ read (u8At body 0) offset asked
 unfolding readIn
-read-taken body offset size h e f = rw (eq-eqb (length body) 5 h, e, f)
+read-taken body offset asked h e f = rw (eq-eqb (length body) 5 h, e, f)
 
 pub write-bad : (body : List ℕ) → length body < 3 → writeIn body ≡ no-call
 unfolding writeIn

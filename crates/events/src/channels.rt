@@ -44,8 +44,8 @@ pub fn read_event(t: Tables, ram: &[u8], body: &[u8], out: &mut [u8]) -> Outcome
         return t.refuse(Answer::BadCall);
     }
     let offset = u16_at(body, 1);
-    let size = u16_at(body, 3);
-    t.read_good(ram, body[0], offset, size, out)
+    let asked = u16_at(body, 3);
+    t.read_good(ram, body[0], offset, asked, out)
 }
 
 // Channel, offset, data.

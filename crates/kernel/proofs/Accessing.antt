@@ -27,25 +27,25 @@ use Rattle.kernel.proofs.Spans.{Open, Reached}
 
 -- read
 
-module _ (t : Tables) (ram out : List ℕ) (channel offset size : ℕ) where
+module _ (t : Tables) (ram out : List ℕ) (channel offset asked : ℕ) where
   pub read-closed : t .opened ≤ channelAt t channel
-      → result (gives NoChannel t) ram out ≡ completed t (onRead t (length out) channel offset size) ram out
+      → result (gives NoChannel t) ram out ≡ completed t (onRead t (length out) channel offset asked) ram out
   unfolding completed onRead
   read-closed h = rw (le-leb (t .opened) (channelAt t channel) h)
 
-  module _ (i : ℕ) (o : Open t channel i) (n from asked count : ℕ) (is : n ≡ sizeAt t i) (e : from ≡ offset) (f : asked ≡ size)
-      (b : count ≡ givenOf n from asked) where
-    read-count : givenOf (sizeAt t i) offset size ≡ count
+  module _ (i : ℕ) (o : Open t channel i) (n from most count : ℕ) (is : n ≡ sizeAt t i) (e : from ≡ offset) (f : most ≡ asked)
+      (b : count ≡ givenOf n from most) where
+    read-count : givenOf (sizeAt t i) offset asked ≡ count
     read-count = rw (b, is, e, f)
 
     pub read-short : length out < count
-        → result (gives BadRange t) ram out ≡ completed t (onRead t (length out) channel offset size) ram out
+        → result (gives BadRange t) ram out ≡ completed t (onRead t (length out) channel offset asked) ram out
     unfolding completed onRead
     read-short h = rw (o .found, o .here, read-count, lt-ltb (length out) count h)
 
     pub read-done : count ≤ length out → (room start : ℕ) (after : List ℕ) → room ≡ t .room → start ≡ bufferAt t i
         → after ≡ filled count (lineFrom (t .chain) room ram (start + from) count) out
-        → result (gives (Done 0 count) t) ram after ≡ completed t (onRead t (length out) channel offset size) ram out
+        → result (gives (Done 0 count) t) ram after ≡ completed t (onRead t (length out) channel offset asked) ram out
     unfolding completed onRead
     read-done h room start after r s a = rw (o .found, o .here, read-count, le-ltb (length out) count h, a, e, r, s)
 

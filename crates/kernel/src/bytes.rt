@@ -53,13 +53,13 @@ impl Tables {
         wide16(c.n)
     }
 
-    pub fn read(self, ram: &[u8], channel: u8, offset: u16, size: u16, out: &mut [u8]) -> Outcome
-        ensures { λ r. ⌜ result r (now (ram .entry)) (now (out .exit)) ≡ step self (now (ram .entry)) (calls.read channel offset size) (now (out .entry)) ⌝ }
+    pub fn read(self, ram: &[u8], channel: u8, offset: u16, asked: u16, out: &mut [u8]) -> Outcome
+        ensures { λ r. ⌜ result r (now (ram .entry)) (now (out .exit)) ≡ step self (now (ram .entry)) (calls.read channel offset asked) (now (out .entry)) ⌝ }
     {
         if !self.is_ready(ram.len()) {
             return self.refuse(Answer::BadTables);
         }
-        self.read_good(ram, channel, offset, size, out)
+        self.read_good(ram, channel, offset, asked, out)
     }
 
     pub fn read_good(
@@ -67,11 +67,11 @@ impl Tables {
         ram: &[u8],
         channel: u8,
         offset: u16,
-        size: u16,
+        asked: u16,
         out: &mut [u8],
     ) -> Outcome
         requires { ⌜ Good self × (length (now ram) ≡ ramSize self) ⌝ }
-        ensures { λ r. ⌜ result r (now (ram .entry)) (now (out .exit)) ≡ completed self (onRead self (length (now (out .entry))) channel offset size) (now (ram .entry)) (now (out .entry)) ⌝ }
+        ensures { λ r. ⌜ result r (now (ram .entry)) (now (out .exit)) ≡ completed self (onRead self (length (now (out .entry))) channel offset asked) (now (ram .entry)) (now (out .entry)) ⌝ }
     {
         let channels = self.channels;
         let opened = wide(self.opened);
@@ -79,8 +79,8 @@ impl Tables {
             return self.refuse(Answer::NoChannel);
         };
         let from = wide16(offset);
-        let asked = wide16(size);
-        let count = given(self.size_at(i), from, asked);
+        let most = wide16(asked);
+        let count = given(self.size_at(i), from, most);
         if out.len() < count {
             return self.refuse(Answer::BadRange);
         }

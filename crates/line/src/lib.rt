@@ -106,15 +106,15 @@ pub fn given(n: usize, offset: usize, asked: usize) -> usize
     if asked < rest { asked } else { rest }
 }
 
-// The n bytes on positions start, start + 1, .. come to the front of the output; where n is 0, start need not lie on the line.
-pub fn get(ram: &[u8], chain: &[u8; 32], room: usize, start: usize, out: &mut [u8], n: usize)
-    requires { ⌜ (n ≤ length (now out)) × (0 < n → Chain (now chain) room (start + n) (length (now ram))) ⌝ }
-    ensures { λ _. ⌜ now (out .exit) ≡ filled n (lineFrom (now (chain .entry)) room (now (ram .entry)) start n) (now (out .entry)) ⌝ }
+// The count bytes on positions start, start + 1, .. come to the front of the output; where count is 0, start need not lie on the line.
+pub fn get(ram: &[u8], chain: &[u8; 32], room: usize, start: usize, out: &mut [u8], count: usize)
+    requires { ⌜ (count ≤ length (now out)) × (0 < count → Chain (now chain) room (start + count) (length (now ram))) ⌝ }
+    ensures { λ _. ⌜ now (out .exit) ≡ filled count (lineFrom (now (chain .entry)) room (now (ram .entry)) start count) (now (out .entry)) ⌝ }
 {
     let mut k = 0;
-    while k < n {
+    while k < count {
         let s = place(chain, room, start + k);
-        let m = least(s % 16384 + 1, n - k);
+        let m = least(s % 16384 + 1, count - k);
         runs::get_fall(ram, s, out, k, m);
         k += m;
     }

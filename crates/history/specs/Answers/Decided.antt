@@ -67,7 +67,7 @@ module _ (t : Tables) (ram output : ℕ) where
   heard-lowest (reset flags) h low = reset-lowest t ram output flags low
   heard-lowest («open» channel driver n name) h low = open-lowest t (heard-good («open» channel driver n name) refl h) ram output channel driver n name low
   heard-lowest (close channel) h low = close-lowest t (heard-good (close channel) refl h) ram output channel low
-  heard-lowest (read channel offset size) h low = read-lowest t (heard-good (read channel offset size) refl h) ram output channel offset size low
+  heard-lowest (read channel offset asked) h low = read-lowest t (heard-good (read channel offset asked) refl h) ram output channel offset asked low
   heard-lowest (write channel offset bytes) h low = write-lowest t (heard-good (write channel offset bytes) refl h) ram output channel offset bytes low
   heard-lowest (default unit name) h low = default-lowest t (heard-good (default unit name) refl h) ram output unit name low
   heard-lowest status h low = status-lowest t ram output low

@@ -63,9 +63,9 @@ pub data Effect (t : Tables) : Call → Decision → Type 0 where
       → t .opened < 32 → roomFor t (t .room) (totalOf t + (16 + c .n)) ≡ true
       → Effect t («open» channel driver n name) (gives (Done (c .device) (c .unit)) (opening t c) changing appended c)
   closes : {channel : ℕ} → channelAt t channel < t .opened → Effect t (close channel) (gives (Done 0 0) (closing t (channelAt t channel)) changing removed (channelAt t channel))
-  reads : {channel offset size : ℕ} → channelAt t channel < t .opened
-      → Effect t (read channel offset size)
-      (let b = givenOf (sizeAt t (channelAt t channel)) offset size in gives (Done 0 b) t filling from-buffer (channelAt t channel) offset b)
+  reads : {channel offset asked : ℕ} → channelAt t channel < t .opened
+      → Effect t (read channel offset asked)
+      (let b = givenOf (sizeAt t (channelAt t channel)) offset asked in gives (Done 0 b) t filling from-buffer (channelAt t channel) offset b)
   writes : {channel offset : ℕ} {bytes : List ℕ} → channelAt t channel < t .opened → offset + length bytes ≤ sizeAt t (channelAt t channel)
       → Effect t (write channel offset bytes) (gives (Done 0 (length bytes)) t changing in-buffer (channelAt t channel) offset bytes)
   names : {unit : ℕ} {name : List ℕ} → DefaultName name
@@ -153,9 +153,9 @@ module _ (t : Tables) (ram : ℕ) where
       past (ltb (channelAt t channel) (t .opened)) _ refl (λ new.
       open-named channel driver n name (leb-false _ _ low) (ltb-false _ _ new) (reading name)))
   heard-verdict output (close channel) = past (leb (t .opened) (channelAt t channel)) _ refl (λ e. does refl (closes (leb-false _ _ e)))
-  heard-verdict output (read channel offset size) =
+  heard-verdict output (read channel offset asked) =
       past (leb (t .opened) (channelAt t channel)) _ refl (λ e.
-      past (ltb output (givenOf (sizeAt t (channelAt t channel)) offset size)) _ refl (λ _. does refl (reads (leb-false _ _ e))))
+      past (ltb output (givenOf (sizeAt t (channelAt t channel)) offset asked)) _ refl (λ _. does refl (reads (leb-false _ _ e))))
   heard-verdict output (write channel offset bytes) =
       past (leb (t .opened) (channelAt t channel)) _ refl (λ e.
       past _ _ refl (λ f. does refl (writes (leb-false _ _ e) (ltb-false _ _ f))))

@@ -27,13 +27,13 @@ module _ {t : Tables} {ram output : ℕ} where
   close-3 : {channel : ℕ} → Row t ram output (close channel) 3 → NotOpen t channel
   close-3 (close-channel n) = n
 
-  read-3 : {channel offset size : ℕ} → Row t ram output (read channel offset size) 3 → NotOpen t channel
+  read-3 : {channel offset asked : ℕ} → Row t ram output (read channel offset asked) 3 → NotOpen t channel
   read-3 (read-channel n) = n
 
   write-3 : {channel offset : ℕ} {bytes : List ℕ} → Row t ram output (write channel offset bytes) 3 → NotOpen t channel
   write-3 (write-channel n) = n
 
-  read-13 : {channel offset size : ℕ} → Row t ram output (read channel offset size) 13 → SizeIs t channel (λ n. output < givenOf n offset size)
+  read-13 : {channel offset asked : ℕ} → Row t ram output (read channel offset asked) 13 → SizeIs t channel (λ n. output < givenOf n offset asked)
   read-13 (read-output {i = i} o h) = (i, o, h)
 
   write-13 : {channel offset : ℕ} {bytes : List ℕ} → Row t ram output (write channel offset bytes) 13 → SizeIs t channel (λ n. n < offset + length bytes)
@@ -54,17 +54,17 @@ module _ (t : Tables) (g : Good t) (ram output : ℕ) where
       end)
       (by-none (close channel) _ refl refl)
 
-  pub read-lowest : (channel offset size : ℕ) → Below (Row t ram output (read channel offset size)) 2
-      → Lowest (Row t ram output (read channel offset size)) (onRead t output channel offset size)
+  pub read-lowest : (channel offset asked : ℕ) → Below (Row t ram output (read channel offset asked)) 2
+      → Lowest (Row t ram output (read channel offset asked)) (onRead t output channel offset asked)
   unfolding onRead
-  read-lowest channel offset size =
-      by-rows (read channel offset size) _
+  read-lowest channel offset asked =
+      by-rows (read channel offset asked) _
       (rule NoChannel refl (λ _. says-as (not-open-says t g channel) read-channel read-3)
       (rule BadRange refl (λ low.
-      says-as (size-says channel (λ n. output < givenOf n offset size) (λ n. low 3 (omega arith) (read-channel n)) (says-lt _ _))
+      says-as (size-says channel (λ n. output < givenOf n offset asked) (λ n. low 3 (omega arith) (read-channel n)) (says-lt _ _))
       (λ (i, o, h). read-output o h) read-13)
       end))
-      (by-none (read channel offset size) _ refl refl)
+      (by-none (read channel offset asked) _ refl refl)
 
   pub write-lowest : (channel offset : ℕ) (bytes : List ℕ) → Below (Row t ram output (write channel offset bytes)) 2
       → Lowest (Row t ram output (write channel offset bytes)) (onWrite t channel offset bytes)

@@ -56,7 +56,7 @@ add-start : tie.Need-add-start
 add-start c = search needs
 
 get-requires : tie.Need-get-requires
-get-requires c κs = (c .before .before .before .before .before .if1 .left, λ some. given-chain (c .before .before .before .before .before .before .before .before .before .before .before .before .before .before .before .before .before .before .args .self) _ _ _ _ (c .before .before .before .before .before .before .before .before .before .before .before .before .before .before .before .before .before .before .pre .0) (placed (c .before .before .before .before .before .before .before .before .before .before) .among) (c .before .before .before .wide163 .ensures .0) (c .before .before .buffer-at .ensures .0) (c .before .before .before .before .before .before .before .size-at .ensures .0) _ _ _ _ (c .before .before .before .before .before .before .before .before .before .before .before .before .before .before .before .before .before .before .pre .1) (c .before .before .before .before .before .before .given .ensures .0) some)
+get-requires c κs = (omega (arith, c .before .before .before .before .before .if1 .left, c .before .before .before .before .before .before .given .ensures .1), λ some. given-chain (c .before .before .before .before .before .before .before .before .before .before .before .before .before .before .before .before .before .before .args .self) _ _ _ _ (c .before .before .before .before .before .before .before .before .before .before .before .before .before .before .before .before .before .before .pre .0) (placed (c .before .before .before .before .before .before .before .before .before .before) .among) (c .before .before .before .wide163 .ensures .0) (c .before .before .buffer-at .ensures .0) (c .before .before .before .before .before .before .before .size-at .ensures .0) _ _ _ _ (c .before .before .before .before .before .before .before .before .before .before .before .before .before .before .before .before .before .before .pre .1) (c .before .before .before .before .before .before .given .ensures .0) some)
 
 cast-t25 : tie.Need-cast-t25
 cast-t25 c = omega (arith, c .before .before .before .before .before .before .before .before .before .given .ensures .1, c .before .before .before .before .before .before .before .before .before .before .before .wide162 .ensures .1)
