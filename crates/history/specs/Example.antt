@@ -255,7 +255,7 @@ module _ (ram : List ℕ) (four : length ram ≡ 65536) where
 
   pub three-given : bOf (event s₁ (read 2 1 9) lent .answer) ≡ 3
   unfolding givenOf
-  three-given = ap bOf (gives .number) ∙ ap (λ (n : ℕ). givenOf n 1 9) four-opened
+  three-given = ap bOf (gives .given) ∙ ap (λ (n : ℕ). givenOf n 1 9) four-opened
 
   last : (k : ℕ) → lastWritten (tells [] s₀ calls) 2 k ≡ lastWritten (plain [] t₀ calls) 2 k
   last k = alike-written (alike none k₀ calls fit) 2 k

@@ -12,7 +12,7 @@ use lib.ListN.{length, getD, drop, length-append, List·getD-append}
 use Rattle.line.specs.Definition.Line.{placeOf, lineFrom}
 use Rattle.line.specs.Definition.Ram.{filled}
 use Rattle.line.specs.Definition.Given.{givenOf}
-use Rattle.line.specs.Laws.Given.{given-whole, given-inside}
+use Rattle.line.specs.Laws.Given.{given-whole, given-rest, given-none, given-inside}
 use Rattle.line.specs.Laws.Walks.{length-bytes, bytes-at}
 use Rattle.modules.specs.Laws.Stored.{stored-below}
 use Rattle.modules.specs.Definition.Judging.{putsIn}
@@ -120,20 +120,22 @@ module _ (t : State) (h : History) (r : Sound t) (holds : Holds (lastWritten h) 
       let here : channelIn u j ≡ channel = open-at u (r .good) channel (known .0) .number in
       let walk = placeOf (u .chain) (u .room) in
       let p = bufferAt u j + offset in
-      let given = lineFrom (u .chain) (u .room) (t .ram) p b in
-      let many : length given ≡ b = length-bytes walk (t .ram) p b in
-      let filled-is : event t c output .output ≡ given ++ drop b output = rw (known .2) in
+      let there = lineFrom (u .chain) (u .room) (t .ram) p b in
+      let many : length there ≡ b = length-bytes walk (t .ram) p b in
+      let filled-is : event t c output .output ≡ there ++ drop b output = rw (known .2) in
       record {
         n = n;
         opened-with = rw (sized j (known .0), here) (last-size channel h);
-        number = known .1;
+        given = known .1;
         whole = λ l. number ∙ given-whole n offset asked l;
-        fits = omega (arith, number, many, ap length filled-is, length-append given (drop b output));
+        rest = λ l m. ap (λ (x : ℕ). offset + x) number ∙ given-rest n offset asked l m;
+        past = λ l. number ∙ given-none n offset asked l;
+        fits = omega (arith, number, many, ap length filled-is, length-append there (drop b output));
         bytes = λ i l.
             let k : i < b = rw (← number) l in
             let at : p + i ≡ bufferAt u j + (offset + i) = omega arith in
             let byte : getD (event t c output .output) i 0 ≡ lastWritten h channel (offset + i) =
-            rw filled-is (List·getD-append given (drop b output) 0 i (omega arith))
+            rw filled-is (List·getD-append there (drop b output) 0 i (omega arith))
             ∙ bytes-at walk (t .ram) p b i k
             ∙ ap (λ (x : ℕ). getD (t .ram) (walk x) 0) at
             ∙ holds j (known .0) (offset + i) (given-inside n offset asked i k)
@@ -141,8 +143,9 @@ module _ (t : State) (h : History) (r : Sound t) (holds : Holds (lastWritten h) 
             rw byte (last-written channel (offset + i) h);
       }
 
--- A read that is done after any sequence of calls since an accepted start, with no second start, gives as many bytes as remain of the n that the channel was
--- opened with, up to the length asked, and each of them is the one last written there through that channel since its opening, or zero if none was.
+-- A read that is done after any sequence of calls since an accepted start, with no second start, gives as many bytes as remain, from the offset on, of the
+-- n that the channel was opened with, up to the length asked, and each of them is the one last written there through that channel since its opening, or
+-- zero if none was.
 pub bytes-read : {h : History} {t : State} → Run h t → (channel offset asked : ℕ) (output : List ℕ)
     → granted (event t (read channel offset asked) output .answer) ≡ true
     → ReadRight channel offset asked h (event t (read channel offset asked) output)

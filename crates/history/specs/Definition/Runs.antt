@@ -119,10 +119,12 @@ LastSize channel = Last (Sizes channel) 0
 pub record ReadRight (channel offset asked : ℕ) (h : History) (e : Event) : Type 0 where
   pub n : ℕ
   pub opened-with : LastSize channel h n
-  -- "the bytes that remain, up to the length asked; b is their number"
-  pub number : e .answer ≡ Done 0 (givenOf n offset asked)
-  -- all that was asked, wherever the buffer has it
+  -- "the bytes that remain, up to the length asked; b is their number, 0 at or past the end"
+  pub given : e .answer ≡ Done 0 (givenOf n offset asked)
+  -- all that was asked, wherever the buffer has it; where it has not, all up to the end; none past it
   pub whole : offset + asked ≤ n → bOf (e .answer) ≡ asked
+  pub rest : offset ≤ n → n ≤ offset + asked → offset + bOf (e .answer) ≡ n
+  pub past : n ≤ offset → bOf (e .answer) ≡ 0
   -- they are in the output, and each "is the one last written there"
   pub fits : bOf (e .answer) ≤ length (e .output)
   pub bytes : (i : ℕ) → i < bOf (e .answer) → LastWritten channel (offset + i) h (getD (e .output) i 0)

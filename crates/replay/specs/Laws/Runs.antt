@@ -22,7 +22,7 @@ start-run s (start room list) output e = record {
 start-run s (reset flags) output e = absurd (false≢true e)
 start-run s («open» channel driver n name) output e = absurd (false≢true e)
 start-run s (close channel) output e = absurd (false≢true e)
-start-run s (read channel offset size) output e = absurd (false≢true e)
+start-run s (read channel offset asked) output e = absurd (false≢true e)
 start-run s (write channel offset bytes) output e = absurd (false≢true e)
 start-run s (default unit name) output e = absurd (false≢true e)
 start-run s status output e = absurd (false≢true e)
@@ -70,8 +70,8 @@ replayed-last : (m : Result) (rs : List EventRecord) (q : EventRecord) → repla
 replayed-last m [] q = refl
 replayed-last m (r ∷ rs) q = replayed-last (asked m r) rs q
 
--- The last record of a replayed buffer is a read, and is done: what it gives is what it should, as many bytes as remain of what the channel was opened
--- with, up to the length asked, and each the one last written there through that channel since its opening, or zero if none was.
+-- The last record of a replayed buffer is a read, and is done: what it gives is what it should, as many bytes as remain, from the offset on, of what the
+-- channel was opened with, up to the length asked, and each the one last written there through that channel since its opening, or zero if none was.
 pub last-read : (m : Result) (xs : List ℕ) (rs : List EventRecord) (q : EventRecord) → records xs ≡ rs ++ (q ∷ []) → HasAcceptedStart m rs
     → (channel offset wanted : ℕ) → callOf q ≡ read channel offset wanted → granted (replayed m (records xs) .answer) ≡ true
     → ReadRight channel offset wanted (since [] m rs)
