@@ -13,7 +13,7 @@ static const uint8_t log_bytes[] = {
     2,  0, 22, 0,                                            /* boundary */
     7,  0, 8,  0, 5,    98,   0,    0xAA, 0x55,              /* write 5 at 98 */
     7,  0, 6,  0, 5,    98,   0,    2,    0,                 /* read 5 at 98, 2 bytes */
-    7,  0, 6,  0, 5,    99,   0,    2,    0,                 /* read 5 at 99, 2 bytes */
+    7,  0, 6,  0, 5,    99,   0,    2,    0,                 /* read 5 at 99, 2 bytes: one remains */
     3,  0, 3,  0, 5,                                         /* close 5 */
     2,  0, 22, 0                                             /* boundary */
 };
