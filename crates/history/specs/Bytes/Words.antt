@@ -1,4 +1,4 @@
--- The byte last written, the byte last stored and the size last opened with: one of each history, computed by its calls.
+-- The byte last written, the byte last stored and the size last opened with: of each history there is one, computed by its calls.
 use mathlib.Core.Path.{_≡_, refl, sym, ap, _∙_}
 use mathlib.Core.Bool.{Bool, true, false, cond}
 use mathlib.Core.List.{List, [], _∷_}
@@ -206,7 +206,7 @@ module _ (segment k : ℕ) where
 
 -- ---- a buffer's size
 
--- what a done call makes of the size of a channel's buffer, which was `old`: an open of the channel makes it what it asks
+-- what a done call makes of the size of a channel's buffer, which was `old`: an open of the channel makes it the n that the open asks for
 abbrev sizedBy : (channel : ℕ) (c : Call) → Deed c → (old : ℕ) → ℕ
 sizedBy channel c (opens d driver n name) old = cond (eqb d channel) n old
 sizedBy channel c (writes d offset bytes) old = old

@@ -1,4 +1,5 @@
--- Sequences of calls since an accepted start, each made on the tables and RAM the last one left, and what their own calls and answers say of a byte.
+-- Sequences of calls since an accepted start, each made on the tables and RAM the last one left, and what their own calls and answers say of a byte
+-- and of the size of a buffer.
 use mathlib.Core.Path.{_≡_}
 use mathlib.Core.Bool.{true, false, _&&_}
 use mathlib.Core.Logic.{_≢_}
@@ -69,7 +70,7 @@ pub record Run (h : History) (t : State) : Type 0 where
   pub started : Started first
   pub runs : Runs Any first h t
 
--- the byte that the events of a history last made, or `first` if none did: Makes e x says that the event e makes it x
+-- the number, a byte or a size, that the events of a history last made, or `first` if none did: Makes e x says that the event e makes it x
 pub data Last (Makes : Event → ℕ → Type 0) (first : ℕ) : History → ℕ → Type 0 where
   never : Last Makes first [] first
   now : {e : Event} {h : History} {x : ℕ} → Makes e x → Last Makes first (e ∷ h) x
@@ -107,7 +108,7 @@ pub data Stores (segment k : ℕ) (e : Event) : ℕ → Type 0 where
 abbrev pub LastStored : (segment k first : ℕ) → History → ℕ → Type 0
 LastStored segment k first = Last (Stores segment k) first
 
--- the size n of a channel's buffer: a done open of the channel makes it what it asks
+-- the size n of a channel's buffer: a done open of the channel makes it the n that the open asks for
 pub data Sizes (channel : ℕ) (e : Event) : ℕ → Type 0 where
   sized : {driver n : ℕ} {name : List ℕ} → granted (e .answer) ≡ true → e .call ≡ «open» channel driver n name → Sizes channel e n
 
@@ -121,7 +122,7 @@ pub record ReadRight (channel offset asked : ℕ) (h : History) (e : Event) : Ty
   pub opened-with : LastSize channel h n
   -- "the bytes that remain, up to the length asked; b is their number, 0 at or past the end"
   pub given : e .answer ≡ Done 0 (givenOf n offset asked)
-  -- all that was asked, wherever the buffer has it; where it has not, all up to the end; none past it
+  -- all that was asked, wherever the buffer has it; where it has not, all up to the end; none at or past it
   pub whole : offset + asked ≤ n → bOf (e .answer) ≡ asked
   pub rest : offset ≤ n → n ≤ offset + asked → offset + bOf (e .answer) ≡ n
   pub past : n ≤ offset → bOf (e .answer) ≡ 0

@@ -37,7 +37,7 @@ pub data Change : Type 0 where
 pub data Filling : Type 0 where
   unfilled : Filling
   these : (bytes : List ℕ) → Filling
-  -- so many bytes from an offset on: of the buffer of row i, of the segment of a row
+  -- `size` bytes from `offset` on: of the buffer of row i; of the segment of a row
   from-buffer : (i offset size : ℕ) → Filling
   from-segment : (row offset size : ℕ) → Filling
 

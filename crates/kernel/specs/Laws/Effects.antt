@@ -144,6 +144,7 @@ module _ (t : Tables) (ram : ℕ) where
   freed caller row true e m = inl (eqb-true _ _ e)
   freed caller row false e m = inr (eqb-true _ _ (and-right (eqb caller 0) _ m))
 
+  -- a test that is `_` is the definition's own
   heard-verdict : (output : ℕ) (c : Call) → Verdict t ram c (heard t ram output c)
   unfolding heard onStart onReset onOpen onClose onRead onWrite onDefault onStatus onLink onBoundary onSetUserBoundary onAllocate onFree onStore onLoad onLoadModule
   heard-verdict output (start room list) = past (not (startTest ram room list)) _ refl (λ e. starts (not-false _ e))

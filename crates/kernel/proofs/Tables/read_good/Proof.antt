@@ -55,6 +55,7 @@ buffer-at-requires c κs = omega (arith, placed (c .before .before .before .befo
 add-start : tie.Need-add-start
 add-start c = search needs
 
+-- no more is given than is asked, so an output of either length will do
 get-requires : tie.Need-get-requires
 get-requires c κs = (omega (arith, c .before .before .before .before .before .if1 .left, c .before .before .before .before .before .before .given .ensures .1), λ some. given-chain (c .before .before .before .before .before .before .before .before .before .before .before .before .before .before .before .before .before .before .args .self) _ _ _ _ (c .before .before .before .before .before .before .before .before .before .before .before .before .before .before .before .before .before .before .pre .0) (placed (c .before .before .before .before .before .before .before .before .before .before) .among) (c .before .before .before .wide163 .ensures .0) (c .before .before .buffer-at .ensures .0) (c .before .before .before .before .before .before .before .size-at .ensures .0) _ _ _ _ (c .before .before .before .before .before .before .before .before .before .before .before .before .before .before .before .before .before .before .pre .1) (c .before .before .before .before .before .before .given .ensures .0) some)
 
