@@ -3,7 +3,7 @@
 //! around what is asked; and on the longest line, before and after it moves.
 
 use crate::protocol::{Case, Request, IMAGE};
-use exos_kernel::SEGMENT;
+use exos_kernel::{LISTED, SEGMENT};
 use std::collections::BTreeSet;
 use std::ops::RangeInclusive;
 
@@ -11,7 +11,7 @@ use std::ops::RangeInclusive;
 const R: u16 = 256;
 /// The lengths n of the buffers of channels 0, 1 and so on: within 255; over its
 /// edge; one byte; none; one byte more than the listing program's output.
-const BUFFERS: &[u16] = &[100, 300, 1, 0, 4_097];
+const BUFFERS: &[u16] = &[100, 300, 1, 0, LISTED as u16 + 1];
 /// The same on the longest line, which they fill.
 const FAR_BUFFERS: &[u16] = &[MOST, MOST, MOST, MOST, MOST, MOST, MOST, 32_903];
 /// A channel that is not open.

@@ -34,7 +34,7 @@ pub use good::good;
 pub use items::Item;
 pub use listing::{hex, listing};
 pub use lists::{list_of, read_module};
-pub use machine::Machine;
+pub use machine::{Machine, LISTED};
 pub use tables::{
     class, Channel, DefaultName, Device, Tables, HEADING, LEAST_R, MOST_R, NAME, ROWS_OF_CHANNELS,
     ROWS_OF_DEVICES, ROWS_OF_SEGMENTS, SEGMENT,

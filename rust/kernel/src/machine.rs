@@ -7,7 +7,7 @@ use crate::tables::{Tables, SEGMENT};
 /// "It lends at most four segments."
 const SEGMENTS: usize = 4;
 /// "And 4,096 bytes of output."
-const OUTPUT: usize = 4_096;
+pub const LISTED: usize = 4_096;
 
 /// The tables, and the RAM and the output that the listing program lends.
 #[derive(Clone)]
@@ -26,7 +26,7 @@ impl Default for Machine {
             tables: Tables::default(),
             ram: vec![0; SEGMENTS * SEGMENT],
             lent: 0,
-            output: vec![0; OUTPUT],
+            output: vec![0; LISTED],
         }
     }
 }

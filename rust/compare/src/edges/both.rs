@@ -7,7 +7,7 @@ use exos_kernel::{HEADING, LEAST_R, NAME, ROWS_OF_CHANNELS, ROWS_OF_DEVICES};
 
 /// The pairs that can be had, but for those with TABLES: a kind, the refusal
 /// that wins and the other. A channel that is open is not 255, one that is not
-/// open has no byte for an output to be short of, a string against the rules
+/// open gives nothing, so that no output is too short, a string against the rules
 /// names no device, and only the page zero segment, which is the user's, has a
 /// guard. At an item of a module MODULE wins over PAGE, and these over RANGE and
 /// GUARD.

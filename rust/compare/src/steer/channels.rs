@@ -3,14 +3,12 @@
 use super::{Mood, Steer};
 use crate::protocol::Request;
 use crate::view::further;
-use exos_kernel::{HEADING, SEGMENT};
+use exos_kernel::{HEADING, LISTED, SEGMENT};
 
 /// The most that an offset, a length or an n can be.
 const MOST: usize = u16::MAX as usize;
 /// "Log readers ask for 256 bytes at a time."
 const AT_A_TIME: usize = 256;
-/// The listing program lends "4,096 bytes of output".
-const LISTED: usize = 4_096;
 
 impl Steer<'_> {
     pub(super) fn open(&mut self) -> Request {

@@ -5,12 +5,10 @@ mod words;
 
 use super::channels::is_last;
 use super::{Edge, Meeting};
+use exos_kernel::LISTED;
 use words::{LENGTHS, OFFSETS};
 
 pub use words::{all_read_edges, ReadEdge};
-
-/// The listing program lends "4,096 bytes of output".
-const LISTED: usize = 4_096;
 
 /// A read of an open channel: its row, the buffer's n, what is asked and what is
 /// given.
@@ -93,7 +91,8 @@ impl<Met: FnMut(Edge)> Meeting<'_, Met> {
         self.reads(13, all && short, ReadEdge::OutputShort);
         self.reads(0, stops && exact, ReadEdge::StopsExact);
         self.reads(13, stops && short, ReadEdge::StopsShort);
-        self.reads(0, stops && output + 1 == asked, ReadEdge::StopsOneLess);
+        let one_less = output + 1 == asked && output > given;
+        self.reads(0, stops && one_less, ReadEdge::StopsOneLess);
         let nothing = asked > 0 && given == 0;
         self.reads(0, nothing && output == 0, ReadEdge::NoOutput);
         let listed = output == LISTED && asked > LISTED;

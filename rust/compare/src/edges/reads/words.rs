@@ -23,7 +23,7 @@ pub fn all_read_edges() -> impl Iterator<Item = ReadEdge> {
         let lengths = 0..LENGTHS.len();
         lengths.map(move |length| (offset, length))
     });
-    // no byte comes before the end of none
+    // n - 1 is no offset where n is 0
     let of_none = rows.clone().filter(|row| OFFSETS[row.0].1(0).is_some());
     NAMED
         .iter()
@@ -41,7 +41,7 @@ name_edges! {
     /// An edge that a read can meet.
     ReadEdge {
         /// A row of [`OFFSETS`] and one of [`LENGTHS`], with n above 0.
-        At(offset: usize, length: usize) at(offset, length);
+        At(offset: usize, length: usize) format!("n above 0, {}", at(offset, length));
         /// The same with n 0.
         OfNone(offset: usize, length: usize) format!("n 0, {}", at(offset, length));
     }
