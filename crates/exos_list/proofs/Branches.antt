@@ -16,7 +16,7 @@ use Rattle.exos_list.specs.declared.Course.{Course}
 use Rattle.exos_list.specs.declared.Course.the-variants.{Going, Ended}
 use Rattle.exos_list.specs.declared.State.{State}
 use Rattle.exos_list.specs.Definition.Turns.{Held, inHand, Fetched, Follows, unwritten, unheard, full, bad, read, Turned}
-use Rattle.exos_list.proofs.Hands.{start-within, left-in-hand}
+use Rattle.files.specs.Laws.Windows.{start-within, left-in-hand}
 
 module _ (s : State) (ram out buf : List ℕ) (d : Drained) (ram′ out′ text : List ℕ)
     (drains : Drains (length text) (begin (s .tables) ram out (inHand s buf)) (reached d ram′ out′ (inHand s buf) text) (d .stop)) (used : d .used ≤ length text) where

@@ -4,10 +4,11 @@ ghost use Prim.Native.Nat.{_+_, _-_, _≤_, _<_};
 ghost use lib.ListN.{length, take, drop};
 ghost use Rattle.files.specs.declared.Wrote.{Wrote};
 ghost use Rattle.listing.specs.Definition.NoneOrGood.{NoneOrGood};
-ghost use Rattle.exos_list.specs.Definition.Turns.{Held, courseOf, countOf, Fetched, Turned, endAfter, told};
+ghost use Rattle.exos_list.specs.Definition.Turns.{Held, courseOf, Fetched, Turned, endAfter, told};
 use files::Got;
 use files::Wrote;
-use files::read_after;
+use files::count_of;
+use files::read_on;
 use files::write_to;
 use kernel::Tables;
 use libc::STDIN_FILENO;
@@ -18,7 +19,6 @@ use listing::buffers::drain;
 use listing::ends::byte_of;
 use listing::ends::end_of;
 use listing::pieces::finish;
-use listing::pieces::keep;
 
 // The descriptor on which the end is told, by one byte.
 const TOLD_FILENO: i32 = 3;
@@ -49,17 +49,6 @@ fn course_of(got: Got) -> Course
     }
 }
 
-// How many bytes a read brought.
-fn count_of(got: Got) -> usize
-    ensures { λ r. ⌜ r ≡ countOf got ⌝ }
-{
-    match got {
-        Got::Bytes(n) => n,
-        Got::Over => 0,
-        Got::Failed => 0,
-    }
-}
-
 // The end after a write: what it would be, or that the write failed.
 fn end_after(wrote: Wrote, end: End) -> End
     ensures { λ r. ⌜ r ≡ endAfter wrote end ⌝ }
@@ -77,8 +66,7 @@ fn fetch(tables: Tables, buf: &mut [u8], start: usize, filled: usize) -> State
     ensures { λ r. ⌜ ((got : Got) × Fetched (take (filled - start) (drop start (now (buf .entry)))) r (now (buf .exit)) got) × (r .tables ≡ tables) × Held r (length (now (buf .exit))) ⌝ }
 {
     let left = filled - start;
-    keep(buf, start, left);
-    let got = read_after(STDIN_FILENO, buf, left);
+    let got = read_on(STDIN_FILENO, buf, start, filled);
     State {
         tables,
         from: 0,

@@ -1,2 +1,3 @@
--- What a read brings and a write takes.
+-- What a read brings and a write takes, and laws about a buffer that is read into.
 pub mod Definition
+pub mod Laws

@@ -1,8 +1,8 @@
 // Reads and writes on descriptors that tell an end from a failure; a call that a signal interrupts is made again.
 ghost use mathlib.Core.Path.{_≡_};
-ghost use Prim.Native.Nat.{_-_, _<_};
-ghost use lib.ListN.{length, take};
-ghost use Rattle.files.specs.Definition.Outcomes.{Brings, Fills, Takes};
+ghost use Prim.Native.Nat.{_+_, _-_, _≤_, _<_};
+ghost use lib.ListN.{length, take, drop};
+ghost use Rattle.files.specs.Definition.Outcomes.{Brings, countOf, Fills, ReadOn, Takes};
 use libc::EINTR;
 use libc::EPIPE;
 
@@ -84,6 +84,39 @@ pub fn read_after(fd: i32, buf: &mut [u8], left: usize) -> Got
 {
     let part = &mut buf[left..];
     read_from(fd, part)
+}
+
+// How many bytes a read brought.
+pub fn count_of(got: Got) -> usize
+    ensures { λ r. ⌜ r ≡ countOf got ⌝ }
+{
+    match got {
+        Got::Bytes(n) => n,
+        Got::Over => 0,
+        Got::Failed => 0,
+    }
+}
+
+// Moves the n bytes from index `from` to the front.
+pub fn keep(buf: &mut [u8], from: usize, n: usize)
+    requires { ⌜ from + n ≤ length (now buf) ⌝ }
+    ensures { λ _. ⌜ (take n (now (buf .exit)) ≡ take n (drop from (now (buf .entry)))) × (drop n (now (buf .exit)) ≡ drop n (now (buf .entry))) ⌝ }
+{
+    let mut i = 0;
+    while i < n {
+        buf[i] = buf[from + i];
+        i += 1;
+    }
+}
+
+// Keeps the bytes from `start` up to `filled` at the front of the buffer, and reads once behind them.
+pub fn read_on(fd: i32, buf: &mut [u8], start: usize, filled: usize) -> Got
+    requires { ⌜ (start ≤ filled) × (filled ≤ length (now buf)) × (filled < start + length (now buf)) ⌝ }
+    ensures { λ r. ⌜ ReadOn (take (filled - start) (drop start (now (buf .entry)))) (filled - start) (now (buf .exit)) r ⌝ }
+{
+    let left = filled - start;
+    keep(buf, start, left);
+    read_after(fd, buf, left)
 }
 
 // Reads until the input ends, a read fails or the buffer is full, each time after what is read: by `read_after` that stays.

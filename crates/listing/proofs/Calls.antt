@@ -43,23 +43,25 @@ whole : (t : Tables) (ram out : List ℕ) (kind : ℕ) (body : List ℕ) (n : �
 unfolding logStep
 whole t ram out kind body n h = rw h
 
+-- what a call leaves of the four segments, and that it keeps the tables that are carried
 module _ (t : Tables) (ram out : List ℕ) (kind : ℕ) (body : List ℕ) (n : ℕ) (h : n ≡ lentTo (t .segments) kind (length body))
     (o : Outcome) (ram′ out′ : List ℕ) (e : result o ram′ out′ ≡ stepOf t (take n ram) kind body out) where
-  left : onRest ram n (result o ram′ out′) ≡ logStep t ram out kind body
+  pub left : result o (ram′ ++ drop n ram) out′ ≡ logStep t ram out kind body
   left = ap (onRest ram n) e ∙ whole t ram out kind body n h
-
-  -- what a record leaves, from what its call and its line leave
-  pub stepped : (text : List ℕ) (used x y z : ℕ) → x ≡ numberOf (o .answer) → y ≡ aOf (o .answer) → z ≡ bOf (o .answer)
-      → (text′ : List ℕ) (used′ : ℕ) → Put text text′ used used′ (lineOf kind x y z out′) → used′ ≤ length text′
-      → Stepped t ram out kind body text used (o .tables) (ram′ ++ drop n ram) out′ text′ used′
-  stepped text used x y z p q s text′ used′ put room =
-      record {
-        tables-are = ap (λ (v : Result). v .tables) left;
-        ram-is = ap (λ (v : Result). v .ram) left;
-        output-is = ap (λ (v : Result). v .output) left;
-        put = rw (← left) (rw (p, q, s) at put);
-        room = room;
-      }
 
   pub good-after : length ram ≡ 65536 → NoneOrGood t → NoneOrGood (o .tables)
   good-after s k = rw (ap (λ (v : Result). v .tables) left) (record-keeps t ram out kind body s k)
+
+-- what a record leaves, from what its call and its line leave
+pub stepped : (t : Tables) (ram out : List ℕ) (kind : ℕ) (body : List ℕ) (o : Outcome) (ram′ out′ : List ℕ) → result o ram′ out′ ≡ logStep t ram out kind body
+    → (text : List ℕ) (used x y z : ℕ) → x ≡ numberOf (o .answer) → y ≡ aOf (o .answer) → z ≡ bOf (o .answer)
+    → (text′ : List ℕ) (used′ : ℕ) → Put text text′ used used′ (lineOf kind x y z out′) → used′ ≤ length text′
+    → Stepped t ram out kind body text used (o .tables) ram′ out′ text′ used′
+stepped t ram out kind body o ram′ out′ e text used x y z p q s text′ used′ put room =
+    record {
+      tables-are = ap (λ (v : Result). v .tables) e;
+      ram-is = ap (λ (v : Result). v .ram) e;
+      output-is = ap (λ (v : Result). v .output) e;
+      put = rw (← e) (rw (p, q, s) at put);
+      room = room;
+    }

@@ -1,11 +1,10 @@
 -- The lines of a buffer, record by record.
 use mathlib.Core.Path.{_≡_, sym, ap, _∙_}
 use mathlib.Core.List.{List}
-use Prim.Native.Nat.{ℕ, suc, _+_, _-_, _<_, _≤_}
+use Prim.Native.Nat.{ℕ, _+_, _-_, _<_, _≤_}
 use native.Mathlib.Omega.{arith}
-use native.Mathlib.Numerals.{add-one}
-use lib.ListN.{length, getD, take, drop, set, length-drop}
-use lib.Seq.{drop-drop, getD-drop, take-suc-set, take-suc, drop-set-lt, length-take-le}
+use lib.ListN.{length, take, drop}
+use lib.Seq.{drop-drop, length-take-le}
 use borrow.Author.Tests.{eq-eqb, ne-eqb}
 use Rattle.kernel.specs.declared.Tables.{Tables}
 use Rattle.text.specs.Definition.Put.{Put}
@@ -62,20 +61,6 @@ drain-at size start t ram out xs at text used kind n goes h e r f t₂ ram₂ ou
     let k : at + (4 + n) ≡ at + 4 + n = omega arith in
     rw (drop-drop (4 + n) at xs, k) at
     (drain-line size start t ram out (drop at xs) text used goes h e r kind n f t₂ ram₂ out₂ text₂ used₂ (rw (drop-drop 4 at xs) (rw m at s)))
-
--- one byte moved to the front
-pub keep-turn : (buf buf₀ : List ℕ) (from i : ℕ) → from + i < length buf₀ → length buf ≡ length buf₀ → take i buf ≡ take i (drop from buf₀) → drop i buf ≡ drop i buf₀
-    → (take (i + 1) (set buf i (getD buf (from + i) 0)) ≡ take (i + 1) (drop from buf₀)) × (drop (i + 1) (set buf i (getD buf (from + i) 0)) ≡ drop (i + 1) buf₀)
-keep-turn buf buf₀ from i h l p q =
-    let e : i + from ≡ from + i = omega arith in
-    let s : i < suc i = omega arith in
-    let v : getD buf (from + i) 0 ≡ getD (drop from buf₀) i 0 =
-    rw (← e, ← getD-drop i buf from 0, q, getD-drop i buf₀ from 0, e, getD-drop from buf₀ i 0) in
-    let w : drop (suc i) buf ≡ drop (suc i) buf₀ =
-    rw (← add-one i) (sym (drop-drop 1 i buf) ∙ ap (λ (z : List ℕ). drop 1 z) q ∙ drop-drop 1 i buf₀) in
-    let k : i < length buf = omega arith in
-    let m : i < length (drop from buf₀) = rw length-drop (omega arith) in
-    (rw (add-one, take-suc-set buf i (getD buf (from + i) 0) k, take-suc (drop from buf₀) i 0 m, p, v), rw (add-one, drop-set-lt (suc i) buf i (getD buf (from + i) 0) s, w))
 
 pub end-none : (left : ℕ) (text : List ℕ) (at : ℕ) → left ≡ 0 → Put text text at at (ending left)
 end-none left text at h = rw (eq-eqb left 0 h) (put-none text at)

@@ -10,7 +10,7 @@ use text::hex;
 use text::put;
 
 // Whether there is a fifth field.
-fn shows(kind: u16, answer: u16, b: u16) -> bool
+pub fn shows(kind: u16, answer: u16, b: u16) -> bool
     ensures { λ r. ⌜ r ≡ showsOf kind answer b ⌝ }
 {
     if answer != 0 {

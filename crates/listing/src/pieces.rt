@@ -1,7 +1,6 @@
-// A log read in pieces: what is kept for the next piece, what the end of the input leaves to write, and a whole log in one piece.
-ghost use mathlib.Core.Path.{_≡_};
+// What the end of the input leaves to write, and a whole log in one piece.
 ghost use Prim.Native.Nat.{_+_, _≤_};
-ghost use lib.ListN.{length, take, drop};
+ghost use lib.ListN.{length};
 ghost use Rattle.text.specs.Definition.Put.{Put};
 ghost use Rattle.listing.specs.Definition.Log.{ending};
 ghost use Rattle.listing.specs.Definition.Pieces.{Lists};
@@ -10,18 +9,6 @@ use super::Stop;
 use super::buffers::drain;
 use super::lines::put_bad;
 use kernel::Tables;
-
-// Moves the n bytes from index `from` to the front.
-pub fn keep(buf: &mut [u8], from: usize, n: usize)
-    requires { ⌜ from + n ≤ length (now buf) ⌝ }
-    ensures { λ _. ⌜ (take n (now (buf .exit)) ≡ take n (drop from (now (buf .entry)))) × (drop n (now (buf .exit)) ≡ drop n (now (buf .entry))) ⌝ }
-{
-    let mut i = 0;
-    while i < n {
-        buf[i] = buf[from + i];
-        i += 1;
-    }
-}
 
 // Where the input ends and so many bytes of it are left: `bad`, unless there are none.
 pub fn finish(left: usize, text: &mut [u8], at: usize) -> usize

@@ -4,7 +4,7 @@ ghost use Prim.Native.Nat.{_+_, _≤_, _<_, min};
 ghost use lib.ListN.{length};
 ghost use Rattle.kernel.specs.Definition.Step.{result};
 ghost use Rattle.events.specs.Definition.Records.{stepOf};
-ghost use Rattle.listing.specs.Definition.Log.{lentTo};
+ghost use Rattle.listing.specs.Definition.Log.{lentTo, logStep};
 ghost use Rattle.listing.specs.Definition.NoneOrGood.{NoneOrGood};
 ghost use Rattle.listing.specs.Definition.Pieces.{longest, Stepped};
 use super::After;
@@ -60,6 +60,15 @@ fn call(t: Tables, ram: &mut [u8], kind: u16, body: &[u8], out: &mut [u8]) -> Ou
     call_good(t, ram, kind, body, out)
 }
 
+// A record's call on the four segments, of which it is lent its part.
+pub fn step(t: Tables, ram: &mut [u8], kind: u16, body: &[u8], out: &mut [u8]) -> Outcome
+    requires { ⌜ NoneOrGood t × (length (now ram) ≡ 65536) ⌝ }
+    ensures { λ r. ⌜ (result r (now (ram .exit)) (now (out .exit)) ≡ logStep t (now (ram .entry)) (now (out .entry)) kind (now (body .entry))) × NoneOrGood (r .tables) ⌝ }
+{
+    let n = lent(t.segments, kind, body.len());
+    call(t, &mut ram[..n], kind, body, out)
+}
+
 // A record's call, and its line at a place of the text.
 pub fn record(
     t: Tables,
@@ -73,8 +82,7 @@ pub fn record(
     requires { ⌜ NoneOrGood t × (length (now ram) ≡ 65536) × (used + longest ≤ length (now text)) ⌝ }
     ensures { λ r. ⌜ Stepped t (now (ram .entry)) (now (out .entry)) kind (now (body .entry)) (now (text .entry)) used (r .tables) (now (ram .exit)) (now (out .exit)) (now (text .exit)) (r .used) × NoneOrGood (r .tables) ⌝ }
 {
-    let n = lent(t.segments, kind, body.len());
-    let o = call(t, &mut ram[..n], kind, body, out);
+    let o = step(t, ram, kind, body, out);
     let answer = o.answer;
     let tables = o.tables;
     let used = put_line(

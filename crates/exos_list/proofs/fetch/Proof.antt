@@ -1,9 +1,8 @@
 -- `exos_list::fetch` meets its contract.
-use mathlib.Core.Path.{refl, _∙_}
-use Prim.Native.Nat.{_+_, _-_, _≤_}
+use mathlib.Core.Path.{refl}
+use Prim.Native.Nat.{_-_}
 use native.Mathlib.Omega.{arith}
-use lib.ListN.{length}
-use Rattle.exos_list.proofs.Hands.{counted, fetched}
+use Rattle.exos_list.proofs.Hands.{fetched}
 use borrow.Author.Needs.{needs}
 use Rattle.exos_list.proofs.fetch.Statement.{statement}
 use Rattle.exos_list.proofs.fetch.Tie as tie
@@ -11,24 +10,14 @@ use Rattle.exos_list.proofs.fetch.Tie as tie
 sub-left : tie.Need-sub-left
 sub-left c = search needs
 
-keep-requires : tie.Need-keep-requires
-keep-requires c κs = search needs
-
-read-after-requires : tie.Need-read-after-requires
-read-after-requires c κs = search needs
+read-on-requires : tie.Need-read-on-requires
+read-on-requires c κs = search needs
 
 count-of-requires : tie.Need-count-of-requires
 count-of-requires c κs = search needs
 
--- the bytes that came lie in the buffer
-fits : (c : tie.After-count-of) → c .before .before .before .before .before .before .before .before .before .before .args .filled - c .before .before .before .before .before .before .before .before .before .before .args .start + c .count-of .result ≤ length (c .before .before .before .read-after .last .1 .0)
-fits c =
-    let r = c .before .before .before .read-after in
-    let k = counted (length (r .last .1 .0) - (c .before .before .before .before .before .before .before .before .before .before .args .filled - c .before .before .before .before .before .before .before .before .before .before .args .start)) (r .result) (r .ensures .0) in
-    omega (arith, c .count-of .ensures, k)
-
-add-t13 : tie.Need-add-t13
-add-t13 c = omega (arith, fits c)
+add-t10 : tie.Need-add-t10
+add-t10 c = omega (arith, c .before .before .before .read-on .ensures .fits, c .count-of .ensures)
 
 course-of-requires : tie.Need-course-of-requires
 course-of-requires c κs = search needs
@@ -38,12 +27,12 @@ same-length c = search needs
 
 returns : tie.Need-returns
 returns c =
-    let a = c .before .before .before .before .before .before .before .before .before .before .before .args in
-    let r = c .before .before .before .before .read-after in
-    let kept = r .ensures .1 ∙ c .before .before .before .before .before .before .before .before .keep .ensures .0 in (
-      (r .result, fetched (a .tables) (r .last .1 .0) _ (a .filled - a .start) _ (r .result) _ kept (c .before .count-of .ensures) (fits (c .before)) (c .course-of .ensures)),
+    let s = c .before .before .before .before .before .before .before in
+    let a = s .args in
+    let r = c .before .before .before .before .read-on in (
+      (r .result, fetched (a .tables) _ _ (a .filled - a .start) _ (r .result) _ (r .ensures) (c .before .count-of .ensures) (c .course-of .ensures)),
       refl,
-      record { good = c .before .before .before .before .before .before .before .before .before .before .before .pre .0; order = omega arith; filled = fits (c .before) },
+      record { good = s .pre .0; order = omega arith; filled = rw (c .before .count-of .ensures) (r .ensures .fits) },
     )
 
 pub fetch-spec : {M : Type 1} → statement M
@@ -51,10 +40,9 @@ fetch-spec =
     tie.close
     (tie.spec
     sub-left
-    keep-requires
-    read-after-requires
+    read-on-requires
     count-of-requires
-    add-t13
+    add-t10
     course-of-requires
     same-length
     returns)

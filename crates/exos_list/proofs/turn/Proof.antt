@@ -4,7 +4,8 @@ use mathlib.Core.Path.{sym}
 use native.Mathlib.Omega.{arith}
 use lib.Seq.{length-take-le}
 use Rattle.listing.proofs.Wholes.{room-left}
-use Rattle.exos_list.proofs.Hands.{start-within, left-short}
+use Rattle.files.specs.Laws.Windows.{start-within}
+use Rattle.exos_list.proofs.Hands.{left-short}
 use Rattle.exos_list.proofs.Branches.{on-failed, on-closed, on-bad, on-full, on-more, held}
 use borrow.Author.Needs.{needs}
 use Rattle.exos_list.proofs.turn.Statement.{statement}

@@ -5,6 +5,7 @@ use Prim.Native.Nat.{ℕ, _-_, _≤_}
 use lib.ListN.{length, take, drop}
 use Rattle.files.specs.declared.Got.{Got}
 use Rattle.files.specs.declared.Got.the-variants.{Bytes, Over as AtEnd, Failed as Unread}
+use Rattle.files.specs.Definition.Outcomes.{countOf}
 use Rattle.files.specs.declared.Wrote.{Wrote}
 use Rattle.files.specs.declared.Wrote.the-variants.{All, Failed, Closed}
 use Rattle.listing.specs.declared.End.{End}
@@ -28,16 +29,11 @@ pub record Held (s : State) (size : ℕ) : Type 0 where
 abbrev pub inHand : State → (buf : List ℕ) → List ℕ
 inHand s buf = take (s .filled - s .from) (drop (s .from) buf)
 
--- how the run goes on after a read, and how many bytes that brought
+-- how the run goes on after a read
 abbrev pub courseOf : Got → Course
 courseOf (Bytes n) = Going
 courseOf AtEnd = Over
 courseOf Unread = Ended ReadFailed
-
-abbrev pub countOf : Got → ℕ
-countOf (Bytes n) = n
-countOf AtEnd = 0
-countOf Unread = 0
 
 -- after a read: the bytes xs that were in hand stay, in their order, and the piece that came stands behind them
 pub record Fetched (xs : List ℕ) (r : State) (buf : List ℕ) (got : Got) : Type 0 where

@@ -3,8 +3,7 @@
 use mathlib.Core.Path.{_≡_, refl, ap, _∙_}
 use mathlib.Core.List.{List, [], _∷_, _++_}
 use Prim.Native.Nat.{ℕ, zero, suc, _≤_}
-use Prim.Native.Char.{code}
-use Prim.Native.String.{String, [] as []ˢ, _∷_ as _∷ˢ_}
+use Prim.Native.String.{String}
 use native.Mathlib.Omega.{arith}
 use lib.ListN.{length, getD, drop, set, replicate, length-append, length-replicate, length-set, length-drop}
 use lib.Seq.{getD-set-same, getD-set-other}
@@ -19,15 +18,10 @@ use Rattle.kernel.specs.Definition.Step.{Result, decided, completed}
 use Rattle.kernel.specs.declared.Tables.{Tables}
 use Rattle.events.specs.declared.Front.the-variants.{Record}
 use Rattle.events.specs.Definition.Records.{u16At, frontOf, bodyOf, restOf, startIn, openIn, closeIn, readIn, writeIn, boundaryIn, callIn}
-use Rattle.text.specs.Definition.Text.{decimalIn, decimalOf, fieldsOf}
+use Rattle.text.specs.Definition.Text.{letters, decimalIn, decimalOf, fieldsOf}
 use Rattle.kernel.specs.Definition.Start.{noTables}
 use Rattle.listing.specs.Definition.Log.{showsOf, lineOf, lineAfter, lentTo, logStep, textFrom, listing}
 use Rattle.listing.specs.Laws.Log.{text-record, text-finished, log-full}
-
--- a text as the numbers of its letters
-abbrev pub letters : String → List ℕ
-letters []ˢ = []
-letters (c ∷ˢ s) = code c ∷ letters s
 
 abbrev pub lineWith : String → List ℕ
 lineWith s = letters s ++ (10 ∷ [])

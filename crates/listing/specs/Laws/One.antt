@@ -3,7 +3,7 @@ use mathlib.Core.Path.{_≡_, refl, sym, ap, subst, _∙_}
 use mathlib.Core.List.{List}
 use Prim.Native.Nat.{ℕ, _≤_}
 use native.Mathlib.Omega.{arith}
-use lib.ListN.{length, take, drop, length-drop}
+use lib.ListN.{length, drop, length-drop}
 use lib.Seq.{length-take-le}
 use Rattle.kernel.specs.declared.Tables.{Tables}
 use Rattle.text.specs.Definition.Put.{Put}
@@ -79,8 +79,3 @@ one-listed log text text′ text″ Over Over l p q =
     let f : Fills log (length text′) (q .0 .0) = rw l (q .0 .1) in
     let e : p .0 .0 ≡ q .0 .0 = one-stop (p .0 .1) f .0 in
     (refl, one-put (p .0 .2) (subst (λ (m : Mark). Put text text″ 0 (length (m .text)) (m .text)) (sym e) (q .0 .2)) .0)
-
--- bytes that are moved to the front
-pub one-kept : (buf buf′ buf″ : List ℕ) (from n : ℕ) → (take n buf′ ≡ take n (drop from buf)) × (drop n buf′ ≡ drop n buf)
-    → (take n buf″ ≡ take n (drop from buf)) × (drop n buf″ ≡ drop n buf) → buf′ ≡ buf″
-one-kept buf buf′ buf″ from n p q = one-buffer n (p .0 ∙ sym (q .0)) (p .1 ∙ sym (q .1))

@@ -2,7 +2,14 @@
 use mathlib.Core.Bool.{cond}
 use mathlib.Core.List.{List, [], _∷_, _++_}
 use Prim.Native.Nat.{ℕ, zero, suc, _+_, _/_, _%_}
+use Prim.Native.Char.{code}
+use Prim.Native.String.{String, [] as []ˢ, _∷_ as _∷ˢ_}
 use lib.Dec.{ltb}
+
+-- a text as the numbers of its letters
+abbrev pub letters : String → List ℕ
+letters []ˢ = []
+letters (c ∷ˢ s) = code c ∷ letters s
 
 abbrev pub digitOf : ℕ → ℕ
 digitOf n = 48 + n % 10

@@ -1,12 +1,12 @@
--- `listing::keep` meets its contract: what is kept, and what is not yet moved.
+-- `files::keep` meets its contract: what is kept, and what is not yet moved.
 use denote.Ref.{now}
 use mathlib.Core.Path.{_≡_, refl}
 use Prim.Native.Nat.{_+_, _-_, _<_, _≤_}
 use native.Mathlib.Omega.{arith}
 use lib.ListN.{length, take, drop, length-set}
-use Rattle.listing.proofs.Carries.{keep-turn}
-use Rattle.listing.proofs.pieces.keep.Statement.{statement}
-use Rattle.listing.proofs.pieces.keep.Tie as tie
+use Rattle.files.proofs.Parts.{keep-turn}
+use Rattle.files.proofs.keep.Statement.{statement}
+use Rattle.files.proofs.keep.Tie as tie
 
 abbrev Inv-loop : tie.InvT-loop
 Inv-loop buf₀ from n i₀ buf i = (take i buf ≡ take i (drop from buf₀)) × (drop i buf ≡ drop i buf₀) × (i ≤ n) × (length buf ≡ length buf₀)

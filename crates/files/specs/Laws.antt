@@ -1,0 +1,2 @@
+-- The part of a buffer that is in hand, and what is moved to its front.
+pub mod Windows
