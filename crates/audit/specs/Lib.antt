@@ -1,0 +1,3 @@
+-- The audit: the definition, and the laws about it.
+pub mod Definition
+pub mod Laws
