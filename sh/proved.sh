@@ -1,5 +1,5 @@
-# What the scripts share that run a proved program, exos-list and exos-module: how one is called, how its program is
-# proved and built where there is none of the tree's sources, and what the ends are that every program has.
+# What the scripts share that run a proved program, exos-list, exos-audit and exos-module: how one is called, how its
+# program is proved and built where there is none of the tree's sources, and what the ends are that every program has.
 # shellcheck shell=sh
 #
 # A script finds its own folder, `here`, and sources this file. It sets these, and has two functions, usage and
@@ -7,7 +7,7 @@
 #   script, crate    its name, and its program's crate
 #   runs, writes     what its program is, and what that writes
 #   nothing, cut     how it says that nothing is written, or not all
-# Then it calls take_arguments, run_program and, for an end that is not its own, tell_end.
+# Then it calls take_arguments, have_program, run_program and, for an end that is not its own, tell_end.
 
 # What --help says of the build.
 how_built="\
@@ -154,9 +154,8 @@ build() {
   is_current || die 1 "the sources changed while the program was built: run $script again"
 }
 
-# Runs the program, built first where it is not current. It tells its end by a word on descriptor 3: `end` is that word,
-# and `status` the program's status.
-run_program() {
+# Finds the program, built first where it is not current.
+have_program() {
   find_kit
   program=$here/target/bin/$crate
   record=$here/target/$script.built
@@ -165,6 +164,10 @@ run_program() {
     mkdir -p "$here/target"
     (take_turn && { is_current || build; }) 9>"$here/target/build.lock" || exit 1
   fi
+}
+
+# Runs the program. It tells its end by a word on descriptor 3: `end` is that word, and `status` the program's status.
+run_program() {
   exec 4>&1
   end=$(${emulator:+"$emulator"} "$loader" --library-path "$tools/lib" "$program" 3>&1 >&4 4>&-)
   status=$?

@@ -1,0 +1,2 @@
+-- The program's turns are a session.
+pub mod Session
