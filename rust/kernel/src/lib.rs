@@ -4,9 +4,11 @@
 //! Sentences in quotation marks are those of the definition (document 01) and
 //! of the orders (document 02) that the code beside them follows. [`call`]
 //! makes one call on [`Tables`] and the lent RAM; a refused call changes
-//! nothing. [`write_module`], which has no kind, needs neither.
+//! nothing. [`write_module`], which has no kind, needs neither. [`listing`] and
+//! [`audit`] read logs of event records; [`run`] makes programs of them.
 
 mod answers;
+mod audit;
 mod calls;
 mod channels;
 mod counter;
@@ -20,6 +22,7 @@ mod lists;
 mod machine;
 mod modules;
 mod names;
+mod programs;
 mod reset;
 mod segments;
 mod tables;
@@ -27,6 +30,7 @@ mod user;
 mod writer;
 
 pub use answers::{Refusal, Reply, SHARED_GRANT};
+pub use audit::{audit, Verdict, Word};
 pub use calls::{call, Call};
 pub use channels::{lend, Lent};
 pub use events::decode;
@@ -35,6 +39,7 @@ pub use items::Item;
 pub use listing::{hex, listing};
 pub use lists::{list_of, read_module};
 pub use machine::{Machine, LISTED};
+pub use programs::run;
 pub use tables::{
     class, Channel, DefaultName, Device, Tables, HEADING, LEAST_R, MOST_R, NAME, ROWS_OF_CHANNELS,
     ROWS_OF_DEVICES, ROWS_OF_SEGMENTS, SEGMENT,

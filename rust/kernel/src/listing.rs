@@ -1,7 +1,6 @@
 //! The listing program.
 
 use crate::answers::Reply;
-use crate::calls::Call;
 use crate::events::{decode, Record, Records};
 use crate::machine::Machine;
 use std::io::{self, Read, Write};
@@ -15,9 +14,8 @@ pub fn listing(input: impl Read, mut output: impl Write) -> io::Result<()> {
     loop {
         match records.next()? {
             Record::Whole { kind, body } => {
-                let request = decode(kind, body);
-                let reply = machine.answer(request);
-                print(&mut output, kind, request, reply, machine.output())?;
+                let reply = machine.answer(decode(kind, body));
+                print(&mut output, kind, reply, machine.output())?;
             }
             Record::Bad => return writeln!(output, "bad"),
             Record::End => return Ok(()),
@@ -25,25 +23,23 @@ pub fn listing(input: impl Read, mut output: impl Write) -> io::Result<()> {
     }
 }
 
-/// "A fifth field, the bytes in lower-case hex, where 6, 20 or 258 is done
-/// with b > 0."
-fn print(
-    output: &mut impl Write,
-    kind: u16,
-    request: Call,
-    reply: Reply,
-    bytes: &[u8],
-) -> io::Result<()> {
+fn print(output: &mut impl Write, kind: u16, reply: Reply, lent: &[u8]) -> io::Result<()> {
     let Reply { number, a, b } = reply;
     write!(output, "{kind} {number} {a} {b}")?;
-    let fills = matches!(
-        request,
-        Call::Read { .. } | Call::Status | Call::Load { .. }
-    );
-    if fills && number == 0 && b > 0 {
-        write!(output, " {}", hex(&bytes[..usize::from(b)]))?;
+    let bytes = &lent[..bytes_printed(kind, reply)];
+    if !bytes.is_empty() {
+        write!(output, " {}", hex(bytes))?;
     }
     writeln!(output)
+}
+
+/// How many bytes are printed: "a fifth field, the bytes in lower-case hex,
+/// where 6, 20 or 258 is done with b > 0".
+pub(crate) fn bytes_printed(kind: u16, reply: Reply) -> usize {
+    match (kind, reply.number) {
+        (6 | 20 | 258, 0) => usize::from(reply.b),
+        _ => 0,
+    }
 }
 
 /// Bytes in lower-case hex.

@@ -1,4 +1,5 @@
-//! What the listing program lends, and the rules by which it does.
+//! What the listing program and the auditor lend, and the rules by which they
+//! do.
 
 use crate::answers::{Refusal, Reply};
 use crate::calls::{call, Call};
@@ -9,7 +10,7 @@ const SEGMENTS: usize = 4;
 /// "And 4,096 bytes of output."
 pub const LISTED: usize = 4_096;
 
-/// The tables, and the RAM and the output that the listing program lends.
+/// The tables, and the RAM and the output that are lent.
 #[derive(Clone)]
 pub struct Machine {
     tables: Tables,
@@ -19,19 +20,24 @@ pub struct Machine {
 }
 
 impl Default for Machine {
-    /// Before an accepted start: no good tables, so "every other kind answers
-    /// 1".
+    /// What the listing program lends.
     fn default() -> Self {
-        Machine {
-            tables: Tables::default(),
-            ram: vec![0; SEGMENTS * SEGMENT],
-            lent: 0,
-            output: vec![0; LISTED],
-        }
+        Machine::lending(LISTED)
     }
 }
 
 impl Machine {
+    /// So many bytes of output, before an accepted start: no good tables, so
+    /// "every other kind answers 1".
+    pub fn lending(output: usize) -> Machine {
+        Machine {
+            tables: Tables::default(),
+            ram: vec![0; SEGMENTS * SEGMENT],
+            lent: 0,
+            output: vec![0; output],
+        }
+    }
+
     /// Makes a call.
     pub fn answer(&mut self, request: Call) -> Reply {
         match request {

@@ -8,14 +8,16 @@ fn list(input: &[u8]) -> String {
     String::from_utf8(output).unwrap()
 }
 
-fn record(kind: u16, body: &[u8]) -> Vec<u8> {
+/// An event record.
+pub fn record(kind: u16, body: &[u8]) -> Vec<u8> {
     let mut bytes = (body.len() as u16 + 2).to_le_bytes().to_vec();
     bytes.extend(kind.to_le_bytes());
     bytes.extend(body);
     bytes
 }
 
-const START: &[u8] = &[0x08, 0x00, 0x00, 0x01, 0x42, 0x2B, 0xFC, 0xFD, 0xFE, 0xFF];
+/// "Start, bytes 08 00 00 01 42 2B FC FD FE FF."
+pub const START: &[u8] = &[0x08, 0x00, 0x00, 0x01, 0x42, 0x2B, 0xFC, 0xFD, 0xFE, 0xFF];
 
 #[test]
 fn the_example_to_the_letter() {

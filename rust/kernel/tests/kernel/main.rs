@@ -1,5 +1,6 @@
 //! Tests taken from the text of the definition (documents 01 and 02).
 
+mod audit;
 mod bodies;
 mod cases;
 mod good_tables;
