@@ -3,8 +3,10 @@
 //! the tables, every byte of the RAM, the output and what is lent of a buffer
 //! compared. The writer of modules is asked likewise. A difference is shrunk and
 //! told as a log in words, which `exoslog encode` reads back; what the writer is
-//! asked stands there in comments.
+//! asked stands there in comments. [`audits`] does so with the auditors of makers'
+//! logs.
 
+pub mod audits;
 pub mod cases;
 mod counter;
 pub mod counts;

@@ -1,5 +1,7 @@
-//! A long comparison: `exos-compare --calls 10000000 --seed 1`.
+//! A long comparison: `exos-compare --calls 10000000 --seed 1`, or that of the
+//! auditors: `exos-compare --audits`.
 
+use exos_compare::audits::{self, find_auditor, Audits};
 use exos_compare::counts::Counts;
 use exos_compare::program::{find_program, Program};
 use exos_compare::run::{Outcome, Run, Until};
@@ -19,11 +21,14 @@ fn main() -> ExitCode {
             println!("{USAGE}");
             ExitCode::SUCCESS
         }
-        Ok(Asked::Run(run, table)) => {
-            compare(&run, table).unwrap_or_else(|error| failed(&error.to_string()))
-        }
+        Ok(Asked::Run(run, table)) => ended(compare(&run, table)),
+        Ok(Asked::Audits(run, table)) => ended(audit(&run, table)),
         Err(wrong) => failed(&format!("{wrong} (--help says how it is called)")),
     }
+}
+
+fn ended(end: io::Result<ExitCode>) -> ExitCode {
+    end.unwrap_or_else(|error| failed(&error.to_string()))
 }
 
 fn failed(why: &str) -> ExitCode {
@@ -47,6 +52,26 @@ fn compare(run: &Run, table: bool) -> io::Result<ExitCode> {
             ExitCode::from(u8::from(!counts.forbidden().is_empty()))
         }
         Outcome::Differs(text) => {
+            print!("{text}");
+            ExitCode::from(1)
+        }
+    })
+}
+
+fn audit(run: &Audits, table: bool) -> io::Result<ExitCode> {
+    let proved = find_auditor()?;
+    let began = Instant::now();
+    Ok(match run.compare(&proved)? {
+        audits::Outcome::Same(met) => {
+            if table {
+                print!("{met}");
+                print_each("not met", &met.missing());
+            }
+            let (logs, seconds) = (met.logs(), began.elapsed().as_secs_f64());
+            println!("{logs} logs, no difference, {seconds:.0} s");
+            ExitCode::SUCCESS
+        }
+        audits::Outcome::Differs(text) => {
             print!("{text}");
             ExitCode::from(1)
         }

@@ -12,8 +12,8 @@ use std::sync::mpsc::{self, Receiver, RecvTimeoutError, Sender};
 use std::thread;
 use std::time::Duration;
 
-/// How long the program may take for one reply.
-const LIMIT: Duration = Duration::from_secs(30);
+/// How long a program may take for one reply or verdict.
+pub(crate) const LIMIT: Duration = Duration::from_secs(30);
 
 /// One side of the comparison.
 pub trait Answerer {
@@ -165,13 +165,21 @@ impl Drop for Running {
 
 /// Where the program is: named by EXOS_ANSWER, or built in this repository.
 pub fn find_program() -> io::Result<PathBuf> {
-    let built = Path::new(env!("CARGO_MANIFEST_DIR")).join("../../target/bin/exos_answer");
-    let path = env::var_os("EXOS_ANSWER").map_or(built, PathBuf::from);
+    find_built("exos_answer", "EXOS_ANSWER")
+}
+
+/// Where the program of a crate is: named by a variable, or built in this
+/// repository.
+pub(crate) fn find_built(name: &str, variable: &str) -> io::Result<PathBuf> {
+    let built = Path::new(env!("CARGO_MANIFEST_DIR"))
+        .join("../../target/bin")
+        .join(name);
+    let path = env::var_os(variable).map_or(built, PathBuf::from);
     if path.is_file() {
         Ok(path)
     } else {
         Err(missing(&format!(
-            "there is no proved program at {}: run `rt check exos_answer`, or set EXOS_ANSWER",
+            "there is no proved program at {}: run `rt check {name}`, or set {variable}",
             path.display()
         )))
     }
@@ -183,7 +191,7 @@ fn missing(what: &str) -> io::Error {
 
 /// How the kit runs a program: under its own loader and C library, and on
 /// another processor than x86-64 under its emulator.
-fn command(program: &Path) -> io::Result<Command> {
+pub(crate) fn command(program: &Path) -> io::Result<Command> {
     let tools = kit()?.join("on").join(env::consts::ARCH).join("toolchain");
     let loader = tools.join("lib/ld-linux-x86-64.so.2");
     let emulator = tools.join("bin/qemu-x86_64");

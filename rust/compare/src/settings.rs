@@ -1,5 +1,6 @@
 //! What the words after `exos-compare` ask for.
 
+use crate::audits::Audits;
 use crate::run::{Run, Until};
 
 /// How `exos-compare` is called.
@@ -10,15 +11,20 @@ usage: exos-compare [OPTION...]
 
   --calls N      so many calls, to the end of a case (default: 1000000)
   --fixed-set    the cases that the gate runs, in place of --calls
+  --audits       makers' logs for the auditors, in place of calls; takes --seed,
+                 --pairs and --table
   --seed S       the seed of all cases (default: 1)
   --first CASE   the number of the first case (default: 0)
   --pairs P      how many pairs of kernels work beside each other, 1 to 64
                  (default: 2)
-  --table        also how often each kind got each answer and each edge was met
+  --table        also how often each kind got each answer and each edge was met,
+                 or each fault was put in
 
 The proved program is target/bin/exos_answer, which rt check exos_answer builds,
 or EXOS_ANSWER. A difference is shrunk and told as a log in words, which exoslog
-encode reads; what the writer of modules is asked stands there in comments.
+encode reads; what the writer of modules is asked stands there in comments. The
+proved auditor is target/bin/exos_audit, which rt check exos_audit builds, or
+EXOS_AUDIT; its difference is told as the log in hex.
 
 exit status: 0 no difference, 1 a difference, 2 trouble.";
 
@@ -28,6 +34,8 @@ pub enum Asked {
     Help,
     /// A run, and whether its table is asked for.
     Run(Run, bool),
+    /// A run of the auditors, and whether its table is asked for.
+    Audits(Audits, bool),
 }
 
 /// What the words ask for, or what is wrong with them.
@@ -38,11 +46,12 @@ pub fn asked(mut words: impl Iterator<Item = String>) -> Result<Asked, String> {
         until: Until::Calls(1_000_000),
         pairs: 2,
     };
-    let mut table = false;
+    let (mut audits, mut table) = (false, false);
     while let Some(word) = words.next() {
         match word.as_str() {
             "--help" => return Ok(Asked::Help),
             "--fixed-set" => run = Run::fixed_set(),
+            "--audits" => audits = true,
             "--calls" => run.until = Until::Calls(calls(&word, words.next())?),
             "--seed" => run.seed = number(&word, words.next())?,
             "--first" => run.first = number(&word, words.next())?,
@@ -51,7 +60,12 @@ pub fn asked(mut words: impl Iterator<Item = String>) -> Result<Asked, String> {
             _ => return Err(format!("{word} is not known")),
         }
     }
-    Ok(Asked::Run(run, table))
+    Ok(if audits {
+        let Run { seed, pairs, .. } = run;
+        Asked::Audits(Audits { seed, pairs }, table)
+    } else {
+        Asked::Run(run, table)
+    })
 }
 
 /// A run of no call would find no difference and say so.
@@ -105,6 +119,14 @@ mod tests {
         let fixed = said("--fixed-set --table");
         assert!(matches!(fixed, Ok(Asked::Run(run, true)) if matches!(run.until, Until::Cases(_))));
         assert!(matches!(said("--help"), Ok(Asked::Help)));
+    }
+
+    #[test]
+    fn audits() {
+        let Ok(Asked::Audits(audits, true)) = said("--seed 8 --audits --pairs 3 --table") else {
+            panic!("no audits");
+        };
+        assert_eq!((audits.seed, audits.pairs), (8, 3));
     }
 
     #[test]

@@ -1,6 +1,7 @@
 //! Smaller numbers, plainer and shorter names, data and modules.
 
 use super::parts::{change, parts, Part};
+use super::runs::leave_out;
 use super::Shrinker;
 use crate::protocol::{Case, Request};
 use exoslog::Field;
@@ -92,7 +93,7 @@ impl<Differs: FnMut(&Case) -> Option<usize>> Shrinker<Differs> {
     /// first.
     fn shorten_rest(&mut self, row: usize) {
         let length = |shrinker: &Self| shrinker.rest(row).len();
-        self.leave_out(length(self), length, |shrinker, run| {
+        leave_out(length(self), self, length, |shrinker, run| {
             let mut rest = shrinker.rest(row);
             rest.drain(run);
             shrinker.try_rest(row, rest);

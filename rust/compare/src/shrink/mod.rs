@@ -13,6 +13,7 @@ mod tests;
 mod writer;
 
 use crate::protocol::Case;
+pub(crate) use runs::leave_out;
 use std::time::{Duration, Instant};
 
 /// How often all is tried again: numbers that hang together, as R and an n,

@@ -1,5 +1,6 @@
 //! Fewer and plainer items of a module.
 
+use super::runs::leave_out;
 use super::Shrinker;
 use crate::protocol::Case;
 use exos_modules::Module;
@@ -10,7 +11,7 @@ impl<Differs: FnMut(&Case) -> Option<usize>> Shrinker<Differs> {
     pub(super) fn simplify_stream(&mut self, row: usize) {
         self.try_module(row, |module| module.rest.clear());
         let items = |shrinker: &Self| shrinker.module(row).items.len();
-        self.leave_out(items(self), items, |shrinker, run| {
+        leave_out(items(self), self, items, |shrinker, run| {
             shrinker.try_module(row, |module| drop(module.items.drain(run)));
         });
         for at in 0..items(self) {

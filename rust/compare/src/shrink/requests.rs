@@ -1,5 +1,6 @@
 //! Fewer requests, and channels of low numbers.
 
+use super::runs::leave_out;
 use super::Shrinker;
 use crate::protocol::{Case, Request};
 use exos_kernel::HEADING;
@@ -15,7 +16,7 @@ impl<Differs: FnMut(&Case) -> Option<usize>> Shrinker<Differs> {
     pub(super) fn drop_requests(&mut self) {
         let half = self.case.requests.len() / 2;
         let length = |shrinker: &Self| shrinker.case.requests.len();
-        self.leave_out(half, length, |shrinker, run| {
+        leave_out(half, self, length, |shrinker, run| {
             let mut case = shrinker.case.clone();
             case.requests.drain(run);
             shrinker.accepts(case);

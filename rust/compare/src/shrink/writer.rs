@@ -1,5 +1,6 @@
 //! A plainer start and a shorter, plainer list of what the writer is asked.
 
+use super::runs::leave_out;
 use super::Shrinker;
 use crate::protocol::{Case, Request, Sort, Writing};
 use exos_modules::{list, of_list, Item, What};
@@ -16,7 +17,7 @@ impl<Differs: FnMut(&Case) -> Option<usize>> Shrinker<Differs> {
     /// Leaves out runs of items, then lowers what they say and the start.
     pub(super) fn simplify_writing(&mut self, row: usize) {
         let items = |shrinker: &Self| shrinker.list_length(row).div_ceil(ITEM);
-        self.leave_out(items(self), items, |shrinker, run| {
+        leave_out(items(self), self, items, |shrinker, run| {
             shrinker.try_without(row, run);
         });
         self.join_moves(row);
