@@ -185,6 +185,17 @@ pub fn form_of(kind: u16) -> Option<&'static Form> {
     FORMS.iter().find(|form| form.kind == kind)
 }
 
+/// The row of a kind that stands in a listing, a decimal of any size.
+pub(crate) fn form_by(kind: &str) -> Option<&'static Form> {
+    kind.parse().ok().and_then(form_of)
+}
+
+/// A kind as its number and its words.
+pub(crate) fn kind_words(kind: &str) -> String {
+    let words = form_by(kind).map_or("unknown", |form| form.words);
+    format!("{kind} {words}")
+}
+
 /// How a body does not fit its form.
 #[derive(Clone, Copy, Debug, PartialEq, Eq)]
 pub enum Misfit {

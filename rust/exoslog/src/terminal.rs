@@ -11,9 +11,8 @@ const WIDTH: usize = 80;
 
 /// The picture of a map as plain text.
 pub fn terminal(map: &Map) -> String {
-    let mut lines = vec![map.title()];
-    lines.extend(map.record.as_deref().map(|record| format!("  {record}")));
-    lines.extend(map.answer.as_deref().map(|answer| format!("  {answer}")));
+    let mut lines = vec![map.title.clone()];
+    lines.extend(map.lines.iter().map(|line| format!("  {line}")));
     lines.push(String::new());
     match &map.ram {
         Some(ram) => draw(ram, &mut lines),
@@ -163,10 +162,10 @@ fn draw_line(ram: &Ram, lines: &mut Vec<String>) {
 #[cfg(test)]
 mod tests {
     use super::*;
-    use crate::{encode, map};
+    use crate::{encode, map, At};
 
     fn picture(text: &str) -> String {
-        terminal(&map(&encode(text.as_bytes()).unwrap(), None).unwrap())
+        terminal(&map(&encode(text.as_bytes()).unwrap(), At::End).unwrap())
     }
 
     #[test]

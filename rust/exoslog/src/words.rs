@@ -2,23 +2,14 @@
 
 use crate::grammar::{form_of, Field, Form, Misfit};
 use crate::module::stream_words;
-use crate::records::{records, Record, LONGEST};
+use crate::records::{Record, LONGEST};
+use crate::reply::{reply_words, REPLY};
 use exos_kernel::hex;
-
-/// A log in words, one record a line. [`encode`](crate::encode) gives exactly
-/// these bytes back.
-pub fn decode(log: &[u8]) -> String {
-    let mut text = String::new();
-    for record in records(log) {
-        text.push_str(&words(record));
-        text.push('\n');
-    }
-    text
-}
 
 /// A record in words. What is ill-formed has a comment that says why.
 pub fn words(record: Record) -> String {
     match record {
+        Record::Whole { kind: REPLY, body } => reply_words(body),
         Record::Whole { kind, body } => whole(kind, body),
         Record::Bad(bytes) => bad(bytes),
     }

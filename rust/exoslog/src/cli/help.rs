@@ -7,15 +7,18 @@ modules in words
 usage: exoslog COMMAND [ARGUMENT...]
 
 commands:
-  encode   words to event records
-  decode   event records to words
-  map      the RAM after a log, or after its k-th record, as a picture
-  diff     two listings: the first record that differs
-  module   items in words to a module, and a module to words
+  encode      words to event records
+  decode      event records to words
+  map         the RAM after a log, or at one of its records, as a picture
+  diff        two listings: the first record that differs
+  audit-log   a log and a board's listing to a maker's log, for exos-audit
+  module      items in words to a module, and a module to words
 
 exoslog COMMAND --help tells more of a command; exoslog --version tells the
 version. No FILE, or -, is standard input. In this repository a log in words is
-NAME.words, and one of event records NAME.log.
+NAME.words, one of event records NAME.log, and a maker's log, whose events are
+followed by their replies, NAME.maker. A log whose second record is a reply is
+taken for a maker's log.
 
 exit status: 0 done (diff: the same), 1 the input is not right (diff: they
 differ), 2 a wrong use, or a file that cannot be read or written. module --with
@@ -42,6 +45,9 @@ decimal, or hex with 0x.
   status                             set user boundary OFFSET
   boundary                           load module SEGMENT PAGE OFFSET ITEM...
 
+  reply ANSWER A B [DATA]            in a maker's log, behind its event; DATA
+                                     has B bytes
+
   CALLER  user, device, or a number
   NAME    in double quotes; \\\\ and \\\" and \\xHH for any byte
   DATA    pairs of hex digits, blanks between pairs or none; or as a NAME
@@ -62,22 +68,31 @@ written and the exit status is 1.
 pub const DECODE: &str = "\
 exoslog decode: event records to a log in words
 
-usage: exoslog decode [FILE] [-o OUT]
+usage: exoslog decode [--reply N] [FILE] [-o OUT]
 
+  --reply N          of a maker's log, the event and the reply one of which
+                     exos-audit counts N, and their record's number
   -o, --output OUT   write to OUT (- is standard output)
 
 One record a line, so line k is record k. Any bytes can be decoded, and encode
 gives exactly these bytes back: a record of an unknown kind or a wrong body is a
 line kind, a bad length or a cut record, with all that follows, a line raw. A
 comment says what is wrong. exoslog encode --help tells the words.
+
+In a maker's log a reply stands below its event, set in, with its answer's name.
+exos-audit counts events and replies together from 0: line n is what it counts
+n - 1. A line # N cut stands before the first record that is cut, ill-sized,
+missing or misplaced, and says why; an audit goes no further.
 ";
 
 pub const MAP: &str = "\
 exoslog map: the RAM after a log, as a picture
 
-usage: exoslog map [--at K] [--svg OUT | --text] [--from FORM] [LOG]
+usage: exoslog map [--at K | --reply N] [--svg OUT | --text] [--from FORM] [LOG]
 
   --at K        after record K; 0 is before any (default: after the last)
+  --reply N     of a maker's log, before the record with the event or the reply
+                that exos-audit counts N: the RAM in which the event was asked
   --svg OUT     an SVG drawing to OUT (- is standard output)
   --text        plain text, 80 columns, on standard output (the default)
   --from FORM   what LOG is: words or records (default: found from its bytes)
@@ -88,6 +103,12 @@ their classes and places in the chain, R, the EXOS and the user boundary, and
 the line's records by channel, exact to the byte. The replay is by the Rust
 kernel, of which nothing is proved: what the proved kernel answers is listed by
 exos-list.
+
+In a maker's log a record is an event and its reply, so K is still a line of the
+listing. Its events are replayed, up to the first record that is cut, ill-sized,
+missing or misplaced; below the answer stands the log's reply and, where only
+bytes differ, the first that does. An audit lends 4090 bytes of output, and a
+listing 4096: a read or a user load of more is answered 13 RANGE.
 ";
 
 pub const DIFF: &str = "\
@@ -102,10 +123,41 @@ whose values differ: its number, the record in words if LOG is given, both
 lines, and which fields differ, the value of LISTING1 first; where one has a
 read done and the other refuses it with 13 RANGE, order 2's sentence on that.
 What is not in 01's form but has the values (line ends, zeros before a number,
-capitals in hex) is noted above that, the first of each sort. One of the files
-may be -, standard input.
+capitals in hex) is noted above that, the first of each sort. Of a maker's LOG
+the events count, and a record has the numbers of its event and its reply too.
+One of the files may be -, standard input.
 
 exit status: 0 the same byte by byte, 1 they differ, 2 trouble.
+";
+
+pub const AUDIT_LOG: &str = "\
+exoslog audit-log: a log and a board's listing to a maker's log
+
+usage: exoslog audit-log [--from FORM] LOG LISTING [-o OUT]
+
+  --from FORM        what LOG is: words or records (default: found from its
+                     bytes)
+  -o, --output OUT   write to OUT (- is standard output, a terminal too)
+
+exoslog audit-log audit.words maker.list -o audit.maker makes what exos-audit
+audit.maker judges: each event of LOG, and behind it a reply with what its line
+of LISTING says. Any numbers that fit a reply are taken, since a board may be
+wrong: answer and a 0 to 255, b 0 to 65535. Line ends, zeros before a number and
+capitals in hex are read as diff reads them. One of the files may be -, standard
+input.
+
+No log is made, and each line is told as LISTING:LINE, where
+  there are more lines than records, or fewer
+  a line is of another kind than its record, is bad, or is no line of a listing
+  a number fits no field of a reply
+  there are bytes where none belong (6, 20 and 258 have them, answered 0 with b
+  above 0), none where they belong, or another number of them than b
+  there are more than 4090 bytes: a reply has no room for them, and an audit,
+  which lends 4090 where a listing lends 4096, answers 13 RANGE
+  the record is cut, has a bad length, or is of kind 512, a reply's
+
+exit status: 0 done, 1 no log is made, 2 a wrong use, or a file that cannot be
+read or written.
 ";
 
 pub const MODULE: &str = "\

@@ -23,7 +23,7 @@ struct Command {
     run: fn(&Arguments) -> Result<u8, Trouble>,
 }
 
-const COMMANDS: [Command; 5] = [
+const COMMANDS: [Command; 6] = [
     Command {
         name: "encode",
         help: help::ENCODE,
@@ -33,13 +33,13 @@ const COMMANDS: [Command; 5] = [
     Command {
         name: "decode",
         help: help::DECODE,
-        choices: &[HELP, OUTPUT],
+        choices: &[HELP, OUTPUT, REPLY],
         run: commands::decode,
     },
     Command {
         name: "map",
         help: help::MAP,
-        choices: &[HELP, AT, SVG, TEXT, FROM],
+        choices: &[HELP, AT, REPLY, SVG, TEXT, FROM],
         run: commands::map,
     },
     Command {
@@ -47,6 +47,12 @@ const COMMANDS: [Command; 5] = [
         help: help::DIFF,
         choices: &[HELP, FROM],
         run: commands::diff,
+    },
+    Command {
+        name: "audit-log",
+        help: help::AUDIT_LOG,
+        choices: &[HELP, OUTPUT, FROM],
+        run: commands::audit_log,
     },
     Command {
         name: "module",
@@ -59,6 +65,7 @@ const COMMANDS: [Command; 5] = [
 const HELP: Choice = Choice::switch(&["-h", "--help"]);
 const OUTPUT: Choice = Choice::value(&["-o", "--output"]);
 const AT: Choice = Choice::value(&["--at"]);
+const REPLY: Choice = Choice::value(&["--reply"]);
 const SVG: Choice = Choice::value(&["--svg"]);
 const TEXT: Choice = Choice::switch(&["--text"]);
 const FROM: Choice = Choice::value(&["--from"]);

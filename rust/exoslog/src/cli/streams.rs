@@ -4,7 +4,7 @@ use super::args::Arguments;
 use super::trouble::Trouble;
 use exos_modules::of_list;
 use exoslog::{begins_with_items, encode, form_of, is_in_words, item_list, module_words, records};
-use exoslog::{ItemList, Listing, Mistake, Record};
+use exoslog::{ItemList, Listing, Log, Mismatch, Mistake, NoRecord, Record};
 use std::ffi::{OsStr, OsString};
 use std::fs;
 use std::io::{self, ErrorKind, IsTerminal, Read, Write};
@@ -71,6 +71,17 @@ impl Input {
         encode(&self.bytes).map_err(|mistakes| self.mistakes(&mistakes))
     }
 
+    /// The event records of a log that has no replies.
+    pub(super) fn events(&self, form: LogForm) -> Result<Vec<u8>, Trouble> {
+        let log = self.log(form)?;
+        if Log::of(&log).is_makers {
+            let name = &self.name;
+            let what = format!("exoslog: {name} is a maker's log: its events have replies\n");
+            return Err(Trouble::Input(what));
+        }
+        Ok(log)
+    }
+
     /// The list of items that the words are.
     pub(super) fn item_list(&self) -> Result<ItemList, Trouble> {
         item_list(&self.bytes).map_err(|mistakes| {
@@ -108,15 +119,30 @@ impl Input {
         if self.begins_with_a_record() {
             return self.looks_like("event records; exoslog decode");
         }
-        let mut said = String::new();
-        for mistake in mistakes.iter().take(MOST_SHOWN) {
-            said.push_str(&mistake.show(&self.name, &self.bytes));
-        }
-        if mistakes.len() > MOST_SHOWN {
-            let more = mistakes.len() - MOST_SHOWN;
+        self.lines_not_right(mistakes, |mistake| mistake.show(&self.name, &self.bytes))
+    }
+
+    /// Lines of a listing that make no maker's log.
+    pub(super) fn mismatches(&self, mismatches: &[Mismatch]) -> Trouble {
+        let name = &self.name;
+        self.lines_not_right(mismatches, |Mismatch { line, why }| {
+            format!("{name}:{line}: {why}\n")
+        })
+    }
+
+    /// What is wrong with lines, up to as many as are shown.
+    fn lines_not_right<T>(&self, lines: &[T], show: impl Fn(&T) -> String) -> Trouble {
+        let mut said: String = lines.iter().take(MOST_SHOWN).map(show).collect();
+        if lines.len() > MOST_SHOWN {
+            let more = lines.len() - MOST_SHOWN;
             said.push_str(&format!("{}: {more} more lines are not right\n", self.name));
         }
         Trouble::Input(said)
+    }
+
+    /// A log has no such record.
+    pub(super) fn no_record(&self, none: &NoRecord) -> Trouble {
+        Trouble::Input(format!("exoslog: {}\n", none.said_of(&self.name)))
     }
 
     pub(super) fn listing(&self) -> Listing<'_> {
@@ -125,6 +151,14 @@ impl Input {
             text: &self.bytes,
         }
     }
+}
+
+/// Standard input can be read once.
+pub(super) fn once_standard_input(files: &[OsString]) -> Result<(), Trouble> {
+    if files.iter().filter(|file| *file == "-").count() > 1 {
+        return Err(Trouble::Usage("standard input is given twice".to_string()));
+    }
+    Ok(())
 }
 
 /// Bytes that are no text go to a terminal only where `-` asks for it.

@@ -99,7 +99,7 @@ fn lines_that_cannot_be_compared() {
     assert_eq!(
         reasons("bad", "3 0 0"),
         "  one finds a bad length or a cut record here\n  \
-         two has a line here of other than four or five fields\n"
+         two has no line of a listing here: it has other than four or five fields\n"
     );
     for (two, found) in [
         ("3 +0 0 0", "answer is \"+0\""),
@@ -107,7 +107,7 @@ fn lines_that_cannot_be_compared() {
         ("3 0 x 0", "a is \"x\""),
         ("3 0 0 0 0x", "the bytes are no hex"),
     ] {
-        let reason = format!("  two is not in 01's form here: {found}\n");
+        let reason = format!("  two has no line of a listing here: {found}\n");
         assert_eq!(reasons(line, two), reason);
     }
     let no_text = Listing {
@@ -115,7 +115,7 @@ fn lines_that_cannot_be_compared() {
         text: b"3 0 0 0 \xff\n",
     };
     let told = diff(listing("one", "3 0 0 0\n"), no_text, None).unwrap();
-    assert!(told.ends_with("\n  two has a line here that is no text\n"));
+    assert!(told.ends_with("\n  two has no line of a listing here: it is no text\n"));
     let told = of("3 0 0 0\n", "\x1b 0 0 0\n").unwrap();
     assert!(told.contains("  two: \\x1b 0 0 0\n"), "{told}");
     assert!(told.ends_with("kind is \"\\u{1b}\"\n"), "{told}");
@@ -185,6 +185,28 @@ fn the_form_of_a_line_is_noted_once_and_hides_no_difference() {
 }
 
 #[test]
+fn a_makers_log_has_its_events_and_both_numbers() {
+    let one = "256 0 4 11074\n1 9 0 0\n";
+    let two = "256 0 4 11074\n1 0 0 0\r\n";
+    let log = "start 11074 252 253 254 255\nreply 0 4 11074\n\
+               open 5 0 43827 \"VIDEO:\"\nreply 0 0 0\n";
+    assert_eq!(
+        compared(one, two, Some(log)).unwrap(),
+        "two: record 2 (event 2, reply 3) ends with \"\\r\\n\"; 01 asks for \"\\n\" alone\n\
+         record 2 (event 2, reply 3) differs\n  record: open 5 0 43827 \"VIDEO:\"\n  \
+         one: 1 9 0 0\n  two: 1 0 0 0\n  answer: 9 ROOM, 0 done\n"
+    );
+    let told = compared(one, "256 0 4 11074\n", Some("status\nreply 1 0 0\n")).unwrap();
+    assert_eq!(
+        told,
+        "log: record 1 (event 0, reply 1) is 20 status, and neither listing has that: \
+         is it their log?\n\
+         record 2 (event 2, reply 3) differs\n  record: none, the log has 1 record\n  \
+         one: 1 9 0 0\n  two: ends before this record\n"
+    );
+}
+
+#[test]
 fn a_log_of_other_calls_is_noted() {
     let ours = "256 0 4 11074\n3 3 0 0\n22 0 255 11074\nbad\n";
     let theirs = "256 0 4 11074\n3 3 0 0\n20 0 0 0\n";
@@ -206,4 +228,18 @@ fn a_log_of_other_calls_is_noted() {
         let told = compared(ours, theirs, Some(&log)).unwrap();
         assert!(told.starts_with(begins), "{told}");
     }
+}
+
+#[test]
+fn a_makers_log_ends_with_its_first_cut() {
+    let log = "start 11074 252 253 254 255\nreply 0 4 11074\nclose 5\nclose 6\nreply 3 0 0\n";
+    let one = "256 0 4 11074\n3 3 0 0\n3 3 0 0\n";
+    let two = "256 0 4 11074\n3 3 0 0\n3 0 0 0\n";
+    assert_eq!(
+        compared(one, two, Some(log)).unwrap(),
+        "record 3 (event 4, reply 5) differs\n  \
+         record: none, an audit of the log goes no further than 3 cut: \
+         an event where a reply is due\n  \
+         one: 3 3 0 0\n  two: 3 0 0 0\n  answer: 3 CHANNEL, 0 done\n"
+    );
 }

@@ -1,52 +1,70 @@
-//! The regions of the RAM after a record.
+//! The RAM at a record of a log, and its regions.
 
+use super::record::ask;
 use super::{Boundary, Class, LineRecord, Map, Ram, Region, Segment, What};
-use crate::answers::answer;
-use crate::records::{records, Record};
+use crate::log::{record_with, Log, NoRecord};
 use crate::replay::answer_to;
-use crate::words::words;
+use crate::reply::MOST_BYTES;
+use crate::words::counted;
 use exos_kernel::{class, Call, Channel, Machine, Reply, Tables, HEADING, SEGMENT};
 
-/// The log has fewer records than were asked for.
+/// Which RAM is asked for.
 #[derive(Clone, Copy, Debug, PartialEq, Eq)]
-pub struct PastTheEnd {
-    /// The record that was asked for.
-    pub asked: usize,
-    /// How many it has.
-    pub records: usize,
+pub enum At {
+    /// That after the last record.
+    End,
+    /// That after so many records.
+    After(usize),
+    /// That in which an event of a maker's log was asked: before the record with
+    /// the event or the reply that an audit counts so.
+    Reply(usize),
 }
 
-/// The RAM after the first `after` records of a log, or after all.
-pub fn map(log: &[u8], after: Option<usize>) -> Result<Map, PastTheEnd> {
-    let of = records(log).count();
-    let after = after.unwrap_or(of);
-    if after > of {
-        return Err(PastTheEnd {
-            asked: after,
-            records: of,
+/// The RAM at a record of a log.
+pub fn map(bytes: &[u8], at: At) -> Result<Map, NoRecord> {
+    let log = match at {
+        At::Reply(_) => Log::makers(bytes),
+        At::End | At::After(_) => Log::of(bytes),
+    };
+    let of = log.asked().count();
+    let record = match at {
+        At::End => of,
+        At::After(record) => record,
+        At::Reply(number) => record_with(number),
+    };
+    let Some(before) = record.checked_sub(1) else {
+        return Ok(Map {
+            title: format!("RAM before any of {}", counted(of, "record")),
+            lines: vec![],
+            ram: None,
         });
+    };
+    let last = log.record(record)?;
+    let mut machine = machine(log);
+    for asked in log.asked().take(before) {
+        answer_to(&mut machine, asked.event);
     }
-    let mut machine = Machine::default();
-    let mut last = None;
-    for record in records(log).take(after) {
-        last = Some((record, answer_to(&mut machine, record)));
-    }
+    let asked_in = machine.clone();
+    let lines = ask(&mut machine, log, &last);
+    let (when, mut machine) = match at {
+        At::Reply(_) => ("before", asked_in),
+        At::End | At::After(_) => ("after", machine),
+    };
     let boundary = machine.answer(Call::Boundary);
     Ok(Map {
-        after,
-        of,
-        record: last.map(|(record, _)| words(record)),
-        answer: last.map(|(record, reply)| answer_words(record, reply)),
+        title: format!("RAM {when} {} of {of}", log.named(record)),
+        lines,
         ram: machine.tables().map(|tables| ram(tables, boundary)),
     })
 }
 
-fn answer_words(record: Record, reply: Option<Reply>) -> String {
-    match (record, reply) {
-        (Record::Whole { .. }, Some(Reply { number, a, b })) => {
-            format!("{}, a {a}, b {b}", answer(&number.to_string()))
-        }
-        _ => "bad: the listing ends here".to_string(),
+/// A machine that lends what the listing program does or, to a maker's log, what
+/// an audit does.
+fn machine(log: Log) -> Machine {
+    if log.is_makers {
+        Machine::lending(MOST_BYTES)
+    } else {
+        Machine::default()
     }
 }
 
@@ -171,7 +189,7 @@ mod tests {
 
     fn after(text: &str) -> Ram {
         let log = encode(text.as_bytes()).unwrap();
-        map(&log, None).unwrap().ram.unwrap()
+        map(&log, At::End).unwrap().ram.unwrap()
     }
 
     const START: &str = "start 11074 252 253 254 255\n";
@@ -279,23 +297,71 @@ mod tests {
     #[test]
     fn the_kth_record_and_past_the_end() {
         let log = encode(format!("{START}close 5\nraw 09").as_bytes()).unwrap();
-        let title = |after| map(&log, after).map(|map| map.title());
-        assert_eq!(title(Some(0)).unwrap(), "RAM before any of 3 records");
-        assert_eq!(title(Some(1)).unwrap(), "RAM after record 1 of 3");
-        assert_eq!(title(None).unwrap(), "RAM after record 3 of 3");
+        let title = |at| map(&log, at).map(|map| map.title);
+        let after = At::After;
+        assert_eq!(title(after(0)).unwrap(), "RAM before any of 3 records");
+        assert_eq!(title(after(1)).unwrap(), "RAM after record 1 of 3");
+        assert_eq!(title(At::End).unwrap(), "RAM after record 3 of 3");
         assert_eq!(
-            title(Some(4)),
-            Err(PastTheEnd {
-                asked: 4,
-                records: 3
-            })
+            title(after(4)).unwrap_err().said_of("x"),
+            "no record 4: x has 3 records"
         );
-        assert_eq!(map(&log, Some(0)).unwrap().ram, None);
-        let second = map(&log, Some(2)).unwrap();
-        assert_eq!(second.record.as_deref(), Some("close 5"));
-        assert_eq!(second.answer.as_deref(), Some("3 CHANNEL, a 0, b 0"));
-        let third = map(&log, Some(3)).unwrap();
-        assert_eq!(third.answer.as_deref(), Some("bad: the listing ends here"));
+        let first = map(&log, after(0)).unwrap();
+        assert_eq!((first.lines.len(), first.ram), (0, None));
+        let second = map(&log, after(2)).unwrap();
+        assert_eq!(second.lines, ["close 5", "3 CHANNEL, a 0, b 0"]);
+        let third = map(&log, after(3)).unwrap();
+        assert_eq!(third.lines[1], "bad: the listing ends here");
         assert_eq!(third.ram, second.ram);
+    }
+
+    /// A maker's log of two channels; the board is wrong in the second.
+    const MAKERS: &str = "start 11074 252 253 254 255\nreply 0 4 11074\n\
+                          open 5 0 84 \"VIDEO:\"\nreply 0 0 0\n\
+                          open 6 0 0 \"VIDEO:\"\nreply 4 0 0\n\
+                          read 5 0 4096\nreply 0 0 2 0001\n";
+
+    #[test]
+    fn replies_are_no_events() {
+        let log = encode(MAKERS.as_bytes()).unwrap();
+        let end = map(&log, At::End).unwrap();
+        assert_eq!(end.title, "RAM after record 4 (event 6, reply 7) of 4");
+        assert_eq!(end.ram.unwrap().line.len(), 2);
+        let second = map(&log, At::After(2)).unwrap();
+        assert_eq!(second.title, "RAM after record 2 (event 2, reply 3) of 4");
+        assert_eq!(
+            second.lines,
+            [
+                "open 5 0 84 \"VIDEO:\"",
+                "the Rust kernel's answer: 0 done, a 0, b 0",
+                "the log's reply: 0 done, a 0, b 0"
+            ]
+        );
+        assert_eq!(second.ram.unwrap().line.len(), 1);
+    }
+
+    #[test]
+    fn the_ram_in_which_an_event_was_asked() {
+        let log = encode(MAKERS.as_bytes()).unwrap();
+        for number in [4, 5] {
+            let third = map(&log, At::Reply(number)).unwrap();
+            assert_eq!(third.title, "RAM before record 3 (event 4, reply 5) of 4");
+            assert_eq!(
+                third.lines,
+                [
+                    "open 6 0 0 \"VIDEO:\"",
+                    "the Rust kernel's answer: 0 done, a 0, b 0",
+                    "the log's reply: 4 EXISTS, a 0, b 0"
+                ]
+            );
+            assert_eq!(third.ram.unwrap().line.len(), 1);
+        }
+        let first = map(&log, At::Reply(1)).unwrap();
+        assert_eq!(first.ram, None);
+        assert_eq!(first.title, "RAM before record 1 (event 0, reply 1) of 4");
+        assert_eq!(
+            map(&log, At::Reply(8)).unwrap_err().said_of("x"),
+            "no record 5 (event 8, reply 9): x has 4 records"
+        );
     }
 }

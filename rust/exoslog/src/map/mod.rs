@@ -1,25 +1,21 @@
 //! The RAM after a record as regions: what a picture shows, exact to the byte.
 
 mod build;
+mod record;
 
-use crate::words::counted;
 use exos_kernel::class;
 use std::fmt;
 use std::ops::Range;
 
-pub use build::{map, PastTheEnd};
+pub use build::{map, At};
 
 /// What a picture shows.
 #[derive(Clone, Debug, PartialEq, Eq)]
 pub struct Map {
-    /// How many records were made; 0 is before any.
-    pub after: usize,
-    /// How many records the log has.
-    pub of: usize,
-    /// The last record in words.
-    pub record: Option<String>,
-    /// Its answer in words.
-    pub answer: Option<String>,
+    /// Which RAM it is: "RAM after record 4 of 8".
+    pub title: String,
+    /// The record in words, its answer and, in a maker's log, its reply.
+    pub lines: Vec<String>,
     /// The RAM, after an accepted start.
     pub ram: Option<Ram>,
 }
@@ -165,16 +161,6 @@ pub struct LineRecord {
     pub n: u16,
     /// Its positions in the line, L = 16 + n of them.
     pub positions: Range<usize>,
-}
-
-impl Map {
-    /// "RAM after record 4 of 8".
-    pub fn title(&self) -> String {
-        match self.after {
-            0 => format!("RAM before any of {}", counted(self.of, "record")),
-            after => format!("RAM after record {after} of {}", self.of),
-        }
-    }
 }
 
 impl Ram {

@@ -4,12 +4,14 @@ mod items;
 mod list;
 mod module;
 mod reader;
+mod reply;
 #[cfg(test)]
 mod tests;
 
 use crate::grammar::{Field, Form, FORMS};
 use crate::mistakes::{Mistake, Place};
 use crate::records::{put_record, LONGEST};
+use crate::reply::REPLY;
 use crate::without_mark;
 use reader::{Behind, Reader, NOTHING};
 
@@ -63,6 +65,10 @@ impl Reader<'_> {
                 self.field(Field::Data, &mut body)?;
                 put_record(log, kind, &body);
             }
+            b"reply" => {
+                self.take(b"reply".len());
+                put_record(log, REPLY, &self.reply()?);
+            }
             _ => {
                 let form = self.form()?;
                 let mut body = Vec::new();
@@ -78,7 +84,7 @@ impl Reader<'_> {
     /// Reads the words of a form, one by one.
     fn form(&mut self) -> Result<&'static Form, Mistake> {
         let mut forms: Vec<&Form> = FORMS.iter().collect();
-        let mut others = vec!["kind", "raw"];
+        let mut others = vec!["reply", "kind", "raw"];
         let mut place = 0;
         loop {
             let word = self.peek();

@@ -123,7 +123,7 @@ fn words_that_begin_a_line() {
     assert_eq!(
         mistake("opne 5"),
         "1:1: expected start, reset, open, close, read, write, default, status, link, \
-         boundary, set, allocate, free, load, user, kind or raw, found \"opne\""
+         boundary, set, allocate, free, load, user, reply, kind or raw, found \"opne\""
     );
     assert_eq!(
         mistake("set usr boundary 5"),

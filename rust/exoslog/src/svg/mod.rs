@@ -11,7 +11,7 @@ use drawing::{Drawing, Text};
 const MARGIN: f64 = 24.0;
 /// The least width inside of it: the longest words have room.
 const LEAST_WIDTH: f64 = 760.0;
-/// The most characters of a record's words.
+/// The most characters of a line under the title.
 const LONGEST_WORDS: usize = 90;
 /// From a row of text to the next.
 const ROW: f64 = 18.0;
@@ -39,7 +39,7 @@ fn fill(what: &What) -> &'static str {
 pub fn svg(map: &Map) -> String {
     let mut drawing = Drawing::default();
     let mut y = MARGIN + 14.0;
-    drawing.text(Text::at(MARGIN, y, 18).bold(), &map.title());
+    drawing.text(Text::at(MARGIN, y, 18).bold(), &map.title);
     for line in head(map) {
         y += ROW + 2.0;
         drawing.text(Text::at(MARGIN, y, 13), &line);
@@ -55,14 +55,13 @@ pub fn svg(map: &Map) -> String {
         y = draw_legend(&mut drawing, y + 2.0 * ROW, end);
         y = draw_line(&mut drawing, ram, y + 2.0 * ROW);
     }
-    drawing.document(&map.title(), end + MARGIN, y + MARGIN)
+    drawing.document(&map.title, end + MARGIN, y + MARGIN)
 }
 
 /// The lines under the title.
 fn head(map: &Map) -> Vec<String> {
     let mut lines = Vec::new();
-    lines.extend(map.record.as_deref().map(cut));
-    lines.extend(map.answer.clone());
+    lines.extend(map.lines.iter().map(|line| cut(line)));
     match &map.ram {
         Some(ram) => lines.extend(ram.numbers()),
         None => lines.push("no RAM: no start was accepted".to_string()),
@@ -144,10 +143,10 @@ fn draw_row(drawing: &mut Drawing, y: f64, cells: &[String; 6]) {
 #[cfg(test)]
 mod tests {
     use super::*;
-    use crate::{encode, map};
+    use crate::{encode, map, At};
 
     fn picture(text: &str) -> String {
-        svg(&map(&encode(text.as_bytes()).unwrap(), None).unwrap())
+        svg(&map(&encode(text.as_bytes()).unwrap(), At::End).unwrap())
     }
 
     #[test]

@@ -75,6 +75,7 @@ fn help_and_version() {
         (&["decode", "-h"], "exoslog decode: event records"),
         (&["map", "--help"], "exoslog map: the RAM after a log"),
         (&["diff", "--help"], "exoslog diff: two listings"),
+        (&["audit-log", "-h"], "exoslog audit-log: a log and"),
         (&["module", "--help"], "exoslog module: items in words"),
         (&["--version"], "exoslog 0.1.0\n"),
         (&["-V"], "exoslog 0.1.0\n"),
@@ -110,6 +111,14 @@ fn wrong_uses_end_with_2() {
             "exoslog: --at needs a record's number, not x\nTry exoslog map --help.\n",
         ),
         (
+            &["map", "--at", "1", "--reply", "1"],
+            "exoslog: --at and --reply are given\nTry exoslog map --help.\n",
+        ),
+        (
+            &["decode", "--reply", "-1"],
+            "exoslog: --reply needs a record's number, not -1\nTry exoslog decode --help.\n",
+        ),
+        (
             &["map", "--text", "--svg", "-"],
             "exoslog: --svg and --text are given\nTry exoslog map --help.\n",
         ),
@@ -124,6 +133,14 @@ fn wrong_uses_end_with_2() {
         (
             &["diff", "-", "-"],
             "exoslog: standard input is given twice\nTry exoslog diff --help.\n",
+        ),
+        (
+            &["audit-log", "a"],
+            "exoslog: LISTING is missing\nTry exoslog audit-log --help.\n",
+        ),
+        (
+            &["audit-log", "-", "-"],
+            "exoslog: standard input is given twice\nTry exoslog audit-log --help.\n",
         ),
         (
             &["module", "--decode", "--with", "x"],

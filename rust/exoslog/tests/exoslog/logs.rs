@@ -1,7 +1,7 @@
 //! Random logs.
 
 use crate::random::Random;
-use exoslog::{encode, hex};
+use exoslog::{decode, encode, hex};
 
 /// A log of calls that mostly succeed.
 pub fn random_log(random: &mut Random) -> Vec<u8> {
@@ -36,6 +36,22 @@ pub fn random_log(random: &mut Random) -> Vec<u8> {
                 "reset bits {}\n",
                 random.pick(&["4", "5", "6", "4 6", "5 6"])
             ),
+        });
+    }
+    encode(text.as_bytes()).unwrap()
+}
+
+/// Such a log with calls that give bytes among the others.
+pub fn random_reads(random: &mut Random) -> Vec<u8> {
+    let mut text = String::new();
+    for line in decode(&random_log(random)).lines() {
+        text.push_str(&format!("{line}\n"));
+        let length = random.pick(&[0, 1, 20, 4_089, 4_090]);
+        text.push_str(&match random.below(6) {
+            0 => "status\n".to_string(),
+            1 => format!("read {} 0 {length}\n", random.below(12)),
+            2 => format!("user load 252 {} {length}\n", random.below(13_000)),
+            _ => String::new(),
         });
     }
     encode(text.as_bytes()).unwrap()

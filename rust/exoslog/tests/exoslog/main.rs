@@ -3,6 +3,7 @@
 mod audits;
 mod command;
 mod logs;
+mod makers;
 mod modules;
 mod pictures;
 mod programs;

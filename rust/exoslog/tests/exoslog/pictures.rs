@@ -3,14 +3,14 @@
 use crate::logs::random_log;
 use crate::random::Random;
 use exos_kernel::{Machine, SEGMENT};
-use exoslog::{answer_to, map, records, svg, terminal, Class, Map, Ram, What};
+use exoslog::{answer_to, map, records, svg, terminal, At, Class, Map, Ram, What};
 
 fn after(log: &[u8]) -> (Map, Machine) {
     let mut machine = Machine::default();
     for record in records(log) {
         answer_to(&mut machine, record);
     }
-    (map(log, None).unwrap(), machine)
+    (map(log, At::End).unwrap(), machine)
 }
 
 #[test]
@@ -133,6 +133,6 @@ fn pictures_to_the_letter() {
     ];
     for (log, picture) in pictures {
         let log = exoslog::encode(log).unwrap();
-        assert_eq!(terminal(&map(&log, None).unwrap()), picture);
+        assert_eq!(terminal(&map(&log, At::End).unwrap()), picture);
     }
 }

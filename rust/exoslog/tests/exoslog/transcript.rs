@@ -29,11 +29,16 @@ struct Proved {
     input: &'static str,
 }
 
-const PROVED: [Proved; 2] = [
+const PROVED: [Proved; 3] = [
     Proved {
         script: "exos-list",
         program: "target/bin/exos_list",
         input: "",
+    },
+    Proved {
+        script: "exos-audit",
+        program: "target/bin/exos_audit",
+        input: r"\10\0\0\1\102\53\374\375\376\377\6\0\0\2\0\4\102\53",
     },
     Proved {
         script: "exos-module",
@@ -111,6 +116,11 @@ fn the_audit_of_the_readme() {
 #[test]
 fn the_example_of_a_listing() {
     holds(&transcript("docs/LOGS.md", "A listing"), "logs");
+}
+
+#[test]
+fn the_example_of_a_makers_log() {
+    holds(&transcript("docs/LOGS.md", "A maker's log"), "maker");
 }
 
 #[test]

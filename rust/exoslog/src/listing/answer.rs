@@ -2,15 +2,16 @@
 
 use super::line::Fault;
 use crate::answers::answer;
-use crate::grammar::{form_of, Form};
+use crate::grammar::{form_by, kind_words};
 use exos_kernel::SHARED_GRANT;
 
 /// "Kind, answer number, a, b, in decimal", and "a fifth field, the bytes in
 /// lower-case hex". All are digits; zeros before a number and capitals in the
 /// hex are read, and are faults.
-pub(super) struct Answer<'a> {
+pub(crate) struct Answer<'a> {
     numbers: [&'a str; 4],
-    bytes: &'a str,
+    /// The fifth field, empty where there is none.
+    pub(crate) bytes: &'a str,
 }
 
 const NAMES: [&str; 4] = ["kind", "answer", "a", "b"];
@@ -27,30 +28,30 @@ const RANGE_OF_READ: &str =
     "order 2: read gives RANGE only where the lent output is shorter than what it would give";
 
 impl<'a> Answer<'a> {
-    /// Reads the fields, or says what is wrong with the line.
-    pub(super) fn read(text: &'a [u8]) -> Result<Answer<'a>, String> {
+    /// Reads the fields, or says why it is no line of a listing.
+    pub(crate) fn read(text: &'a [u8]) -> Result<Answer<'a>, String> {
         let Ok(text) = std::str::from_utf8(text) else {
-            return Err("has a line here that is no text".to_string());
+            return Err("it is no text".to_string());
         };
         let (numbers, bytes) = match text.split(' ').collect::<Vec<_>>()[..] {
             [kind, number, a, b] => ([kind, number, a, b], ""),
             [kind, number, a, b, bytes] => ([kind, number, a, b], bytes),
-            _ => return Err("has a line here of other than four or five fields".to_string()),
+            _ => return Err("it has other than four or five fields".to_string()),
         };
         for (name, number) in NAMES.iter().zip(numbers) {
             if number.is_empty() || !number.bytes().all(|digit| digit.is_ascii_digit()) {
                 let found = number.escape_debug();
-                return Err(format!("is not in 01's form here: {name} is \"{found}\""));
+                return Err(format!("{name} is \"{found}\""));
             }
         }
         if !bytes.bytes().all(|digit| digit.is_ascii_hexdigit()) {
-            return Err("is not in 01's form here: the bytes are no hex".to_string());
+            return Err("the bytes are no hex".to_string());
         }
         Ok(Answer { numbers, bytes })
     }
 
-    /// The numbers without zeros before them.
-    fn values(&self) -> [&'a str; 4] {
+    /// Kind, answer, a and b, without zeros before them.
+    pub(crate) fn values(&self) -> [&'a str; 4] {
         self.numbers
             .map(|number| match number.trim_start_matches('0') {
                 "" => "0",
@@ -58,7 +59,7 @@ impl<'a> Answer<'a> {
             })
     }
 
-    pub(super) fn kind(&self) -> &'a str {
+    pub(crate) fn kind(&self) -> &'a str {
         self.values()[0]
     }
 
@@ -67,12 +68,12 @@ impl<'a> Answer<'a> {
         number == DONE || number == SHARED_GRANT.to_string()
     }
 
-    pub(super) fn has_the_values_of(&self, other: &Answer) -> bool {
+    pub(crate) fn has_the_values_of(&self, other: &Answer) -> bool {
         self.values() == other.values() && self.bytes.eq_ignore_ascii_case(other.bytes)
     }
 
     /// What is not as 01 writes it.
-    pub(super) fn faults(&self) -> impl Iterator<Item = Fault> {
+    pub(crate) fn faults(&self) -> impl Iterator<Item = Fault> {
         let mut numbers = self.numbers.into_iter().zip(self.values());
         let zeros = numbers.find(|(number, value)| number != value);
         let capital = self.bytes.chars().find(char::is_ascii_uppercase);
@@ -99,14 +100,14 @@ impl<'a> Answer<'a> {
     }
 
     /// The fields whose values differ, in words.
-    pub(super) fn differences(&self, other: &Answer) -> Vec<String> {
+    pub(crate) fn differences(&self, other: &Answer) -> Vec<String> {
         let [a, b] = self.meanings(other);
         let names = ["kind".to_string(), "answer".to_string(), a, b];
         let values = self.words().into_iter().zip(other.words());
         let differ = names.iter().zip(values).filter(|(_, (l, r))| l != r);
         differ
             .map(|(name, (left, right))| format!("{name}: {left}, {right}"))
-            .chain(bytes_words(self.bytes, other.bytes))
+            .chain(first_difference(self.bytes, other.bytes))
             .chain(self.range_of_read(other))
             .collect()
     }
@@ -135,18 +136,9 @@ impl<'a> Answer<'a> {
     }
 }
 
-fn form_by(kind: &str) -> Option<&'static Form> {
-    kind.parse().ok().and_then(form_of)
-}
-
-/// A kind as its number and its words.
-pub(super) fn kind_words(kind: &str) -> String {
-    let words = form_by(kind).map_or("unknown", |form| form.words);
-    format!("{kind} {words}")
-}
-
-/// The first byte that differs; the bytes are counted from 0, as offsets are.
-fn bytes_words(left: &str, right: &str) -> Option<String> {
+/// The first byte of two fifth fields that differs; the bytes are counted from
+/// 0, as offsets are.
+pub(crate) fn first_difference(left: &str, right: &str) -> Option<String> {
     let (left, right) = (left.to_ascii_lowercase(), right.to_ascii_lowercase());
     let byte = |bytes: &str, at: usize| match bytes.get(2 * at..) {
         None | Some("") => "none".to_string(),

@@ -1,30 +1,40 @@
 //! A line of a listing: what it says, and what in it is not in 01's form.
 
 use super::answer::Answer;
-use super::WIDTH;
 use crate::without_mark;
 use crate::words::cut;
 use std::fmt;
 
+/// The columns of a line that are shown.
+const WIDTH: usize = 72;
+
 /// A line of a listing, or that the listing ends before it.
-pub(super) struct Line<'a> {
+pub(crate) struct Line<'a> {
     /// The listing's name.
-    pub(super) file: &'a str,
+    pub(crate) file: &'a str,
     bytes: Option<&'a [u8]>,
 }
 
 /// What in a line is not in 01's form, though its values can be read.
-pub(super) struct Fault {
-    pub(super) found: String,
-    pub(super) rule: &'static str,
+pub(crate) struct Fault {
+    pub(crate) found: String,
+    pub(crate) rule: &'static str,
+}
+
+/// Why a line has no answer.
+pub(crate) enum NoAnswer {
+    /// "A bad length or cut record prints `bad`."
+    Bad,
+    /// It is no line of a listing, and why.
+    NoLine(String),
 }
 
 impl<'a> Line<'a> {
-    pub(super) fn new(file: &'a str, bytes: Option<&'a [u8]>) -> Self {
+    pub(crate) fn new(file: &'a str, bytes: Option<&'a [u8]>) -> Self {
         Line { file, bytes }
     }
 
-    pub(super) fn is_there(&self) -> bool {
+    pub(crate) fn is_there(&self) -> bool {
         self.bytes.is_some()
     }
 
@@ -35,14 +45,14 @@ impl<'a> Line<'a> {
     }
 
     /// The answer, or why there is none; nothing where the listing ends before.
-    fn answer(&self) -> Option<Result<Answer<'a>, String>> {
+    pub(crate) fn answer(&self) -> Option<Result<Answer<'a>, NoAnswer>> {
         match self.text()? {
-            b"bad" => Some(Err("finds a bad length or a cut record here".to_string())),
-            text => Some(Answer::read(text)),
+            b"bad" => Some(Err(NoAnswer::Bad)),
+            text => Some(Answer::read(text).map_err(NoAnswer::NoLine)),
         }
     }
 
-    pub(super) fn has_the_values_of(&self, other: &Line) -> bool {
+    pub(crate) fn has_the_values_of(&self, other: &Line) -> bool {
         if self.text() == other.text() {
             return true;
         }
@@ -53,7 +63,7 @@ impl<'a> Line<'a> {
     }
 
     /// Whether it is a line of a kind, or of a bad record where that is `bad`.
-    pub(super) fn is_of(&self, kind: &str) -> bool {
+    pub(crate) fn is_of(&self, kind: &str) -> bool {
         match self.answer() {
             Some(Ok(answer)) => answer.kind() == kind,
             _ => self.text() == Some(kind.as_bytes()),
@@ -61,17 +71,17 @@ impl<'a> Line<'a> {
     }
 
     /// What differs, field by field, or why the fields cannot be compared.
-    pub(super) fn reasons(&self, other: &Line) -> Vec<String> {
+    pub(crate) fn reasons(&self, other: &Line) -> Vec<String> {
         match (self.answer(), other.answer()) {
             (Some(Ok(left)), Some(Ok(right))) => left.differences(&right),
             (left, right) => [(self.file, left), (other.file, right)]
                 .into_iter()
-                .filter_map(|(file, answer)| Some(format!("{file} {}", answer?.err()?)))
+                .filter_map(|(file, answer)| Some(answer?.err()?.reason(file)))
                 .collect(),
         }
     }
 
-    pub(super) fn faults(&self) -> Vec<Fault> {
+    pub(crate) fn faults(&self) -> Vec<Fault> {
         let Some(bytes) = self.bytes else {
             return vec![];
         };
@@ -87,6 +97,16 @@ impl<'a> Line<'a> {
         }
         faults.extend(end_fault(&bytes[bytes.trim_ascii_end().len()..]));
         faults
+    }
+}
+
+impl NoAnswer {
+    /// What is said of the file that has it in the place of an answer.
+    fn reason(&self, file: &str) -> String {
+        match self {
+            NoAnswer::Bad => format!("{file} finds a bad length or a cut record here"),
+            NoAnswer::NoLine(why) => format!("{file} has no line of a listing here: {why}"),
+        }
     }
 }
 
