@@ -1,9 +1,12 @@
 //! The logs that are measured, and the Rust kernel's side of a run.
 
+mod maker;
 mod modules;
 
 use exos_kernel::{call, decode, Reply, Tables};
+use std::iter;
 
+pub use maker::maker;
 pub use modules::modules;
 
 /// Event records, one after the other.
@@ -158,6 +161,20 @@ pub struct Ran {
     pub answers: [usize; 21],
 }
 
+/// The kind and the body of each record of a log.
+fn events(log: &[u8]) -> impl Iterator<Item = (u16, &[u8])> {
+    let mut rest = log;
+    iter::from_fn(move || {
+        let [l0, l1, k0, k1, later @ ..] = rest else {
+            return None;
+        };
+        let body = usize::from(u16::from_le_bytes([*l0, *l1])) - 2;
+        let (body, later) = later.split_at(body);
+        rest = later;
+        Some((u16::from_le_bytes([*k0, *k1]), body))
+    })
+}
+
 /// Runs a log through the Rust kernel, whose calls test their tables.
 pub fn run(ram: &mut [u8], out: &mut [u8], log: &[u8]) -> Ran {
     let mut tables = Tables::default();
@@ -169,14 +186,9 @@ pub fn run(ram: &mut [u8], out: &mut [u8], log: &[u8]) -> Ran {
         },
         answers: [0; 21],
     };
-    let mut rest = log;
-    while let [l0, l1, k0, k1, later @ ..] = rest {
-        let body = usize::from(u16::from_le_bytes([*l0, *l1])) - 2;
-        let (body, later) = later.split_at(body);
-        let request = decode(u16::from_le_bytes([*k0, *k1]), body);
-        ran.last = call(&mut tables, ram, request, out);
+    for (kind, body) in events(log) {
+        ran.last = call(&mut tables, ram, decode(kind, body), out);
         ran.answers[usize::from(ran.last.number)] += 1;
-        rest = later;
     }
     ran
 }

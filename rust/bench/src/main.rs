@@ -1,6 +1,7 @@
-//! Measures the proved kernel and listing against the Rust ones, in one run, and writes the figures as Markdown and an
-//! SVG.
+//! Measures the proved kernel, listing and audit against the Rust ones, in one run, and writes the figures as Markdown and
+//! an SVG.
 
+mod audits;
 mod clock;
 mod costs;
 mod listings;
@@ -8,6 +9,7 @@ mod measure;
 mod mixed;
 mod moves;
 mod plot;
+mod programs;
 mod proved;
 mod stack;
 
@@ -23,7 +25,7 @@ fn machine(rounds: usize) {
     let name = names().find_map(|line| line.split(": ").nth(1));
     let load = file("/proc/loadavg");
     println!(
-        "Machine: {}, cores: {}. The load of the minute before: {}. Medians of {rounds} runs that take turns; of {} where the log has 200,000 records.\n",
+        "Machine: {}, cores: {}. The load of the minute before: {}. Medians of {rounds} runs that take turns; of {} where the log has 200,000 records or more.\n",
         name.unwrap_or("a processor without a name"),
         names().count(),
         load.split(' ').next().unwrap_or("not known"),
@@ -38,9 +40,10 @@ fn fewer(rounds: usize) -> usize {
 
 fn main() {
     let mut words = std::env::args().skip(1);
-    let usage = "usage: exos-bench PICTURE.svg PROVED-LISTING RUST-LISTING [ROUNDS]";
+    let usage = "usage: exos-bench PICTURE.svg PROVED-LISTING RUST-LISTING PROVED-AUDIT RUST-AUDITOR [ROUNDS]";
     let mut word = || words.next().expect(usage);
-    let (picture, proved, rust) = (word(), word(), word());
+    let picture = word();
+    let (listings, audits) = ([word(), word()], [word(), word()]);
     let rounds = words
         .next()
         .map_or(101, |word| word.parse().expect("a number of rounds"));
@@ -51,6 +54,7 @@ fn main() {
     let curves = costs::curves(rounds);
     curves.iter().for_each(plot::Curve::print);
     stack::print();
-    listings::print(&proved, &rust, 200_000, fewer(rounds));
+    listings::print(&listings, 200_000, fewer(rounds));
+    audits::print(&audits, &listings, 1_000_000, fewer(rounds));
     std::fs::write(picture, plot::picture(&curves)).expect("a picture that can be written");
 }

@@ -18,18 +18,14 @@ fn median(mut times: Vec<f64>) -> f64 {
 }
 
 /// The medians of many runs of each work in turn.
-pub fn medians<const N: usize>(
-    rounds: usize,
-    clock: fn() -> f64,
-    mut works: [&mut dyn FnMut(); N],
-) -> [f64; N] {
-    let mut times = [(); N].map(|()| Vec::new());
+pub fn medians(rounds: usize, clock: fn() -> f64, works: &[Box<dyn Fn() + '_>]) -> Vec<f64> {
+    let mut times = vec![Vec::new(); works.len()];
     for _ in 0..rounds {
-        for (work, times) in works.iter_mut().zip(&mut times) {
+        for (work, times) in works.iter().zip(&mut times) {
             times.push(timed(clock, work));
         }
     }
-    times.map(median)
+    times.into_iter().map(median).collect()
 }
 
 /// Replays a log over RAM and output, and gives the last answer.

@@ -1,6 +1,7 @@
 //! The measured logs ask what their names say.
 
-use exos_bench::{mixed, modules, run, Log};
+use exos_bench::{maker, mixed, modules, run, Log};
+use exos_kernel::{audit, Verdict};
 
 #[test]
 fn the_mixed_log_is_mostly_done() {
@@ -39,4 +40,12 @@ fn every_module_is_loaded_and_used_whole() {
         assert_eq!(ran.answers[0], 5);
         assert_eq!(usize::from(ran.last.b), bytes);
     }
+}
+
+#[test]
+fn a_makers_log_is_accepted() {
+    let events = mixed(20_000, 4);
+    let log = maker(&events);
+    assert_eq!(log.records, 2 * events.records);
+    assert_eq!(audit(&log.bytes[..]).unwrap(), Verdict::Ok);
 }
