@@ -1,30 +1,18 @@
 // The records of a buffer.
-ghost use mathlib.Core.Path.{_≡_};
 ghost use Prim.Native.Nat.{_+_, _≤_, _<_, _^_};
 ghost use lib.ListN.{length};
 ghost use Rattle.listing.specs.Definition.NoneOrGood.{NoneOrGood};
 ghost use Rattle.audit.specs.Definition.Pieces.{stateOf, Stops};
-ghost use Rattle.audit.specs.Definition.Log.{mark, lackingOf};
+ghost use Rattle.audit.specs.Definition.Log.{mark};
 use super::Due;
 use super::Found;
 use super::Judged;
 use super::Stop;
-use super::Word;
+use super::logs::lacking;
 use super::records::record;
 use events::Front;
 use events::records::front;
 use kernel::Tables;
-
-// The word where there is no whole record of a good length.
-pub fn lacking(due: Due) -> Word
-    ensures { λ r. ⌜ r ≡ lackingOf due ⌝ }
-{
-    match due {
-        Due::Start => Word::Start,
-        Due::Event => Word::Cut,
-        Due::Reply(_, _) => Word::Cut,
-    }
-}
 
 // Judges as many whole records as the input has, up to the first at fault.
 pub fn judge(

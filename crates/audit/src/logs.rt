@@ -1,6 +1,7 @@
 // Where the input ends, and a whole log.
 ghost use mathlib.Core.Path.{_≡_};
-ghost use Rattle.audit.specs.Definition.Verdict.{atEnd, verdictOf};
+ghost use Rattle.audit.specs.Definition.Log.{lackingOf};
+ghost use Rattle.audit.specs.Definition.Verdict.{mayEnd, atEnd, verdictOf};
 use super::Due;
 use super::Stop;
 use super::Verdict;
@@ -8,20 +9,36 @@ use super::Word;
 use super::buffers::judge;
 use kernel::Tables;
 
+// The word where there is no whole record of a good length.
+pub fn lacking(due: Due) -> Word
+    ensures { λ r. ⌜ r ≡ lackingOf due ⌝ }
+{
+    match due {
+        Due::Start => Word::Start,
+        Due::Event => Word::Cut,
+        Due::Reply(_, _) => Word::Cut,
+    }
+}
+
+// Whether the log may end here.
+fn may_end(due: Due) -> bool
+    ensures { λ r. ⌜ r ≡ mayEnd due ⌝ }
+{
+    match due {
+        Due::Start => false,
+        Due::Event => true,
+        Due::Reply(_, _) => false,
+    }
+}
+
 // The verdict where the input ends and so many bytes of it are left, less than a record.
 pub fn end(number: usize, due: Due, left: usize) -> Verdict
     ensures { λ r. ⌜ r ≡ atEnd number due left ⌝ }
 {
-    match due {
-        Due::Start => Verdict::Fault(number, Word::Start),
-        Due::Event => {
-            if left == 0 {
-                return Verdict::Accepted;
-            }
-            Verdict::Fault(number, Word::Cut)
-        }
-        Due::Reply(_, _) => Verdict::Fault(number, Word::Cut),
+    if may_end(due) & (left == 0) {
+        return Verdict::Accepted;
     }
+    Verdict::Fault(number, lacking(due))
 }
 
 // The verdict on a whole log.

@@ -27,7 +27,7 @@ fn first(kind: u16, answer: Answer) -> Found
     Found::Right
 }
 
-// One record.
+// What a record is found to be, where this is due, and what it leaves.
 pub fn record(
     t: Tables,
     due: Due,

@@ -9,13 +9,8 @@ use super::Word;
 use events::fields::u16_at;
 use kernel::Answer;
 use listing::lines::shows;
+use listing::records::wider;
 use rows::numbers::wide16;
-
-fn wider(x: u8) -> u16
-    ensures { λ r. ⌜ r ≡ x ⌝ }
-{
-    x as u16
-}
 
 // How many output bytes a reply with these fields has.
 fn printed_by(kind: u16, answer: u8, b: u16) -> usize

@@ -5,7 +5,7 @@ ghost use lib.ListN.{length, take, drop};
 ghost use Rattle.files.specs.declared.Wrote.{Wrote};
 ghost use Rattle.listing.specs.Definition.NoneOrGood.{NoneOrGood};
 ghost use Rattle.audit.specs.Definition.Words.{lineOf};
-ghost use Rattle.exos_audit.specs.Definition.Turns.{Held, courseOf, Fetched, Turned};
+ghost use Rattle.exos_audit.specs.Definition.Turns.{Held, courseOf, isGoing, Fetched, Turned};
 ghost use Rattle.exos_audit.specs.Definition.Ends.{endOf, told, byteFor, byteOf};
 use audit::Due;
 use audit::Stop;
@@ -25,6 +25,9 @@ use libc::STDOUT_FILENO;
 
 // The descriptor on which the end is told, by one byte.
 const TOLD_FILENO: i32 = 3;
+
+// The most turns, 2^47: so few that the number of a record fits 64 bits (docs/DECISIONS.md, 76).
+const TURNS: u64 = 140737488355328;
 
 // How the run goes on: with a turn, or the input is over, or a read failed, or a record is at fault.
 pub enum Course {
@@ -115,7 +118,7 @@ fn turn(s: State, ram: &mut [u8; 65536], out: &mut [u8; 4090], buf: &mut [u8]) -
     }
 }
 
-// A turn on the program's own buffers.
+// A turn on the program's own buffers: that for the input has room for 64 KiB behind the longest record.
 fn whole_turn(s: State, ram: &mut [u8; 65536], out: &mut [u8; 4090], buf: &mut [u8; 69634]) -> State
     requires { ⌜ Held s 69634 × (s .number + 69634 < 2 ^ 64) ⌝ }
     ensures { λ r. ⌜ Turned s (now (ram .entry)) (now (out .entry)) (now (buf .entry)) r (now (ram .exit)) (now (out .exit)) (now (buf .exit)) × Held r 69634 × (r .number ≤ s .number + 69634) ⌝ }
@@ -123,7 +126,10 @@ fn whole_turn(s: State, ram: &mut [u8; 65536], out: &mut [u8; 4090], buf: &mut [
     turn(s, ram, out, buf)
 }
 
-fn is_going(s: State) -> bool {
+// Whether there is a turn to make.
+fn is_going(s: State) -> bool
+    ensures { λ r. ⌜ r ≡ isGoing (s .course) ⌝ }
+{
     let course = s.course;
     match course {
         Course::Going => true,
@@ -198,8 +204,8 @@ fn byte_of(end: End) -> u8
     }
 }
 
-// The turns, one after the other, are a `Run`, whose verdict is that on what is read (`run-verdict` in specs/Laws/Session.antt). Nothing says that
-// the input ends, so the turns are counted: there are more than any input takes, and so few that the number of a record fits 64 bits.
+// Makes turns until one ends the run: such `Turns` have the verdict on what is read (`turns-verdict` in specs/Laws/Session.antt). Nothing says that the
+// input ends, so they are counted.
 fn main() {
     let mut ram = [0u8; 65536];
     let mut out = [0u8; 4090];
@@ -212,7 +218,7 @@ fn main() {
         filled: 0,
         course: Course::Going,
     };
-    let mut turns: u64 = 140737488355328;
+    let mut turns = TURNS;
     while turns > 0 && is_going(s) {
         s = whole_turn(s, &mut ram, &mut out, &mut buf);
         turns -= 1;

@@ -1,4 +1,4 @@
-// Reads and writes on descriptors that tell an end from a failure; a call that a signal interrupts is made again.
+// Reads and writes on descriptors that tell an end from a failure; a call that a signal interrupts is made again. And a buffer whose rest is kept while more is read.
 ghost use mathlib.Core.Path.{_≡_};
 ghost use Prim.Native.Nat.{_+_, _-_, _≤_, _<_};
 ghost use lib.ListN.{length, take, drop};
@@ -119,7 +119,7 @@ pub fn read_on(fd: i32, buf: &mut [u8], start: usize, filled: usize) -> Got
     read_after(fd, buf, left)
 }
 
-// Reads until the input ends, a read fails or the buffer is full, each time after what is read: by `read_after` that stays.
+// Reads until the input ends, a read fails or the buffer is full, each time behind what is there, which stays (`read_after`).
 pub fn read_all(fd: i32, buf: &mut [u8]) -> Filled
     ensures { λ r. ⌜ Fills (length (now (buf .exit))) r ⌝ }
 {

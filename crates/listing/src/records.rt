@@ -21,7 +21,7 @@ fn wide(x: u8) -> usize
     x as usize
 }
 
-fn wider(x: u8) -> u16
+pub fn wider(x: u8) -> u16
     ensures { λ r. ⌜ r ≡ x ⌝ }
 {
     x as u16

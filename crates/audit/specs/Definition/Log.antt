@@ -39,7 +39,7 @@ pub record Accepted (log : List ℕ) : Type 0 where
 abbrev pub Begins : (log : List ℕ) → Type 0
 Begins log = (kind : ℕ) × (n : ℕ) × (frontOf log ≡ Record kind n) × IsStart begins kind (bodyOf log n)
 
--- the word where no whole record of a good length stands: `start` where the start is due, else "`cut` .. for a cut .. missing .. record"
+-- the word where no whole record of a good length stands: `start` where the start is due, else "`cut` .. for a cut, ill-sized, missing .. record"
 abbrev pub lackingOf : Due → Word
 lackingOf Start = StartWord
 lackingOf Event = CutWord

@@ -65,11 +65,15 @@ nextBy (ReplyTo of answer) s kind body = cond (eqb kind 512) (goes (judged of bo
 unfoldable pub next : State → (kind : ℕ) (body : List ℕ) → Next
 next s kind body = nextBy (s .due) s kind body
 
+-- a log may end where an event is due
+abbrev pub mayEnd : Due → Bool
+mayEnd Start = false
+mayEnd Event = true
+mayEnd (ReplyTo of answer) = false
+
 -- where the input ends and so many bytes are left, less than a record
 abbrev pub atEnd : (number : ℕ) → Due → (left : ℕ) → Verdict
-atEnd number Start left = Fault number StartWord
-atEnd number Event left = cond (eqb left 0) Accepted (Fault number CutWord)
-atEnd number (ReplyTo of answer) left = Fault number CutWord
+atEnd number due left = cond (mayEnd due && eqb left 0) Accepted (Fault number (lackingOf due))
 
 -- after a record: `more` for the rest of the log, or a fault
 abbrev pub goesOn : (more : (number : ℕ) → State → List ℕ → Verdict) → (number : ℕ) (rest : List ℕ) → Next → Verdict

@@ -16,6 +16,7 @@ use Rattle.audit.specs.Definition.Records.{State, begins, IsStart, Right
 use Rattle.audit.specs.Definition.Log.{Mark, first, Walks, stay, pass, Begins, lackingOf, bad, whole, AtFault, stands, ends, FirstFault}
 use Rattle.audit.specs.Definition.Verdict.{Next, right, wrong, verdictOf}
 use Rattle.audit.specs.Laws.Records.{right-next, wrong-next}
+use Rattle.audit.specs.Laws.Turns.{frontNumber}
 use Rattle.audit.specs.Laws.Verdicts.{names-exactly}
 
 -- whether the start is due, and whether a word is `start`
@@ -103,18 +104,12 @@ begun log h (Record kind n) e =
 pub without-start : (log : List ℕ) → (Begins log → ⊥) → verdictOf log ≡ Fault 0 StartWord
 without-start log h = names-exactly log 0 StartWord .1 (begun log h (frontOf log) refl)
 
-frontNumber : Front → ℕ
-frontNumber (Record kind n) = 0
-frontNumber Cut = 1
-frontNumber Bad = 2
-
 abbrev isRight : Next → ℕ
 isRight (right s) = 1
 isRight (wrong word) = 0
 
 module _ (log : List ℕ) (kind n : ℕ) (e : frontOf log ≡ Record kind n) (s : IsStart begins kind (bodyOf log n)) where
   no-fault : (m : Mark) (word : Word) → m ≡ first log → AtFault m word → ⊥
-  unfolding frontNumber
   no-fault m word q (stands (bad c)) = omega (arith, ap frontNumber (sym e ∙ sym (ap (λ (x : Mark). frontOf (x .left)) q) ∙ c))
   no-fault m word q (ends c h) = omega (arith, ap frontNumber (sym e ∙ sym (ap (λ (x : Mark). frontOf (x .left)) q) ∙ c))
   no-fault m word q (stands (whole {kind = kind′} {n = n′} c w)) =

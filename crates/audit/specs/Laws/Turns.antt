@@ -1,5 +1,5 @@
 -- The verdict record by record: it is that of the first record, or of what follows it.
-use mathlib.Core.Path.{_≡_, refl, sym, _∙_}
+use mathlib.Core.Path.{_≡_, refl, sym, ap, _∙_}
 use mathlib.Core.List.{List, [], _∷_, _++_}
 use Prim.Native.Nat.{ℕ, zero, suc, _+_, _≤_}
 use native.Mathlib.Omega.{arith}
@@ -11,7 +11,7 @@ use Rattle.events.specs.Laws.Front.{front-none, shorter, bad-stays, record-stay
 use Rattle.audit.specs.declared.Verdict.{Verdict}
 use Rattle.audit.specs.declared.Verdict.the-variants.{Fault}
 use Rattle.audit.specs.declared.Word.{Word}
-use Rattle.audit.specs.Definition.Records.{State}
+use Rattle.audit.specs.Definition.Records.{State, Right}
 use Rattle.audit.specs.Definition.Log.{Mark, lackingOf, Walks, stay, pass, Stands, bad, whole}
 use Rattle.audit.specs.Definition.Verdict.{Next, right, wrong, next, atEnd, goesOn, turn, verdictIn, verdictFrom}
 use Rattle.audit.specs.Laws.Records.{right-next, wrong-next}
@@ -88,3 +88,23 @@ faulted {m} (bad e) ys = verdict-bad (m .number) (m .state) (m .left ++ ys) (bad
 faulted {m} (whole {kind} {n} {word} e w) ys =
     verdict-wrong (m .number) (m .state) (m .left ++ ys) kind n (record-stays (m .left) ys kind n e) word
     (rw (body-stays (m .left) ys kind n e) (wrong-next (m .state) kind (bodyOf (m .left) n) w))
+
+abbrev pub frontNumber : Front → ℕ
+frontNumber (Record kind n) = 0
+frontNumber Cut = 1
+frontNumber Bad = 2
+
+one-right : {s a b : State} {kind : ℕ} {body : List ℕ} → Right s kind body a → Right s kind body b → a ≡ b
+one-right {s} {a} {b} {kind} {body} p q = let e : right a ≡ right b = sym (right-next s kind body p) ∙ right-next s kind body q in cc
+
+-- records that are right lead to one mark where less than a record is left
+pub one-way : {m a b : Mark} → Walks m a → frontOf (a .left) ≡ Cut → Walks m b → frontOf (b .left) ≡ Cut → a ≡ b
+one-way stay e stay f = refl
+one-way stay e (pass g r w) f = absurd (omega (arith, ap frontNumber (sym e ∙ g)))
+one-way (pass g r w) e stay f = absurd (omega (arith, ap frontNumber (sym f ∙ g)))
+one-way (pass {m = m} {kind = i} {n = k} {s = a} g r v) e (pass {kind = j} {n = l} {s = b} h q w) f =
+    let d : Record i k ≡ Record j l = sym g ∙ h in
+    let x : i ≡ j = cc in
+    let y : k ≡ l = cc in
+    let z : a ≡ b = one-right r (rw (← x, ← y) at q) in
+    one-way v e (rw (← y, ← z) at w) f

@@ -1,6 +1,6 @@
 -- The verdict: accepted exactly if every reply is the definition's, and otherwise the first fault, which is one; nothing after it matters.
 use mathlib.Core.Path.{_≡_, refl, sym, ap, _∙_}
-use mathlib.Core.Bool.{Bool, true, false, cond}
+use mathlib.Core.Bool.{Bool, true, false, cond, _&&_, false≢true}
 use mathlib.Core.List.{List, [], _∷_, _++_, append-nil}
 use mathlib.Core.Logic.{_⊎_, inl, inr}
 use Prim.Native.Nat.{ℕ, zero, suc, _+_, _≤_, _<_}
@@ -18,7 +18,7 @@ use Rattle.audit.specs.declared.Verdict.{Verdict}
 use Rattle.audit.specs.declared.Verdict.the-variants.{Accepted as Ok, Fault}
 use Rattle.audit.specs.declared.Word.{Word}
 use Rattle.audit.specs.Definition.Log.{Mark, mark, first, Walks, stay, pass, Accepted, lackingOf, Stands, bad, whole, AtFault, stands, ends, FirstFault}
-use Rattle.audit.specs.Definition.Verdict.{Next, right, wrong, next, atEnd, verdictOf, Means}
+use Rattle.audit.specs.Definition.Verdict.{Next, right, wrong, next, mayEnd, atEnd, verdictOf, Means}
 use Rattle.audit.specs.Laws.Records.{Says, says}
 use Rattle.audit.specs.Laws.Turns.{verdict-cut, verdictAt, walked, faulted}
 
@@ -53,29 +53,23 @@ no-bytes : (xs : List ℕ) → length xs ≡ 0 → xs ≡ []
 no-bytes [] e = refl
 no-bytes (x ∷ xs) e = absurd (omega arith)
 
-abbrev isEvent : Due → ℕ
-isEvent Start = 0
-isEvent Event = 1
-isEvent (ReplyTo kind answer) = 0
+-- what is due where the log may end
+is-event : (d : Due) → mayEnd d ≡ true → d ≡ Event
+is-event Start e = absurd (false≢true e)
+is-event Event e = refl
+is-event (ReplyTo kind answer) e = absurd (false≢true e)
 
--- the verdict where the log ends, by what is due
-no-event : {d : Due} → d ≡ Event → isEvent d ≡ 0 → ⊥
-no-event e z = omega (arith, sym z ∙ ap isEvent e)
-
-ended : (m : Mark) (word : Word) → frontOf (m .left) ≡ Cut → ((m .left ≡ []) × (m .state .due ≡ Event) → ⊥) → lackingOf (m .state .due) ≡ word → AtFault m word
-ended m word c h e = let f : AtFault m (lackingOf (m .state .due)) = ends c h in rw e at f
-
-at-end : (log : List ℕ) (m : Mark) → Walks (first log) m → frontOf (m .left) ≡ Cut → (d : Due) → m .state .due ≡ d → Means log (atEnd (m .number) d (length (m .left)))
-at-end log m w c Start e =
-    record { at = m; walks = w; number-is = refl; fault = ended m (lackingOf Start) c (λ h. no-event (h .1) (ap isEvent e)) (ap lackingOf e) }
-at-end log m w c (ReplyTo kind answer) e =
-    record { at = m; walks = w; number-is = refl; fault = ended m (lackingOf Event) c (λ h. no-event (h .1) (ap isEvent e)) (ap lackingOf e) }
-at-end log m w c Event e = go _ refl
+-- the verdict where the log ends
+at-end : (log : List ℕ) (m : Mark) → Walks (first log) m → frontOf (m .left) ≡ Cut → Means log (atEnd (m .number) (m .state .due) (length (m .left)))
+at-end log m w c = go _ _ refl refl
   where
-    go : (t : Bool) → eqb (length (m .left)) 0 ≡ t → Means log (cond t Ok (Fault (m .number) (lackingOf Event)))
-    go true q = record { end = m; walks = w; over = no-bytes (m .left) (eqb-true _ 0 q); due = e }
-    go false q =
-        record { at = m; walks = w; number-is = refl; fault = ended m (lackingOf Event) c (λ h. eqb-false (length (m .left)) 0 q (ap length (h .0))) (ap lackingOf e) }
+    fault : ((m .left ≡ []) × (m .state .due ≡ Event) → ⊥) → FirstFault (first log) (m .number) (lackingOf (m .state .due))
+    fault h = record { at = m; walks = w; number-is = refl; fault = ends c h }
+
+    go : (p q : Bool) → mayEnd (m .state .due) ≡ p → eqb (length (m .left)) 0 ≡ q → Means log (cond (p && q) Ok (Fault (m .number) (lackingOf (m .state .due))))
+    go false q e f = fault (λ h. false≢true (sym e ∙ ap mayEnd (h .1)))
+    go true false e f = fault (λ h. eqb-false (length (m .left)) 0 f (ap length (h .0)))
+    go true true e f = record { end = m; walks = w; over = no-bytes (m .left) (eqb-true _ 0 f); due = is-event (m .state .due) e }
 
 verdict-first : (log : List ℕ) → verdictOf log ≡ verdictAt (first log) []
 unfolding verdictOf
@@ -90,7 +84,7 @@ verdict-means log =
     let d = stopped (first log) in
     let e = verdict-first log ∙ walked (d .walks) [] in
     elim (d .stop) [
-      | inl c ↦ rw (e ∙ verdict-left (d .at) c) (at-end log (d .at) (d .walks) c (d .at .state .due) refl)
+      | inl c ↦ rw (e ∙ verdict-left (d .at) c) (at-end log (d .at) (d .walks) c)
       | inr (word, w) ↦ rw (e ∙ faulted w []) (record { at = d .at; walks = d .walks; number-is = refl; fault = stands w })
     ]
 

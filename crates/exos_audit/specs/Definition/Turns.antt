@@ -1,5 +1,6 @@
 -- What a turn of the auditing program leaves, for any outcome of its read.
 use mathlib.Core.Path.{_≡_}
+use mathlib.Core.Bool.{Bool, true, false}
 use mathlib.Core.List.{List, [], _∷_, _++_}
 use Prim.Native.Nat.{ℕ, _-_, _≤_}
 use lib.ListN.{length, take, drop}
@@ -41,6 +42,12 @@ courseOf (Bytes n) = Going
 courseOf AtEnd = Over
 courseOf Unread = Broken
 
+abbrev pub isGoing : Course → Bool
+isGoing Going = true
+isGoing Over = false
+isGoing Broken = false
+isGoing (Faulted word) = false
+
 -- after a read: the bytes xs that were in hand stay, in their order, and the piece that came stands behind them
 pub record Fetched (xs : List ℕ) (r : State) (buf : List ℕ) (got : Got) : Type 0 where
   pub piece : List ℕ
@@ -62,16 +69,16 @@ pub record Turned (s : State) (ram output buf : List ℕ) (r : State) (ram′ ou
   pub number-is : r .number ≡ judged .number
   pub follows : Follows (judged .stop) (drop (judged .taken) (inHand s buf)) r buf′
 
--- a run: turns one after the other, each from where the one before led, with the pieces that come, and its verdict. It ends where the input is over, or at a fault, whatever
--- would still come
-pub data Run : State → (ram output buf : List ℕ) → (pieces : List (List ℕ)) → Verdict → Type 0 where
+-- turns one after the other, each from where the one before led, with the pieces that come, and their verdict. They may end where the input is over, and end at a fault,
+-- whatever would still come
+pub data Turns : State → (ram output buf : List ℕ) → (pieces : List (List ℕ)) → Verdict → Type 0 where
   goes-on : {s r : State} {ram output buf ram′ output′ buf′ : List ℕ} {pieces : List (List ℕ)} {v : Verdict} {got : Got}
       → (w : Turned s ram output buf r ram′ output′ buf′) → w .judged .stop ≡ More → (f : Fetched (drop (w .judged .taken) (inHand s buf)) r buf′ got)
-      → Run r ram′ output′ buf′ pieces v → Run s ram output buf (f .piece ∷ pieces) v
+      → Turns r ram′ output′ buf′ pieces v → Turns s ram output buf (f .piece ∷ pieces) v
   is-over : {s r : State} {ram output buf ram′ output′ buf′ : List ℕ} → (w : Turned s ram output buf r ram′ output′ buf′) → w .judged .stop ≡ More → Held r (length buf′)
-      → r .course ≡ Over → Run s ram output buf [] (atEnd (r .number) (r .due) (r .filled - r .from))
+      → r .course ≡ Over → Turns s ram output buf [] (atEnd (r .number) (r .due) (r .filled - r .from))
   is-faulted : {s r : State} {ram output buf ram′ output′ buf′ : List ℕ} {word : Word} {pieces : List (List ℕ)} → (w : Turned s ram output buf r ram′ output′ buf′)
-      → w .judged .stop ≡ Fault word → Run s ram output buf pieces (At (r .number) word)
+      → w .judged .stop ≡ Fault word → Turns s ram output buf pieces (At (r .number) word)
 
 -- where the program begins
 abbrev pub begins : State

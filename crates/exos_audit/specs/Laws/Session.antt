@@ -1,4 +1,4 @@
--- A run of the program is a session of an audit in pieces, and its verdict that on what is read.
+-- The program's turns, one after the other, are a session of an audit in pieces, and their verdict is that on what is read.
 use mathlib.Core.Path.{_≡_, refl, sym, ap, _∙_}
 use mathlib.Core.List.{List, [], _∷_}
 use Prim.Native.Nat.{ℕ, _-_}
@@ -19,7 +19,7 @@ use Rattle.audit.specs.Laws.Reading.{any-pieces}
 use Rattle.exos_audit.specs.declared.Course.{Course}
 use Rattle.exos_audit.specs.declared.Course.the-variants.{Going, Over, Broken, Faulted}
 use Rattle.exos_audit.specs.declared.State.{State}
-use Rattle.exos_audit.specs.Definition.Turns.{Held, inHand, markOf, courseOf, Fetched, Follows, Turned, Run, goes-on, is-over, is-faulted, begins}
+use Rattle.exos_audit.specs.Definition.Turns.{Held, inHand, markOf, courseOf, Fetched, Follows, Turned, Turns, goes-on, is-over, is-faulted, begins}
 
 abbrev isOver : Course → ℕ
 isOver Going = 0
@@ -58,11 +58,11 @@ module _ (s : State) (ram output buf : List ℕ) (r : State) (ram′ output′ b
   fault-session : (word : Word) → w .judged .stop ≡ Fault word → (pieces : List (List ℕ)) → Session (markOf s ram output buf) pieces (At (r .number) word)
   fault-session word e pieces = rw (w .number-is) (failed (rw e at (w .stops)))
 
-run-session : {s : State} {ram output buf : List ℕ} {pieces : List (List ℕ)} {v : Verdict} → Run s ram output buf pieces v → Session (markOf s ram output buf) pieces v
-run-session (goes-on {pieces = pieces} {v = v} w e f x) = turn-session _ _ _ _ _ _ _ _ w e f pieces v (run-session x)
-run-session (is-over w e h c) = over-session _ _ _ _ _ _ _ _ w e c h
-run-session (is-faulted {word = word} {pieces = pieces} w e) = fault-session _ _ _ _ _ _ _ _ w word e pieces
+turns-session : {s : State} {ram output buf : List ℕ} {pieces : List (List ℕ)} {v : Verdict} → Turns s ram output buf pieces v → Session (markOf s ram output buf) pieces v
+turns-session (goes-on {pieces = pieces} {v = v} w e f x) = turn-session _ _ _ _ _ _ _ _ w e f pieces v (turns-session x)
+turns-session (is-over w e h c) = over-session _ _ _ _ _ _ _ _ w e c h
+turns-session (is-faulted {word = word} {pieces = pieces} w e) = fault-session _ _ _ _ _ _ _ _ w word e pieces
 
--- a run from where the program begins has the verdict on what is read, whatever stands in its buffer before
-pub run-verdict : (buf : List ℕ) (pieces : List (List ℕ)) (v : Verdict) → Run begins (replicate 65536 0) (replicate 4090 0) buf pieces v → v ≡ verdictOf (joined pieces)
-run-verdict buf pieces v x = any-pieces pieces v (run-session x)
+-- from where the program begins turns have the verdict on what is read, whatever stands in its buffer before
+pub turns-verdict : (buf : List ℕ) (pieces : List (List ℕ)) (v : Verdict) → Turns begins (replicate 65536 0) (replicate 4090 0) buf pieces v → v ≡ verdictOf (joined pieces)
+turns-verdict buf pieces v x = any-pieces pieces v (turns-session x)
