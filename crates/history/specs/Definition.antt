@@ -1,5 +1,6 @@
 -- The words of condition 3, and what is said of the definition.
 pub mod Runs
+pub mod NoMark
 pub mod Loads
 pub mod Writes
 pub mod Users

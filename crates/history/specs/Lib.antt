@@ -3,5 +3,6 @@ pub mod Definition
 pub mod Bytes
 pub mod Room
 pub mod Answers
+pub mod NoMark
 pub mod Reachable
 mod Example

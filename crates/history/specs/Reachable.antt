@@ -1,17 +1,23 @@
 -- Every state that a sequence of calls since an accepted start reaches: its tables are good and its RAM has their size, so that no call of the sequence is
 -- answered TABLES. What is proved of good tables is proved of it.
+use mathlib.Core.Path.{_≡_}
+use mathlib.Core.Bool.{true}
 use mathlib.Core.List.{List}
 use Prim.Native.Nat.{ℕ}
 use lib.ListN.{length}
-use Rattle.kernel.specs.Definition.Calls.{«open», link}
+use Rattle.kernel.specs.Definition.Answers.{granted}
+use Rattle.kernel.specs.Definition.Calls.{«open», close, link}
 use Rattle.kernel.specs.Definition.Step.{completed, step}
 use Rattle.kernel.specs.Laws.Ready.{never-tables}
-use Rattle.history.specs.Definition.Runs.{State, History, event, Started, Runs, stay, then, Run}
+use Rattle.history.specs.Definition.Runs.{State, History, after, event, Started, Runs, stay, then, Run}
+use Rattle.history.specs.Definition.NoMark.{InRecord, NoMark, Asked, afterAll, AlikeBut}
 use Rattle.history.specs.Definition.Reachable.{GoodState, NeverTables}
 use Rattle.history.specs.Bytes.BytesRead.{run-holds}
 use Rattle.history.specs.Definition.Layout.{Layout}
 use Rattle.history.specs.Definition.Places.{offered, Outside}
 use Rattle.history.specs.Definition.Room.{Fewest, Passes, OnlyRoom, recordsAnd, LinkFits}
+use Rattle.history.specs.NoMark.Again.{leaves-no-mark}
+use Rattle.history.specs.NoMark.Later.{leaves-no-mark-later}
 use Rattle.history.specs.Room.Fewest.{fewest}
 use Rattle.history.specs.Room.RoomExactly.{open-exactly, link-exactly}
 
@@ -46,3 +52,15 @@ module _ {h : History} {s : State} (r : Run h s) (output : List ℕ) where
       → OnlyRoom (event s (link m name) output .answer) (LinkFits (s .tables) m)
   unfolding step completed
   reachable-link m name p = link-exactly (s .tables) (length (s .ram)) (length output) m name (reachable r .0 .good .sized) p
+
+-- Open and close again leaves no mark, nor does it for any calls that follow.
+module _ {h : History} {s : State} (r : Run h s) (channel driver n : ℕ) (name output lent : List ℕ)
+    (done : granted (event s («open» channel driver n name) output .answer) ≡ true) where
+  abbrev opened : State
+  opened = after s («open» channel driver n name) output
+
+  pub reachable-no-mark : NoMark s opened channel n lent
+  reachable-no-mark = let g = reachable r .0 in leaves-no-mark s (g .good) (g .size) channel driver n name output lent done
+
+  pub reachable-no-mark-later : (rest : List Asked) → AlikeBut (InRecord (opened .tables) channel) (afterAll s rest) (afterAll (after opened (close channel) lent) rest)
+  reachable-no-mark-later = let g = reachable r .0 in leaves-no-mark-later s (g .good) (g .size) channel driver n name output lent done

@@ -1,0 +1,82 @@
+-- "Open and close again. Customers hear from us that this leaves no mark." (Order 13.)
+use mathlib.Core.Path.{_≡_}
+use mathlib.Core.Bool.{true}
+use mathlib.Core.List.{List, [], _∷_}
+use Prim.Native.Nat.{ℕ, _+_, _<_}
+use lib.ListN.{length, getD}
+use Rattle.line.specs.Definition.Line.{placeOf}
+use Rattle.kernel.specs.Definition.Tables.{ramSize, rowOf, channelAt}
+use Rattle.kernel.specs.Definition.Line.{recordAt, totalOf, sizeAt}
+use Rattle.kernel.specs.Definition.Bytes.{segmentAt}
+use Rattle.kernel.specs.Definition.Good.{Good}
+use Rattle.kernel.specs.Definition.Answers.{granted}
+use Rattle.kernel.specs.Definition.Calls.{Call, «open», close, load}
+use Rattle.kernel.specs.declared.Tables.{Tables}
+use Rattle.kernel.specs.declared.Answer.the-variants.{Done}
+use Rattle.history.specs.Definition.Runs.{State, after, event}
+
+-- "that record's positions": index i of the RAM is the place of one of the L = 16 + n positions of the channel's record
+pub record InRecord (t : Tables) (channel i : ℕ) : Type 0 where
+  pub k : ℕ
+  pub within : k < 16 + sizeAt t (channelAt t channel)
+  pub place : i ≡ placeOf (t .chain) (t .room) (recordAt t (channelAt t channel) + k)
+
+-- s is the state before the open, `opened` the one that it left; the close is lent `output`
+pub record NoMark (s opened : State) (channel n : ℕ) (output : List ℕ) : Type 0 where
+  -- the close is done, and leaves the output as it was
+  pub done : event opened (close channel) output ≡ record { call = close channel; answer = Done 0 0; output = output }
+  -- it "gives back the same tables"
+  pub tables : after opened (close channel) output .tables ≡ s .tables
+  -- "and every RAM byte outside that record's positions"
+  pub size : length (after opened (close channel) output .ram) ≡ length (s .ram)
+  pub kept : (i : ℕ) → ¬ InRecord (opened .tables) channel i → getD (after opened (close channel) output .ram) i 0 ≡ getD (s .ram) i 0
+  -- "those are zero"
+  pub zero : (i : ℕ) → InRecord (opened .tables) channel i → getD (after opened (close channel) output .ram) i 0 ≡ 0
+  -- Which they are: 16 + n positions, from T before the open on; each lies in the RAM, and none where a position of the line before lies
+  pub first : recordAt (opened .tables) (channelAt (opened .tables) channel) ≡ totalOf (s .tables)
+  pub asked : sizeAt (opened .tables) (channelAt (opened .tables) channel) ≡ n
+  pub inside : (i : ℕ) → InRecord (opened .tables) channel i → i < length (s .ram)
+  pub apart : (i : ℕ) → InRecord (opened .tables) channel i → (p : ℕ) → p < totalOf (s .tables) → ¬ (i ≡ placeOf (s .tables .chain) (s .tables .room) p)
+
+-- "for good tables, a done open followed at once by that channel's close": for any name, driver and output lent to either call
+abbrev pub LeavesNoMark : Type 0
+LeavesNoMark =
+    (s : State) → Good (s .tables) → length (s .ram) ≡ ramSize (s .tables) → (channel driver n : ℕ) (name output lent : List ℕ)
+    → granted (event s («open» channel driver n name) output .answer) ≡ true → NoMark s (after s («open» channel driver n name) output) channel n lent
+
+-- What follows: calls made one after another, each with the output that is lent to it, and the state that they leave.
+pub record Asked : Type 0 where
+  pub call : Call
+  pub output : List ℕ
+
+abbrev pub afterAll : State → List Asked → State
+afterAll s [] = s
+afterAll s (a ∷ rest) = afterAll (after s (a .call) (a .output)) rest
+
+-- byte j of the output is one that a done load takes from a place of P
+pub record LoadsFrom (P : ℕ → Type 0) (s : State) (c : Call) (output : List ℕ) (j : ℕ) : Type 0 where
+  pub segment : ℕ
+  pub offset : ℕ
+  pub size : ℕ
+  pub call : c ≡ load segment offset size
+  pub done : granted (event s c output .answer) ≡ true
+  pub within : j < size
+  pub from : P (segmentAt (rowOf (s .tables) segment) + offset + j)
+
+-- two states that none can tell apart but by a load from the places P: the tables are the same, and every byte outside P; so is the answer to any call, and
+-- every byte of its output that is not loaded from there
+pub record AlikeBut (P : ℕ → Type 0) (s u : State) : Type 0 where
+  pub tables : u .tables ≡ s .tables
+  pub size : length (u .ram) ≡ length (s .ram)
+  pub kept : (i : ℕ) → ¬ P i → getD (u .ram) i 0 ≡ getD (s .ram) i 0
+  pub answer : (c : Call) (output : List ℕ) → event u c output .answer ≡ event s c output .answer
+  pub lengths : (c : Call) (output : List ℕ) → length (event u c output .output) ≡ length (event s c output .output)
+  pub bytes : (c : Call) (output : List ℕ) (j : ℕ) → ¬ LoadsFrom P s c output j → getD (event u c output .output) j 0 ≡ getD (event s c output .output) j 0
+
+-- Whatever calls follow, a start among them or not: they find what they would have found without the two, but for loads from places where the record lay
+abbrev pub LeavesNoMarkLater : Type 0
+LeavesNoMarkLater =
+    (s : State) → Good (s .tables) → length (s .ram) ≡ ramSize (s .tables) → (channel driver n : ℕ) (name output lent : List ℕ)
+    → granted (event s («open» channel driver n name) output .answer) ≡ true → (rest : List Asked)
+    → let opened = after s («open» channel driver n name) output in
+    AlikeBut (InRecord (opened .tables) channel) (afterAll s rest) (afterAll (after opened (close channel) lent) rest)

@@ -1,0 +1,6 @@
+-- Open and close again leaves no mark (order 13): in the tables, in the RAM, and for what follows.
+mod Tables
+pub mod Again
+mod Alike
+mod Lines
+pub mod Later
