@@ -2,7 +2,7 @@
 use mathlib.Core.Path.{_≡_, refl, sym, ap, subst, _∙_}
 use mathlib.Core.Bool.{Bool, true, false, _&&_}
 use mathlib.Core.List.{List, [], _∷_}
-use Prim.Native.Nat.{ℕ, _-_, _<_}
+use Prim.Native.Nat.{ℕ, zero, suc, _-_, _<_}
 use native.Mathlib.Omega.{arith}
 use borrow.Author.Needs.{needs}
 use borrow.Author.Tests.{ltb-true, eqb-true}
@@ -31,6 +31,7 @@ use Rattle.kernel.specs.Laws.Ready.{Ready, decided-ready, start-ready}
 use Rattle.kernel.specs.declared.Tables.{Tables}
 use Rattle.kernel.specs.declared.Answer.the-variants.{NoRoom}
 use Rattle.history.specs.Definition.Runs.{State, Event, History, after, event, Started, Runs, stay, then, Any, Run, ReadRight}
+use Rattle.history.specs.Definition.NoMark.{NoMark}
 use Rattle.history.specs.Bytes.Patched.{patched}
 use Rattle.history.specs.Bytes.Words.{written, lastWritten, last-written, written-one, stored, lastStored, last-stored, stored-one, resized, lastSize, last-size, size-one}
 use Rattle.history.specs.Definition.Users.{shared, UsersIn, userByte}
@@ -43,7 +44,7 @@ use Rattle.history.specs.Definition.Layout.{Layout}
 use Rattle.history.specs.Definition.Places.{countIn, inSystem, offered, Outside}
 use Rattle.history.specs.Definition.Room.{Passes, recordsAnd}
 use Rattle.history.specs.Answers.Proved.{refuses-lowest}
-use Rattle.history.specs.Reachable.{reachable, reachable-fewest, reachable-open}
+use Rattle.history.specs.Reachable.{reachable, reachable-fewest, reachable-open, reachable-no-mark}
 
 -- ---- a sequence of calls, each lent four segments of RAM and three bytes of output
 
@@ -181,6 +182,14 @@ calls =
 abbrev more : List Call
 more = store 255 5 (9 ∷ []) ∷ load-module 255 1 6 (0x82 ∷ 0x46 ∷ 0x98 ∷ []) ∷ opens 3 9938 ∷ close 2 ∷ []
 
+-- thirty-one channels
+abbrev opened : ℕ → List Call
+opened zero = []
+opened (suc k) = opens k 0 ∷ opened k
+
+abbrev thirty-one : List Call
+thirty-one = opened 31
+
 abbrev t₀ : Tables
 t₀ = answered noTables begin .tables
 
@@ -192,6 +201,10 @@ fit = search needs
 
 fit-more : NoStarts more
 fit-more = search needs
+
+fit-opened : (k : ℕ) → NoStarts (opened k)
+fit-opened zero = tt
+fit-opened (suc k) = (refl, fit-opened k)
 
 -- 17 is SHARED
 pub answers : numbers t₀ calls ≡ 0 ∷ 0 ∷ 0 ∷ 0 ∷ 0 ∷ 0 ∷ 0 ∷ 17 ∷ 0 ∷ []
@@ -321,3 +334,36 @@ module _ (ram : List ℕ) (four : length ram ≡ 65536) where
       ap (λ (n : ℕ). getD (partOn (s₁ .tables) (s₁ .ram) 2) (n - 1 - 1) 0) (sym four-bytes)
       ∙ written-one 2 1 (lent-written sequence 2 60106 lent-on 1 (subst (λ (n : ℕ). 1 < n) (sym four-bytes) (omega arith))) (last-written 2 1 _)
       ∙ last 1
+
+  -- Open and close again: from the start, where the chain grows by both free segments, and of n = 0; with 31 channels open; and in s₁, where 255 is shared and
+  -- the record fills the room above the user boundary
+  fresh : Run [] s₀
+  fresh = record { first = s₀; started = starts; runs = stay tt }
+
+  full : Run (tells [] s₀ thirty-one) (leads s₀ thirty-one)
+  full = record { first = s₀; started = starts; runs = runs [] s₀ thirty-one (fit-opened 31) (anything s₀ thirty-one) (stay tt) }
+
+  again : {h : History} {s : State} {t : Tables} → Run h s → Known s t → (n : ℕ) → granted (answered t (opens 99 n) .answer) ≡ true
+      → NoMark s (after s (opens 99 n) lent) 99 n lent
+  again r k n e = reachable-no-mark r 99 0 n _ lent lent (ap granted (known-answer k (opens 99 n)) ∙ e)
+
+  pub again-grown : NoMark s₀ (after s₀ (opens 99 43826) lent) 99 43826 lent
+  unfolding decided noTables lettersTest upTo chainLength boundaryAt grown shrunk
+  again-grown = again fresh k₀ 43826 refl
+
+  pub again-empty : NoMark s₀ (after s₀ (opens 99 0) lent) 99 0 lent
+  unfolding decided noTables lettersTest upTo chainLength boundaryAt grown shrunk
+  again-empty = again fresh k₀ 0 refl
+
+  pub again-full : NoMark (leads s₀ thirty-one) (after (leads s₀ thirty-one) (opens 99 5) lent) 99 5 lent
+  unfolding decided noTables lettersTest upTo chainLength boundaryAt grown shrunk
+  again-full = again full (known-all k₀ thirty-one (fit-opened 31)) 5 refl
+
+  pub again-shared : NoMark s₁ (after s₁ (opens 99 9938) lent) 99 9938 lent
+  unfolding decided noTables lettersTest upTo chainLength boundaryAt grown shrunk
+  again-shared = again sequence k₁ 9938 refl
+
+  -- its first position is the 21st of the line: the place before that of channel 2's last byte
+  pub place-zero : getD (after (after s₁ (opens 99 9938) lent) (close 99) lent .ram) 60105 0 ≡ 0
+  unfolding placeOf chainIndexOf offsetOf decided noTables lettersTest upTo chainLength boundaryAt grown shrunk
+  place-zero = again-shared .zero 60105 (rw (known-next k₁ (opens 99 9938) refl .tables) (record { k = 0; within = omega arith; place = refl }))
