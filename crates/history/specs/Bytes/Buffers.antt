@@ -17,7 +17,7 @@ use Rattle.rows.specs.Definition.Channels.{zeroChannel, sumOf}
 use Rattle.rows.specs.Laws.ChannelRows.{from, from-low, from-high, sum-without}
 use Rattle.rows.specs.declared.Channel.{Channel}
 use Rattle.line.specs.Within.Chains.{Chain}
-use Rattle.line.specs.Definition.Line.{chainIndexOf, placeOf, putLine, afterLink}
+use Rattle.line.specs.Definition.Line.{placeOf, putLine, afterLink}
 use Rattle.line.specs.Definition.Ram.{putAt}
 use Rattle.line.specs.Laws.Walks.{put-elsewhere}
 use Rattle.line.specs.Laws.Places.{place-apart}
@@ -32,6 +32,7 @@ use Rattle.kernel.specs.Definition.Line.{totalOf, recordAt, sizeAt, bufferAt}
 use Rattle.kernel.specs.Definition.Segments.{freeing, mayReach, reachOf}
 use Rattle.kernel.specs.Definition.Reset.{bit4, bit5, bit6, emptying, restoring, releasing, resetting}
 use Rattle.kernel.specs.Definition.Bytes.{ramOpened, ramClosed, ramReset, segmentAt}
+use Rattle.kernel.specs.Definition.Good.{Good}
 use Rattle.kernel.specs.Laws.Chains.{good-chain, chain-shift}
 use Rattle.kernel.specs.Laws.Changes.{Opened, opens-row, opens-old, opens-total, Closed, closes-row, Linked}
 use Rattle.kernel.specs.Laws.Facts.{room-small}
@@ -42,7 +43,7 @@ use Rattle.kernel.specs.declared.Tables.{Tables}
 use Rattle.history.specs.Answers.Found.{open-at}
 use Rattle.history.specs.Bytes.Patched.{patched, patched-not, patched-by, put-at-is}
 use Rattle.history.specs.Bytes.Steps.{store-fits, byte-ready}
-use Rattle.history.specs.Bytes.Places.{place-same, index-short, reach-users, off-line}
+use Rattle.history.specs.Bytes.Places.{grown-place, closed-place, reach-users, off-line}
 
 -- the number of the channel in row i, and byte k of its buffer where it lies
 abbrev pub channelIn : Tables → ℕ → ℕ
@@ -65,6 +66,21 @@ take-less xs i j h l =
     take-append-le i (take j xs ++ drop (suc j) xs) (zeroChannel ∷ []) (omega arith)
     ∙ take-append-le i (take j xs) (drop (suc j) xs) (omega arith)
     ∙ take-take i j xs h
+
+-- an open leaves the records before where they start, and the chain holds one more behind them
+pub opens-starts : {t u : Tables} {c : Channel} → Opened t u c → (i : ℕ) → i ≤ t .opened → recordAt u i ≡ recordAt t i
+opens-starts {t} {c = c} o i h = rw (o .channels) (ap sumOf (take-set-le i (t .channels) (t .opened) c h))
+
+pub opens-chain : {t u : Tables} {c : Channel} {size : ℕ} → Ready t size → Opened t u c → t .opened < 32 → Ready u size
+    → Chain (u .chain) (t .room) (totalOf t + 16 + c .n) size
+opens-chain {u = u} {size = size} r o few s = rw (opens-total (r .good) o few, o .room) at (good-chain u size (s .good) (s .size))
+
+-- a close brings up those behind the one that goes
+pub closes-starts : {t u : Tables} {j : ℕ} → Good t → Closed t u j → (i : ℕ) → j ≤ i → i < t .opened → recordAt u i + (16 + sizeAt t j) ≡ recordAt t (suc i)
+closes-starts {t} {j = j} g o i h k =
+    let n = g .sized .channels in
+    let most = g .channels .most in
+    rw (o .channels) (sum-without zeroChannel zeroChannel j (t .channels) i (omega arith) (omega arith))
 
 -- ---- one law a call
 
@@ -101,9 +117,6 @@ module _ (t : Tables) (ram : List ℕ) (r : Ready t (length ram)) (f : ℕ → �
 
   inside : (i k : ℕ) → i < t .opened → k < sizeAt t i → bufferAt t i + k < totalOf t
   inside i k h l = omega (arith, record-within t i (r .good) h)
-
-  link-held : (p : ℕ) → p < totalOf t → chainIndexOf (t .room) p < t .held
-  link-held p h = rw (r .good .line) (index-short (t .room) (totalOf t) p h)
 
   -- two rows have two numbers
   one-row : (i j : ℕ) → i < t .opened → j < t .opened → channelIn t i ≡ channelIn t j → i ≡ j
@@ -159,11 +172,8 @@ module _ (t : Tables) (ram : List ℕ) (r : Ready t (length ram)) (f : ℕ → �
     new-row : getD (u .channels) (t .opened) zeroChannel ≡ c
     new-row = opens-row (r .good) o few
 
-    starts-same : (i : ℕ) → i ≤ t .opened → recordAt u i ≡ recordAt t i
-    starts-same i h = rw (o .channels) (ap sumOf (take-set-le i (t .channels) (t .opened) c h))
-
     open-chain : Chain (u .chain) (t .room) (totalOf t + 16 + c .n) (length ram)
-    open-chain = rw (opens-total (r .good) o few, o .room) at (good-chain u (length ram) (s .good) (s .size))
+    open-chain = opens-chain r o few s
 
     pub open-law : Holds (λ d k. cond (eqb (c .number) d) 0 (f d k)) u (ramOpened t u ram c)
     open-law i a k b =
@@ -174,7 +184,7 @@ module _ (t : Tables) (ram : List ℕ) (r : Ready t (length ram)) (f : ℕ → �
               let size : k < sizeAt t i = rw (sizeAt, opens-old o i h) at b in
               let within : p < totalOf t = inside i k h size in
               let number : channelIn u i ≡ channelIn t i = ap (λ (x : Channel). x .number) (opens-old o i h) in
-              let buffer : bufferAt u i ≡ bufferAt t i = ap (λ (x : ℕ). x + 16) (starts-same i (omega arith)) in
+              let buffer : bufferAt u i ≡ bufferAt t i = ap (λ (x : ℕ). x + 16) (opens-starts o i (omega arith)) in
               let apart : c .number ≡ channelIn t i → ⊥ = λ e.
               s .good .channels .differ i (t .opened) h (omega (arith, o .opened)) (number ∙ sym e ∙ sym (ap (λ (x : Channel). x .number) new-row)) in
               rw (number, ne-eqb (c .number) (channelIn t i) apart, buffer, o .room)
@@ -183,12 +193,12 @@ module _ (t : Tables) (ram : List ℕ) (r : Ready t (length ram)) (f : ℕ → �
               let q : p ≡ totalOf t + m =
               place-apart (u .chain) (t .room) (totalOf t + 16 + c .n) (length ram) open-chain p (totalOf t + m) (omega arith) (omega arith) e in
               omega arith)
-              ∙ ap (λ (x : ℕ). getD ram x 0) (place-same (u .chain) (t .chain) (t .room) p (o .chain (chainIndexOf (t .room) p) (link-held p within)))
+              ∙ ap (λ (x : ℕ). getD ram x 0) (grown-place t u (r .good) (o .chain) p within)
               ∙ holds i h k size)
           | no h ↦
               let q : i ≡ t .opened = omega (arith, o .opened) in
               let number : c .number ≡ channelIn u (t .opened) = sym (ap (λ (x : Channel). x .number) new-row) in
-              let buffer : bufferAt u (t .opened) ≡ totalOf t + 16 = ap (λ (x : ℕ). x + 16) (starts-same (t .opened) (omega arith)) in
+              let buffer : bufferAt u (t .opened) ≡ totalOf t + 16 = ap (λ (x : ℕ). x + 16) (opens-starts o (t .opened) (omega arith)) in
               rw (q, eq-eqb (c .number) (channelIn u (t .opened)) number, buffer, o .room)
               (points .zeroed k (rw (sizeAt, q, new-row) at b))
         ]
@@ -206,9 +216,7 @@ module _ (t : Tables) (ram : List ℕ) (r : Ready t (length ram)) (f : ℕ → �
         let points = closed-points (t .chain) (t .room) ram (recordAt t j) gap (totalOf t) chained (record-within t j (r .good) have) in
         let p = bufferAt u i + k in
         let within : p < totalOf u = omega (arith, record-within u i (s .good) a) in
-        let link : chainIndexOf (u .room) p < u .held = rw (s .good .line) (index-short (u .room) (totalOf u) p within) in
-        let place : placeOf (u .chain) (u .room) p ≡ placeOf (t .chain) (t .room) p =
-        place-same (u .chain) (t .chain) (u .room) p (o .chain (chainIndexOf (u .room) p) link) ∙ ap (λ (x : ℕ). placeOf (t .chain) x p) (o .room) in
+        let place = closed-place t u j o (s .good) p within in
         elim (decLt i j) [
           | yes h ↦
               let same : getD (u .channels) i zeroChannel ≡ getD cs i zeroChannel = row ∙ ap (λ (x : ℕ). getD cs x zeroChannel) (from-low j i h) in
@@ -228,7 +236,7 @@ module _ (t : Tables) (ram : List ℕ) (r : Ready t (length ram)) (f : ℕ → �
               let same : getD (u .channels) i zeroChannel ≡ getD cs (suc i) zeroChannel = row ∙ ap (λ (x : ℕ). getD cs x zeroChannel) (from-high j i (omega arith)) in
               let number : channelIn u i ≡ channelIn t (suc i) = ap (λ (x : Channel). x .number) same in
               let size : sizeAt u i ≡ sizeAt t (suc i) = ap (λ (x : Channel). x .n) same in
-              let begin : recordAt u i + gap ≡ recordAt t (suc i) = rw (o .channels) (sum-without zeroChannel zeroChannel j cs i (omega arith) (omega arith)) in
+              let begin : recordAt u i + gap ≡ recordAt t (suc i) = closes-starts (r .good) o i (omega arith) (omega arith) in
               let later : recordAt t j + gap ≤ recordAt t (suc i) = record-before t j (suc i) (r .good) (omega arith) (omega arith) in
               let buffer : bufferAt u i + k + gap ≡ bufferAt t (suc i) + k = omega arith in
               let end : bufferAt t (suc i) + k < totalOf t = inside (suc i) k (omega arith) (omega arith) in
@@ -252,7 +260,7 @@ module _ (t : Tables) (ram : List ℕ) (r : Ready t (length ram)) (f : ℕ → �
       chain-shift (u .chain) (t .room) m (totalOf t) (length ram) le (room-small t (r .good)) (rw (total, o .room) at (good-chain u (length ram) (s .good) (s .size))) in
       rw (number, buffer, o .room)
       (linked-points (u .chain) (t .room) m ram (totalOf t) chain le .moved p within
-      ∙ ap (λ (x : ℕ). getD ram x 0) (place-same (u .chain) (t .chain) (t .room) p (o .chain (chainIndexOf (t .room) p) (link-held p within)))
+      ∙ ap (λ (x : ℕ). getD ram x 0) (grown-place t u (r .good) (o .chain) p within)
       ∙ holds i few k (omega arith))
 
   -- a store touches no buffer

@@ -1,5 +1,5 @@
 -- The line's places: no place of the line is the user's.
-use mathlib.Core.Path.{_≡_, sym, _∙_}
+use mathlib.Core.Path.{_≡_, sym, ap, _∙_}
 use mathlib.Core.Bool.{true, _||_, false≢true}
 use mathlib.Core.List.{List}
 use Prim.Native.Nat.{ℕ, _+_, _-_, _*_, _≤_, _<_}
@@ -19,24 +19,38 @@ use Rattle.kernel.specs.Definition.Line.{totalOf}
 use Rattle.kernel.specs.Definition.Segments.{mayReach, reachOf}
 use Rattle.kernel.specs.Definition.Good.{Good}
 use Rattle.kernel.specs.Definition.Bytes.{segmentAt}
+use Rattle.kernel.specs.Laws.Changes.{Closed}
 use Rattle.kernel.specs.Laws.Facts.{chain-exactly, chain-once, room-small, user-small}
 use Rattle.kernel.specs.declared.Tables.{Tables}
 use Rattle.history.specs.Definition.Users.{Users, page-zero, own, shared}
 
 -- a position lies at the same place of two chains that hold its segment alike
-pub place-same : (chain other : List ℕ) (room p : ℕ) → at chain (chainIndexOf room p) ≡ at other (chainIndexOf room p) → placeOf chain room p ≡ placeOf other room p
+place-same : (chain other : List ℕ) (room p : ℕ) → at chain (chainIndexOf room p) ≡ at other (chainIndexOf room p) → placeOf chain room p ≡ placeOf other room p
 unfolding placeOf
 place-same chain other room p e = rw e
 
--- a line's position is in one of the segments that the line takes
-pub index-short : (room total p : ℕ) → p < total → chainIndexOf room p < chainLength room total
+-- a line's position is in one of the segments that the line takes, and so in one that is held
+index-short : (room total p : ℕ) → p < total → chainIndexOf room p < chainLength room total
 index-short room total p h =
     elim (decLt p room) [
       | yes l ↦ omega (arith, index-low room p l, length-some room total)
       | no l ↦ let g : room ≤ p = omega arith in omega (arith, index-high room p g, length-high room total (omega arith))
     ]
 
--- and in the last of them no lower than the EXOS boundary
+index-held : (t : Tables) → Good t → (p : ℕ) → p < totalOf t → chainIndexOf (t .room) p < t .held
+index-held t g p h = rw (g .line) (index-short (t .room) (totalOf t) p h)
+
+-- a chain that grew has the line where it was
+pub grown-place : (t u : Tables) → Good t → ((i : ℕ) → i < t .held → at (u .chain) i ≡ at (t .chain) i) → (p : ℕ) → p < totalOf t
+    → placeOf (u .chain) (t .room) p ≡ placeOf (t .chain) (t .room) p
+grown-place t u g same p h = place-same (u .chain) (t .chain) (t .room) p (same (chainIndexOf (t .room) p) (index-held t g p h))
+
+-- and so has one that a close left of it
+pub closed-place : (t u : Tables) (j : ℕ) → Closed t u j → Good u → (p : ℕ) → p < totalOf u → placeOf (u .chain) (u .room) p ≡ placeOf (t .chain) (t .room) p
+closed-place t u j o g p h =
+    place-same (u .chain) (t .chain) (u .room) p (o .chain (chainIndexOf (u .room) p) (index-held u g p h)) ∙ ap (λ (x : ℕ). placeOf (t .chain) x p) (o .room)
+
+-- a position is, in the last of the line's segments, no lower than the EXOS boundary
 edge-under : (room total p : ℕ) → p < total → chainIndexOf room p + 1 ≡ chainLength room total → boundaryAt room total ≤ offsetOf room p
 edge-under room total p h e =
     elim (decLt p room) [
@@ -96,7 +110,7 @@ module _ (t : Tables) (g : Good t) where
       let so = users-small row offset u in
       let sp = offset-lt (t .room) p (room-small t g) in
       let same : at (t .chain) (chainIndexOf (t .room) p) ≡ row = omega arith in
-      let l : chainIndexOf (t .room) p < t .held = rw (g .line) (index-short (t .room) (totalOf t) p h) in
+      let l = index-held t g p h in
       let last = users-last row offset (chainIndexOf (t .room) p) u l same in
       omega (arith, edge-under (t .room) (totalOf t) p h (last .0 ∙ g .line), last .1, g .user .most)
 

@@ -6,11 +6,9 @@ use Prim.Native.Nat.{ℕ, _+_, _-_, _<_}
 use native.Mathlib.Omega.{arith}
 use borrow.Author.Tests.{lt-leb}
 use lib.ListN.{length, getD}
-use lib.Seq.{take-set-le}
-use Rattle.rows.specs.Definition.Channels.{sumOf}
 use Rattle.rows.specs.declared.Channel.{Channel}
 use Rattle.line.specs.Within.Chains.{Chain}
-use Rattle.line.specs.Definition.Line.{chainIndexOf, placeOf}
+use Rattle.line.specs.Definition.Line.{placeOf}
 use Rattle.line.specs.Laws.Places.{place-inside, place-apart}
 use Rattle.line.specs.Laws.Points as points
 use Rattle.line.specs.Laws.PointsOpened.{opened-points}
@@ -21,7 +19,6 @@ use Rattle.kernel.specs.Definition.Answers.{granted, gives, Decision}
 use Rattle.kernel.specs.Definition.Calls.{«open», close, onClose}
 use Rattle.kernel.specs.Definition.Bytes.{ramOpened, ramClosed, ramAfter, outputAfter}
 use Rattle.kernel.specs.Definition.Step.{Result, result, heard, decided, completed, step}
-use Rattle.kernel.specs.Laws.Chains.{good-chain}
 use Rattle.kernel.specs.Laws.Changes.{Opened, opening-opens, opens-row, opens-total}
 use Rattle.kernel.specs.Laws.Effects.{Effect, opens}
 use Rattle.kernel.specs.Laws.Ready.{Ready, ready-test}
@@ -30,7 +27,8 @@ use Rattle.kernel.specs.declared.Answer.the-variants.{Done}
 use Rattle.history.specs.Definition.Runs.{State, after, event}
 use Rattle.history.specs.Definition.NoMark.{InRecord, NoMark, LeavesNoMark}
 use Rattle.history.specs.Answers.Found.{open-one}
-use Rattle.history.specs.Bytes.Places.{place-same, index-short}
+use Rattle.history.specs.Bytes.Buffers.{opens-starts, opens-chain}
+use Rattle.history.specs.Bytes.Places.{grown-place}
 use Rattle.history.specs.Bytes.Steps.{Sound, done-length, Stepped, refused, done, stepped, step-sound}
 use Rattle.history.specs.NoMark.Tables.{open-close}
 
@@ -59,13 +57,13 @@ module _ (t : Tables) (ram : List ℕ) (r : Ready t (length ram)) (c : Channel) 
       (record { row = omega (arith, o .opened); number = ap (λ (x : Channel). x .number) (opens-row (r .good) o few) })
 
   first : recordAt u (t .opened) ≡ totalOf t
-  first = rw (o .channels) (ap sumOf (take-set-le (t .opened) (t .channels) (t .opened) c (omega arith)))
+  first = opens-starts o (t .opened) (omega arith)
 
   asked : sizeAt u (t .opened) ≡ c .n
   asked = ap (λ (x : Channel). x .n) (opens-row (r .good) o few)
 
   chain : Chain (u .chain) (t .room) (totalOf t + 16 + c .n) (length ram)
-  chain = rw (opens-total (r .good) o few, o .room) at (good-chain u (length ram) (s .good) (s .size))
+  chain = opens-chain r o few s
 
   opened : points.Opened (u .chain) (t .room) ram (totalOf t) (c .number) (c .device) (c .unit) (c .n) held
   opened = opened-points (u .chain) (t .room) ram (totalOf t) (c .number) (c .device) (c .unit) (c .n) chain
@@ -103,8 +101,7 @@ module _ (t : Tables) (ram : List ℕ) (r : Ready t (length ram)) (c : Channel) 
   off-line : (i : ℕ) → InRecord u (c .number) i → (p : ℕ) → p < totalOf t → ¬ (i ≡ placeOf (t .chain) (t .room) p)
   off-line i in-it p h e =
       let l = short i in-it in
-      let index : chainIndexOf (t .room) p < t .held = rw (r .good .line) (index-short (t .room) (totalOf t) p h) in
-      let there : i ≡ placeOf (u .chain) (t .room) p = e ∙ sym (place-same (u .chain) (t .chain) (t .room) p (o .chain (chainIndexOf (t .room) p) index)) in
+      let there : i ≡ placeOf (u .chain) (t .room) p = e ∙ sym (grown-place t u (r .good) (o .chain) p h) in
       let same : totalOf t + in-it .k ≡ p =
       place-apart (u .chain) (t .room) (totalOf t + 16 + c .n) (length ram) chain (totalOf t + in-it .k) p (omega arith) (omega arith) (sym (place i in-it) ∙ there) in
       omega arith

@@ -22,6 +22,13 @@ use Rattle.kernel.specs.declared.Tables.{Tables}
 use Rattle.history.specs.Bytes.Patched.{patched, put-at-is}
 use Rattle.history.specs.Bytes.Steps.{store-fits, byte-ready}
 
+-- they stay of one length
+set-sizes : (a b : List ℕ) (j x : ℕ) → length a ≡ length b → length (set a j x) ≡ length (set b j x)
+set-sizes a b j x l = length-set a j x ∙ l ∙ sym (length-set b j x)
+
+pub put-sizes : (walk : ℕ → ℕ) (xs a b : List ℕ) (p : ℕ) → length a ≡ length b → length (putFrom walk a p xs) ≡ length (putFrom walk b p xs)
+put-sizes walk xs a b p l = length-put walk xs a p ∙ l ∙ sym (length-put walk xs b p)
+
 module _ (i : ℕ) where
   set-here : (a b : List ℕ) (x : ℕ) → length a ≡ length b → getD (set a i x) i 0 ≡ getD (set b i x) i 0
   set-here a b x l =
@@ -43,7 +50,7 @@ module _ (i : ℕ) where
     unfolding putFrom
     put-alike [] a b p l e = e
     put-alike (x ∷ xs) a b p l e =
-        put-alike xs (set a (walk p) x) (set b (walk p) x) (p + 1) (length-set a (walk p) x ∙ l ∙ sym (length-set b (walk p) x)) (set-alike a b (walk p) x l e)
+        put-alike xs (set a (walk p) x) (set b (walk p) x) (p + 1) (set-sizes a b (walk p) x l) (set-alike a b (walk p) x l e)
 
     pub put-there : (xs a b : List ℕ) (p k : ℕ) → length a ≡ length b → k < length xs → i ≡ walk (p + k)
         → getD (putFrom walk a p xs) i 0 ≡ getD (putFrom walk b p xs) i 0
@@ -51,9 +58,9 @@ module _ (i : ℕ) where
     put-there [] a b p k l h e = absurd (not-suc-le-zero h)
     put-there (x ∷ xs) a b p zero l h e =
         let here : i ≡ walk p = e ∙ ap walk (add-zero p) in
-        put-alike xs (set a (walk p) x) (set b (walk p) x) (p + 1) (length-set a (walk p) x ∙ l ∙ sym (length-set b (walk p) x)) (rw (← here) (set-here a b x l))
+        put-alike xs (set a (walk p) x) (set b (walk p) x) (p + 1) (set-sizes a b (walk p) x l) (rw (← here) (set-here a b x l))
     put-there (x ∷ xs) a b p (suc k) l h e =
-        put-there xs (set a (walk p) x) (set b (walk p) x) (p + 1) k (length-set a (walk p) x ∙ l ∙ sym (length-set b (walk p) x)) (omega arith) (e ∙ ap walk (omega arith))
+        put-there xs (set a (walk p) x) (set b (walk p) x) (p + 1) k (set-sizes a b (walk p) x l) (omega arith) (e ∙ ap walk (omega arith))
 
   -- side by side, as a store puts them
   pub store-alike : (a b : List ℕ) (here : ℕ) (xs : List ℕ) → here + length xs ≤ length b → length a ≡ length b → getD a i 0 ≡ getD b i 0
@@ -84,8 +91,7 @@ module _ (i : ℕ) where
 
     gained-alike : getD (gained (emptied a)) i 0 ≡ getD (gained (emptied b)) i 0
     gained-alike =
-        let walk = placeOf (t .chain) (t .room) in
-        put-alike (placeOf (t .chain) (t .cold)) _ (emptied a) (emptied b) 0 (length-put walk _ a 0 ∙ l ∙ sym (length-put walk _ b 0)) emptied-alike
+        put-alike (placeOf (t .chain) (t .cold)) _ (emptied a) (emptied b) 0 (put-sizes (placeOf (t .chain) (t .room)) _ a b 0 l) emptied-alike
 
     by-flags : (four five : Bool)
         → getD (let x = cond (four || five) (emptied a) a in cond five (gained x) x) i 0 ≡ getD (let x = cond (four || five) (emptied b) b in cond five (gained x) x) i 0

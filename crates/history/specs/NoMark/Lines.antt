@@ -1,17 +1,15 @@
 -- Two RAMs under the same tables: a call leaves them alike where they were, and alike all along the line.
-use mathlib.Core.Path.{_≡_, refl, sym, ap, _∙_}
+use mathlib.Core.Path.{_≡_, refl, ap, _∙_}
 use mathlib.Core.List.{List, [], _++_}
-use Prim.Native.Nat.{ℕ, suc, _+_, _-_, _≤_, _<_}
+use Prim.Native.Nat.{ℕ, suc, _+_, _-_, _<_}
 use native.Mathlib.Nat.{not-suc-le-zero}
 use native.Mathlib.Decide.{decLt}
 use native.Mathlib.Omega.{arith}
-use lib.ListN.{length, getD, take, replicate, length-append, length-replicate}
+use lib.ListN.{length, getD, replicate, length-append, length-replicate}
 use Rattle.rows.specs.Definition.Lists.{at}
-use Rattle.rows.specs.Definition.Channels.{zeroChannel, sumOf}
-use Rattle.rows.specs.Laws.ChannelRows.{sum-without}
 use Rattle.rows.specs.declared.Channel.{Channel}
-use Rattle.line.specs.Definition.Line.{chainIndexOf, placeOf, lineFrom, putLine, headingOf, afterOpen, afterClose, afterLink}
-use Rattle.line.specs.Laws.Walks.{length-bytes, bytes-agree, length-put}
+use Rattle.line.specs.Definition.Line.{placeOf, lineFrom, putLine, headingOf, afterOpen, afterClose, afterLink}
+use Rattle.line.specs.Laws.Walks.{length-bytes, bytes-agree}
 use Rattle.line.specs.Laws.Makes.{length-heading}
 use Rattle.modules.specs.Definition.Judging.{putsIn}
 use Rattle.modules.specs.Laws.Stored.{stored-below}
@@ -29,10 +27,10 @@ use Rattle.kernel.specs.Laws.KeptLine.{closing-keeps}
 use Rattle.kernel.specs.Laws.Ready.{Ready}
 use Rattle.kernel.specs.Laws.Records.{record-within}
 use Rattle.kernel.specs.declared.Tables.{Tables}
-use Rattle.history.specs.Bytes.Buffers.{free-by, reset-by}
-use Rattle.history.specs.Bytes.Places.{place-same, index-short}
+use Rattle.history.specs.Bytes.Buffers.{closes-starts, free-by, reset-by}
+use Rattle.history.specs.Bytes.Places.{grown-place, closed-place}
 use Rattle.history.specs.Bytes.Steps.{store-fits}
-use Rattle.history.specs.NoMark.Alike.{put-alike, put-there, store-alike, each-alike, reset-alike}
+use Rattle.history.specs.NoMark.Alike.{put-sizes, put-alike, put-there, store-alike, each-alike, reset-alike}
 
 -- they have the same byte on every position of the line
 abbrev pub OnLine : Tables → (a b : List ℕ) → Type 0
@@ -53,10 +51,6 @@ module _ (t : Tables) (a b : List ℕ) (r : Ready t (length b)) (l : length a �
   pub lines-same : (p n : ℕ) → ((k : ℕ) → k < n → p + k < totalOf t) → lineFrom (t .chain) (t .room) a p n ≡ lineFrom (t .chain) (t .room) b p n
   lines-same p n on = bytes-agree (placeOf (t .chain) (t .room)) (placeOf (t .chain) (t .room)) a b p p n (λ k h. line (p + k) (on k h))
 
-  -- a position of the line is in a segment that is held
-  index : (p : ℕ) → p < totalOf t → chainIndexOf (t .room) p < t .held
-  index p h = rw (r .good .line) (index-short (t .room) (totalOf t) p h)
-
   -- close moves the records behind the one that goes
   close-alike : (j : ℕ) → j < t .opened → (i : ℕ) → getD a i 0 ≡ getD b i 0 → getD (ramClosed t a j) i 0 ≡ getD (ramClosed t b j) i 0
   unfolding afterClose
@@ -70,23 +64,15 @@ module _ (t : Tables) (a b : List ℕ) (r : Ready t (length b)) (l : length a �
   close-stays j h p q =
       let u = closing t j in
       let o = closing-closes t j in
-      let most = r .good .channels .most in
-      let n = r .good .sized .channels in
-      let e : t .opened ≡ suc (t .opened - 1) = omega arith in
-      let total : totalOf u ≤ totalOf t =
-      rw (o .opened, o .channels)
-      (omega (
-        arith,
-        sum-without zeroChannel zeroChannel j (t .channels) (t .opened - 1) (omega arith) (omega arith),
-        ap (λ (k : ℕ). sumOf (take k (t .channels))) e,
-      )) in
-      let held : chainIndexOf (u .room) p < u .held = rw (closing-keeps t j (r .good) h .line) (index-short (u .room) (totalOf u) p q) in
-      (omega arith, place-same (u .chain) (t .chain) (u .room) p (o .chain (chainIndexOf (u .room) p) held) ∙ ap (λ (x : ℕ). placeOf (t .chain) x p) (o .room))
+      let all : suc (t .opened - 1) ≡ t .opened = omega arith in
+      let less : recordAt u (t .opened - 1) + (16 + sizeAt t j) ≡ totalOf t = closes-starts (r .good) o (t .opened - 1) (omega arith) (omega arith) ∙ ap (recordAt t) all in
+      let total : totalOf u ≡ recordAt u (t .opened - 1) = ap (recordAt u) (o .opened) in
+      (omega arith, closed-place t u j o (closing-keeps t j (r .good) h) p q)
 
-  -- a chain that grew has the line's old segments where they were
+  -- what lay on the line lies there still where the chain grew
   old-place : (u : Tables) → ((i : ℕ) → i < t .held → at (u .chain) i ≡ at (t .chain) i) → (p : ℕ) → p < totalOf t
       → getD a (placeOf (u .chain) (t .room) p) 0 ≡ getD b (placeOf (u .chain) (t .room) p) 0
-  old-place u same p h = rw (place-same (u .chain) (t .chain) (t .room) p (same (chainIndexOf (t .room) p) (index p h))) (line p h)
+  old-place u same p h = rw (grown-place t u (r .good) same p h) (line p h)
 
   -- open puts a record behind the line
   open-line : (c : Channel) → t .opened < 32 → OnLine (opening t c) (ramOpened t (opening t c) a c) (ramOpened t (opening t c) b c)
@@ -118,7 +104,7 @@ module _ (t : Tables) (a b : List ℕ) (r : Ready t (length b)) (l : length a �
     unfolding afterLink
     link-then i e =
         let walk = placeOf (u .chain) (t .room - m) in
-        rw moved-same (put-alike i (placeOf (u .chain) (t .room)) (replicate m 0) _ _ 0 (length-put walk _ a 0 ∙ l ∙ sym (length-put walk _ b 0)) e)
+        rw moved-same (put-alike i (placeOf (u .chain) (t .room)) (replicate m 0) _ _ 0 (put-sizes walk _ a b 0 l) e)
 
     link-alike : (i : ℕ) → getD a i 0 ≡ getD b i 0 → getD (afterLink (u .chain) (t .room) m a (totalOf t)) i 0 ≡ getD (afterLink (u .chain) (t .room) m b (totalOf t)) i 0
     link-alike i e = link-then i (put-alike i (placeOf (u .chain) (t .room - m)) _ a b 0 l e)
