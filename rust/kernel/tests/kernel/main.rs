@@ -1,5 +1,6 @@
 //! Tests taken from the text of the definition (documents 01 and 02).
 
+mod again;
 mod audit;
 mod bodies;
 mod cases;
