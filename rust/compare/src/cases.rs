@@ -1,5 +1,6 @@
-//! The cases of a seed: tables by sentences, modules, the writer, reads, logs
-//! steered to the edges, damaged logs, damaged tables, RAM of a wrong length.
+//! The cases of a seed: tables by sentences, modules, the writer, reads, opens
+//! that are closed again, logs steered to the edges, damaged logs, damaged tables,
+//! RAM of a wrong length.
 
 use crate::damage::damage;
 use crate::edges::ram_length_for;
@@ -23,6 +24,7 @@ pub fn played(seed: u64, number: u64) -> Played {
         Plan::Writers => Player::of(writers()).played,
         Plan::Reads => Player::of(reads()).played,
         Plan::FarReads => Player::of(far_reads()).played,
+        Plan::Again(case) => Player::of(case()).played,
         Plan::Lists => lists(&mut Random::new(seed, number)),
         Plan::ThereAndBack => there_and_back(&mut Random::new(seed, number)),
         plan => steered(&mut Random::new(seed, number), plan),
@@ -55,20 +57,21 @@ fn steered(random: &mut Random, plan: Plan) -> Played {
     }
     let case = opening(random, plan, &tables);
     let calls = plan.calls(random);
-    let player = Player::of(case).going_on(calls, |present| {
-        let tables = if is_good(present) { present } else { &tables };
-        chosen(random, plan, mood, tables)
+    let player = Player::of(case).going_on(calls, |machine| {
+        let present = &machine.tables;
+        let steer = Steer {
+            random,
+            tables: if is_good(present) { present } else { &tables },
+            mood,
+            opened: machine.opened(),
+        };
+        chosen(steer, plan)
     });
     player.played
 }
 
 /// The next call of a case.
-fn chosen(random: &mut Random, plan: Plan, mood: Mood, tables: &Tables) -> Request {
-    let mut steer = Steer {
-        random,
-        tables,
-        mood,
-    };
+fn chosen(mut steer: Steer, plan: Plan) -> Request {
     let request = if steer.random.one_in(plan.start_one_in()) {
         steer.start()
     } else {
@@ -93,11 +96,12 @@ fn origin(random: &mut Random, plan: Plan, mood: Mood) -> Player {
         requests: vec![start(r, &list)],
     };
     let calls = 1 + plan.calls_before(random);
-    Player::of(case).going_on(calls, |tables| {
+    Player::of(case).going_on(calls, |machine| {
         let mut steer = Steer {
             random,
-            tables,
+            tables: &machine.tables,
             mood,
+            opened: machine.opened(),
         };
         steer.request()
     })
@@ -180,5 +184,24 @@ mod tests {
             }
         }
         assert!(done * 10 > all * 6, "{done} of {all}");
+    }
+
+    #[test]
+    fn some_opens_of_a_log_are_closed_again_at_once() {
+        let (mut again, mut opens) = (0, 0);
+        for number in 2..50 {
+            let Played { case, replies, .. } = played(5, number * 100 + 2);
+            let calls = case.requests.iter().zip(&replies);
+            let calls: Vec<_> = calls
+                .map(|(request, reply)| (request.kind(), request.channel_lent(), reply.number))
+                .collect();
+            for pair in calls.windows(2) {
+                if let [(Some(1), channel, 0), next] = *pair {
+                    opens += 1;
+                    again += usize::from(next == (Some(3), channel, 0));
+                }
+            }
+        }
+        assert!(again * 10 > opens, "{again} of {opens}");
     }
 }

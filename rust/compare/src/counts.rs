@@ -218,6 +218,7 @@ mod tests {
             before: &tables,
             after: &tables,
             ram_length: 0,
+            again: None,
         };
         counts.add(&made, request, &reply(number));
     }

@@ -132,6 +132,18 @@ mod tests {
                 Fault::NotOfItems,
                 "the kernel loads a module that its items do not make",
             ),
+            (
+                Fault::NotClosedAgain,
+                "the kernel does not close again what it opened",
+            ),
+            (
+                Fault::TablesMarked,
+                "the kernel's open and close leave a mark in the tables",
+            ),
+            (
+                Fault::RamMarked,
+                "the kernel's open and close leave a mark in the RAM",
+            ),
         ];
         for (fault, words) in faults {
             let at_fault = Reply {

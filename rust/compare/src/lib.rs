@@ -1,11 +1,13 @@
 //! Holds the independent kernel against the proved program `exos_answer`:
 //! the same requests to both, and after every call the answer, both values,
 //! the tables, every byte of the RAM, the output and what is lent of a buffer
-//! compared. The writer of modules is asked likewise. A difference is shrunk and
+//! compared. An open that is closed again at once is held against what was there
+//! before it. The writer of modules is asked too. A difference is shrunk and
 //! told as a log in words, which `exoslog encode` reads back; what the writer is
 //! asked stands there in comments. [`audits`] does so with the auditors of makers'
 //! logs.
 
+mod again;
 pub mod audits;
 pub mod cases;
 mod counter;
@@ -15,6 +17,7 @@ mod edges;
 pub mod judge;
 pub mod machine;
 mod modules;
+mod no_mark;
 mod plan;
 pub mod player;
 pub mod program;

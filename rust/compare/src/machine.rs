@@ -1,5 +1,6 @@
 //! The independent kernel's side: its tables, its RAM and their digests.
 
+use crate::no_mark::{Before, Opened};
 use crate::protocol::{
     digest, image_of, joined, power, ram_of, tables_of, Case, Reply, Request, Writing, UNTOUCHED,
 };
@@ -12,6 +13,10 @@ pub struct Machine {
     /// The tables.
     pub tables: Tables,
     ram: Watched,
+    /// The last request, if that was an open and done.
+    opened: Option<Opened>,
+    /// The open just before it, if it asked for the close of that.
+    again: Option<Opened>,
 }
 
 impl Machine {
@@ -20,11 +25,29 @@ impl Machine {
         Machine {
             tables: tables_of(&case.image),
             ram: Watched::new(ram_of(case.ram_length, case.seed)),
+            opened: None,
+            again: None,
         }
     }
 
     /// Makes one request.
     pub fn answer(&mut self, request: &Request) -> Reply {
+        let opened = self.opened.take();
+        self.again = opened.filter(|opened| opened.is_closed_by(request));
+        let before = Before::of(request, &self.tables, &self.ram.bytes);
+        let reply = self.made(request);
+        let before = before.filter(|_| reply.number == 0);
+        self.opened = before.map(|before| before.opened(&self.tables));
+        let mark = self
+            .again()
+            .and_then(|opened| opened.fault(&reply, &self.tables, &self.ram.bytes));
+        Reply {
+            fault: reply.fault.or(mark),
+            ..reply
+        }
+    }
+
+    fn made(&mut self, request: &Request) -> Reply {
         let mut output = vec![UNTOUCHED; usize::from(request.output)];
         let (tables, ram) = (&mut self.tables, &mut self.ram.bytes);
         let made = quietly(|| {
@@ -61,6 +84,16 @@ impl Machine {
     /// The length of the RAM.
     pub fn ram_length(&self) -> usize {
         self.ram.bytes.len()
+    }
+
+    /// The channel that the last request opened.
+    pub fn opened(&self) -> Option<u8> {
+        self.opened.as_ref().map(Opened::channel)
+    }
+
+    /// The open just before the last request, if that asked for its close.
+    pub(crate) fn again(&self) -> Option<&Opened> {
+        self.again.as_ref()
     }
 }
 
@@ -167,6 +200,61 @@ mod tests {
         assert_eq!(replies[1].ram, digest(&[0; 65_536]));
         assert_eq!(replies[2].output, digest(&[2, 0, 1, 0, 0, 165]));
         assert_eq!(replies[2].image, replies[1].image);
+    }
+
+    /// The channel that each request opened, and the one that it closed again.
+    fn opened_and_again(ram_length: u32, requests: &[Request]) -> Vec<(Option<u8>, Option<u8>)> {
+        let mut machine = Machine::of(&Case {
+            image: [0; crate::protocol::IMAGE],
+            ram_length,
+            seed: 1,
+            requests: Vec::new(),
+        });
+        let answers = requests.iter().map(|request| {
+            assert_eq!(machine.answer(request).fault, None);
+            (machine.opened(), machine.again().map(Opened::channel))
+        });
+        answers.collect()
+    }
+
+    #[test]
+    fn opens_that_are_closed_again() {
+        let open = |channel: u8, status: u8| {
+            let body = [&[channel, status, 3, 0], &b"VIDEO:"[..]].concat();
+            Request::new(0, 1, &body)
+        };
+        let close = |channel: u8| Request::new(0, 3, &[channel]);
+        let requests = [
+            Request::new(0, 256, &[0, 1, 254, 255]),
+            open(5, 0),
+            close(5),
+            open(5, 9),
+            close(5),
+            open(5, 0),
+            open(6, 0),
+            close(5),
+            close(6),
+            open(7, 0),
+            Request::new(0, 22, &[]),
+            close(7),
+        ];
+        let (none, opened, again) = ((None, None), |n| (Some(n), None), |n| (None, Some(n)));
+        let expected = [
+            none,
+            opened(5),
+            again(5),
+            none,
+            none,
+            opened(5),
+            opened(6),
+            none,
+            none,
+            opened(7),
+            none,
+            none,
+        ];
+        assert_eq!(opened_and_again(32_768, &requests), expected);
+        assert_eq!(opened_and_again(32_767, &requests), [none; 12]);
     }
 
     #[test]

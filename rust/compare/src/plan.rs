@@ -1,5 +1,7 @@
 //! What a case is about, by its number.
 
+use crate::again::AGAIN;
+use crate::protocol::Case;
 use crate::steer::{Mood, MOODS};
 use exos_kernel::ROWS_OF_SEGMENTS;
 use exos_random::Random;
@@ -16,6 +18,8 @@ pub enum Plan {
     Reads,
     /// The same on the longest line.
     FarReads,
+    /// Opens that are closed again at once, which leave nothing to chance.
+    Again(fn() -> Case),
     /// Requests to the writer that leave nothing to chance.
     Writers,
     /// A log of so many segments, whose line comes to fill them.
@@ -42,8 +46,8 @@ const FIRST_SENTENCE: u64 = 100;
 
 /// What the case of a number is about. Of a hundred cases most are damaged
 /// tables, which take few calls each, so that most calls are those of logs;
-/// after the first hundred come the sentences, the modules, the writer and the
-/// reads.
+/// after the first hundred come the sentences, the modules, the writer, the reads
+/// and the opens that are closed again.
 pub fn plan(number: u64) -> Plan {
     planned(number).unwrap_or_else(|| plan_in_hundred(number))
 }
@@ -53,7 +57,8 @@ fn planned(number: u64) -> Option<Plan> {
     let row = number.checked_sub(FIRST_SENTENCE)?;
     let sentences = BROKEN.iter().chain(KEPT).map(Plan::Sentence);
     let fixed = [Plan::Modules, Plan::Writers, Plan::Reads, Plan::FarReads];
-    sentences.chain(fixed).nth(row as usize)
+    let again = AGAIN.into_iter().map(Plan::Again);
+    sentences.chain(fixed).chain(again).nth(row as usize)
 }
 
 fn plan_in_hundred(number: u64) -> Plan {
@@ -145,6 +150,6 @@ mod tests {
     #[test]
     fn every_sentence_comes() {
         let count = (0..5_000).filter_map(planned).count();
-        assert_eq!(count, BROKEN.len() + KEPT.len() + 4);
+        assert_eq!(count, BROKEN.len() + KEPT.len() + 4 + AGAIN.len());
     }
 }

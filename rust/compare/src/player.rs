@@ -43,15 +43,15 @@ impl Player {
         player
     }
 
-    /// Adds requests, chosen by the tables that they meet, up to a number of
+    /// Adds requests, chosen by the machine that they meet, up to a number of
     /// all.
     pub fn going_on(
         mut self,
         requests: usize,
-        mut choose: impl FnMut(&Tables) -> Request,
+        mut choose: impl FnMut(&Machine) -> Request,
     ) -> Player {
         while self.played.replies.len() < requests && !self.panicked() {
-            let request = choose(&self.machine.tables);
+            let request = choose(&self.machine);
             self.make(request);
         }
         self
@@ -74,6 +74,7 @@ impl Player {
             before: &before,
             after: &self.machine.tables,
             ram_length: self.machine.ram_length(),
+            again: self.machine.again(),
         };
         counts.add(&made, &request, &reply);
         replies.push(reply);

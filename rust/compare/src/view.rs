@@ -1,6 +1,7 @@
 //! The numbers at which the edges stand, read off good tables.
 
 use exos_kernel::{class, Channel, Device, Tables, HEADING, SEGMENT};
+use std::ops::Range;
 
 /// How many segments beyond 255 the chain has for an R and a T.
 pub fn further(r: usize, t: usize) -> usize {
@@ -30,6 +31,16 @@ impl<'a> View<'a> {
         &self.0.classes[..usize::from(self.0.segments)]
     }
 
+    /// The chain, as rows of the list.
+    pub fn chain(self) -> &'a [u8] {
+        &self.0.chain[..usize::from(self.0.chain_length)]
+    }
+
+    /// Whether the chain falls in segment number.
+    pub fn chain_falls(self) -> bool {
+        self.chain().windows(2).all(|pair| pair[0] > pair[1])
+    }
+
     /// The open channels in line order.
     pub fn channels(self) -> &'a [Channel] {
         &self.0.channels[..usize::from(self.0.channel_count)]
@@ -52,18 +63,39 @@ impl<'a> View<'a> {
         self.row_of(number).map(|row| &self.channels()[row])
     }
 
+    /// The positions of a row's record.
+    pub fn record(self, row: usize) -> Range<usize> {
+        let channels = self.channels();
+        lengths(&channels[..row])..lengths(&channels[..=row])
+    }
+
     /// The position of the first byte of a row's buffer.
     fn first(self, row: usize) -> usize {
-        lengths(&self.channels()[..row]) + HEADING
+        self.record(row).start + HEADING
+    }
+
+    /// In which segment of the chain a position lies.
+    pub fn link(self, position: usize) -> usize {
+        (position + SEGMENT - self.r()) / SEGMENT
+    }
+
+    /// Which byte of the RAM a position is: "Position p < R is offset R-1-p of
+    /// segment 255. Else with q = p-R it is offset 16,383 - (q mod 16,384) of chain
+    /// segment 1 + q div 16,384."
+    pub fn place(self, position: usize) -> usize {
+        let offset = match position.checked_sub(self.r()) {
+            None => self.r() - 1 - position,
+            Some(q) => SEGMENT - 1 - q % SEGMENT,
+        };
+        SEGMENT * usize::from(self.0.chain[self.link(position)]) + offset
     }
 
     /// In which segments of the chain the first and the last of some bytes of a
     /// row's buffer lie; none where there are no bytes.
     pub fn links(self, row: usize, offset: usize, length: usize) -> Option<(usize, usize)> {
-        let link = |position: usize| (position + SEGMENT - self.r()) / SEGMENT;
         let first = self.first(row) + offset;
         let last = first + length.checked_sub(1)?;
-        Some((link(first), link(last)))
+        Some((self.link(first), self.link(last)))
     }
 
     /// The offset at which the last segment of a row's buffer begins, if it lies
@@ -154,6 +186,18 @@ mod tests {
         assert_eq!(view.links(1, 368, 0), None);
         assert_eq!(view.last_edge(0), None);
         assert_eq!(view.last_edge(1), Some(368));
+    }
+
+    /// 255 is the sixth segment of the list, and 254 the fifth.
+    #[test]
+    fn which_byte_a_position_is() {
+        let tables = tables();
+        let view = View(&tables);
+        assert_eq!((view.record(0), view.record(1)), (0..516, 516..1_532));
+        assert_eq!(view.place(0), 5 * 16_384 + 899);
+        assert_eq!(view.place(899), 5 * 16_384);
+        assert_eq!(view.place(900), 4 * 16_384 + 16_383);
+        assert_eq!(view.place(900 + 16_383), 4 * 16_384);
     }
 
     #[test]

@@ -56,6 +56,7 @@ fn steer<'a>(random: &'a mut Random, tables: &'a Tables) -> Steer<'a> {
         random,
         tables,
         mood,
+        opened: None,
     }
 }
 

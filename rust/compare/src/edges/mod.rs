@@ -1,5 +1,6 @@
 //! The edges of documents 01 and 02, each on both sides: which of them a call met.
 
+mod again;
 mod both;
 mod channels;
 mod devices;
@@ -15,11 +16,14 @@ mod user;
 mod words;
 mod writer;
 
+use crate::no_mark::Opened;
 use crate::protocol::{Reply, Request};
 use crate::quietly::is_good;
 use crate::view::View;
 use exos_kernel::{decode, Call, Tables, ROWS_OF_SEGMENTS, SEGMENT};
 
+#[cfg(test)]
+pub use again::all_again_edges;
 #[cfg(test)]
 pub use modules::ModuleEdge;
 #[cfg(test)]
@@ -41,7 +45,8 @@ struct Meeting<'a, Met> {
     met: Met,
 }
 
-/// The tables before and after a call, and the length of the RAM.
+/// The tables before and after a call, the length of the RAM, and the open that
+/// it closes again.
 pub struct Made<'a> {
     /// The tables before it.
     pub before: &'a Tables,
@@ -49,6 +54,8 @@ pub struct Made<'a> {
     pub after: &'a Tables,
     /// The length of the RAM.
     pub ram_length: usize,
+    /// The open just before, if the call asks for its close.
+    pub again: Option<&'a Opened>,
 }
 
 /// Tells each edge that a call met.
@@ -57,6 +64,7 @@ pub fn edges(made: &Made, request: &Request, reply: &Reply, met: impl FnMut(Edge
         before,
         after,
         ram_length,
+        again,
     } = made;
     let mut meeting = Meeting {
         view: View(before),
@@ -86,6 +94,7 @@ pub fn edges(made: &Made, request: &Request, reply: &Reply, met: impl FnMut(Edge
         if usable && right_length {
             meeting.call(call);
             meeting.short_module(kind, body);
+            meeting.again(again);
         }
     }
 }
@@ -110,10 +119,9 @@ impl<Met: FnMut(Edge)> Meeting<'_, Met> {
 
     fn call(&mut self, call: Call) {
         self.done(true, Edge::CallOn(self.view.0.segments));
-        let chain = &self.view.0.chain[..usize::from(self.view.0.chain_length)];
+        let chain = self.view.chain();
         self.done(chain.len() == LONGEST_CHAIN, Edge::ChainLongest);
-        let falls = chain.windows(2).all(|pair| pair[0] > pair[1]);
-        self.done(!falls, Edge::ChainNotFalling);
+        self.done(!self.view.chain_falls(), Edge::ChainNotFalling);
         match call {
             Call::Reset { flags } => self.reset(flags),
             Call::Open {

@@ -1,5 +1,6 @@
 //! The edges of documents 01 and 02 in words.
 
+use super::again::{all_again_edges, AgainEdge};
 use super::both::BOTH;
 use super::modules::{all_module_edges, ModuleEdge};
 use super::naming::name_edges;
@@ -20,6 +21,7 @@ pub fn all_edges() -> impl Iterator<Item = Edge> {
         .chain(segments.clone().map(Edge::StartOf))
         .chain(segments.map(Edge::CallOn))
         .chain(both.map(|&(kind, given, other)| Edge::Both(kind, given, other)))
+        .chain(all_again_edges().map(Edge::Again))
         .chain(all_read_edges().map(Edge::Read))
         .chain(all_module_edges().map(Edge::Module))
         .chain(all_writer_edges().map(Edge::Writer))
@@ -39,6 +41,8 @@ name_edges! {
             let words = form_of(kind).map_or("", |form| form.words);
             format!("{words}: {given} and {other} at once: {given}")
         };
+        /// An edge of open and close again.
+        Again(edge: AgainEdge) format!("open and close again: {edge}");
         /// An edge of read.
         Read(edge: ReadEdge) format!("read: {edge}");
         /// An edge of load module.

@@ -38,6 +38,12 @@ pub enum Fault {
     NotReadBack,
     /// It loaded a module that its items do not make.
     NotOfItems,
+    /// It did not close the channel that the request before opened.
+    NotClosedAgain,
+    /// It did, and the tables are not those before the open.
+    TablesMarked,
+    /// It did, and the RAM is not that before the open with the record zero.
+    RamMarked,
 }
 
 impl Display for Fault {
@@ -46,6 +52,9 @@ impl Display for Fault {
             Fault::Panicked => "the kernel panicked",
             Fault::NotReadBack => "the kernel's module does not read back as the list",
             Fault::NotOfItems => "the kernel loads a module that its items do not make",
+            Fault::NotClosedAgain => "the kernel does not close again what it opened",
+            Fault::TablesMarked => "the kernel's open and close leave a mark in the tables",
+            Fault::RamMarked => "the kernel's open and close leave a mark in the RAM",
         })
     }
 }

@@ -22,6 +22,9 @@ use mood::UNKNOWN;
 pub use mood::{Mood, MOODS};
 pub use reset::{some_list, some_r};
 
+/// One open in how many is closed again at once, beside those of chance.
+const AGAIN_ONE_IN: usize = 8;
+
 /// What a request is chosen by.
 pub struct Steer<'a> {
     /// The source of chance.
@@ -30,6 +33,8 @@ pub struct Steer<'a> {
     pub tables: &'a Tables,
     /// What the log is about.
     pub mood: Mood,
+    /// The channel that the request before opened.
+    pub opened: Option<u8>,
 }
 
 impl<'a> Steer<'a> {
@@ -37,11 +42,19 @@ impl<'a> Steer<'a> {
         View(self.tables)
     }
 
-    /// The next request of the log.
+    /// The next request of the log: now and then "a done open followed at once by
+    /// that channel's close".
     pub fn request(&mut self) -> Request {
-        let kind = self.kind();
-        let kind = self.fitting(kind);
-        self.request_of(kind)
+        match self.opened {
+            Some(channel) if self.random.one_in(AGAIN_ONE_IN) => {
+                self.made(3, &[usize::from(channel)], &[])
+            }
+            _ => {
+                let kind = self.kind();
+                let kind = self.fitting(kind);
+                self.request_of(kind)
+            }
+        }
     }
 
     fn kind(&mut self) -> u16 {
