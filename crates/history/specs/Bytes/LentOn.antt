@@ -56,7 +56,7 @@ module _ (t : Tables) (ram : List ℕ) (r : Ready t (length ram)) (channel : ℕ
       rw (lent-open (o .known), lt-ltb 0 (sizeOf t channel) (o .some), eq-eqb (chainIndexOf (t .room) (bufferOf t channel)) (chainIndexOf (t .room) end) (sym same))
 
   module _ (at : ℕ) (e : Part at ≡ lentOn t (length ram) channel) where
-    known : channelAt t channel < t .opened
+    pub known : channelAt t channel < t .opened
     known = elim (decLt (channelAt t channel) (t .opened)) [ yes h ↦ h | no h ↦ absurd (never (e ∙ lent-closed (omega arith))) ]
       where
         never : Part at ≡ Nothing → ⊥
@@ -72,20 +72,25 @@ module _ (t : Tables) (ram : List ℕ) (r : Ready t (length ram)) (channel : ℕ
       same = lent-index (t .chain) (t .room) (bufferOf t channel) (sizeOf t channel) at ram (chained known) lent;
     }
 
-    lent-size : length (partOn t ram channel) ≡ sizeOf t channel
+    pub lent-size : length (partOn t ram channel) ≡ sizeOf t channel
     lent-size = rw (part-lent, ← e) (lent-length (t .chain) (t .room) (bufferOf t channel) (sizeOf t channel) at ram (chained known) lent)
 
-    lent-holds : (f : ℕ → ℕ → ℕ) → Holds f t ram → (k : ℕ) → k < sizeOf t channel → getD (partOn t ram channel) (sizeOf t channel - 1 - k) 0 ≡ f channel k
-    lent-holds f holds k h =
+    pub part-byte : (k : ℕ) → k < sizeOf t channel
+        → getD (partOn t ram channel) (sizeOf t channel - 1 - k) 0 ≡ getD ram (placeOf (t .chain) (t .room) (bufferOf t channel + k)) 0
+    part-byte k h =
         let n = sizeOf t channel in
         let back : n - 1 - (n - 1 - k) ≡ k = omega arith in
         let byte : getD (partOf ram n (Part at)) (n - 1 - k) 0 ≡ getD (lineFrom (t .chain) (t .room) ram (bufferOf t channel) n) k 0 =
         rw back at (lent-byte (t .chain) (t .room) (bufferOf t channel) n at ram (chained known) lent (n - 1 - k) (omega arith)) in
         let part : getD (partOn t ram channel) (n - 1 - k) 0 ≡ getD (partOf ram n (Part at)) (n - 1 - k) 0 = rw (part-lent, ← e) in
-        part ∙ byte
-        ∙ bytes-at (placeOf (t .chain) (t .room)) ram (bufferOf t channel) n k h
-        ∙ holds (channelAt t channel) known k h
-        ∙ ap (λ (x : ℕ). f x k) (open-at t (r .good) channel known .number)
+        part ∙ byte ∙ bytes-at (placeOf (t .chain) (t .room)) ram (bufferOf t channel) n k h
+
+    lent-holds : (f : ℕ → ℕ → ℕ) → Holds f t ram → (k : ℕ) → k < sizeOf t channel → getD (partOn t ram channel) (sizeOf t channel - 1 - k) 0 ≡ f channel k
+    lent-holds f holds k h = part-byte k h ∙ holds (channelAt t channel) known k h ∙ ap (λ (x : ℕ). f x k) (open-at t (r .good) channel known .number)
+
+  pub no-part : Nothing ≡ lentOn t (length ram) channel → partOn t ram channel ≡ []
+  unfolding partOf
+  no-part e = rw (part-lent, ← e)
 
   none-lent : ¬ OneSegment t channel → partOn t ram channel ≡ []
   unfolding partOf

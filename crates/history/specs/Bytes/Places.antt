@@ -1,6 +1,6 @@
 -- The line's places: no place of the line is the user's.
-use mathlib.Core.Path.{_≡_, sym, ap, _∙_}
-use mathlib.Core.Bool.{true, _||_, false≢true}
+use mathlib.Core.Path.{_≡_, refl, sym, ap, _∙_}
+use mathlib.Core.Bool.{Bool, true, false, cond, _||_, false≢true}
 use mathlib.Core.List.{List}
 use Prim.Native.Nat.{ℕ, _+_, _-_, _*_, _≤_, _<_}
 use native.Mathlib.Decide.{decLe, decLt, ℕ-discrete}
@@ -22,6 +22,7 @@ use Rattle.kernel.specs.Definition.Bytes.{segmentAt}
 use Rattle.kernel.specs.Laws.Changes.{Closed}
 use Rattle.kernel.specs.Laws.Facts.{chain-exactly, chain-once, room-small, user-small}
 use Rattle.kernel.specs.declared.Tables.{Tables}
+use Rattle.history.specs.Definition.Places.{inSystem, Outside}
 use Rattle.history.specs.Definition.Users.{Users, page-zero, own, shared}
 
 -- a position lies at the same place of two chains that hold its segment alike
@@ -84,6 +85,11 @@ reach-users t row offset m h =
           ]
     ]
 
+-- held once, or not at all
+holds-in : (b : Bool) → 1 ≤ cond {A = ℕ} b 1 0 → b ≡ true
+holds-in true h = refl
+holds-in false h = absurd (omega arith)
+
 module _ (t : Tables) (g : Good t) where
   -- a place of the chain's segment i that is in a row of another class than system and shared
   held-not : (i row : ℕ) → i < t .held → at (t .chain) i ≡ row → timesHeld (classAt t row) ≡ 0 → ⊥
@@ -122,3 +128,25 @@ module _ (t : Tables) (g : Good t) where
       let last = users-last row offset 0 u (g .chain .holds) same in
       let low : totalOf t ≤ t .room = elim (decLe (totalOf t) (t .room)) [ yes q ↦ q | no q ↦ absurd (omega (arith, last .0, g .line, length-high (t .room) (totalOf t) (omega arith))) ] in
       omega (arith, last .1, g .user .most, edge-low (t .room) (totalOf t) low)
+
+  -- a place of the line is one of the system's, "less the user's part of a shared" segment
+  pub line-outside : (p : ℕ) → p < totalOf t → Outside t (t .room) (inSystem t) (record { row = at (t .chain) (chainIndexOf (t .room) p); offset = offsetOf (t .room) p })
+  line-outside p h =
+      let i = chainIndexOf (t .room) p in
+      let row = at (t .chain) i in
+      let l = index-held t g p h in
+      let m = g .chain .holds in
+      record {
+        place = record {
+          known = g .chain .rows i l;
+          chosen = holds-in (inSystem t row) (chain-exactly t g .only i l);
+          inside = offset-lt (t .room) p (room-small t g);
+          room = λ e.
+              let z : i ≡ 0 = chain-once t g i 0 l m (e ∙ sym (g .chain .starts)) in
+              let low : p < t .room = elim (decLt p (t .room)) [ yes q ↦ q | no q ↦ absurd (omega (arith, index-high (t .room) p (omega arith))) ] in
+              omega (arith, offset-low (t .room) p low);
+        };
+        outside = λ e.
+            let last : i ≡ t .held - 1 = chain-once t g i (t .held - 1) l (omega arith) (sym (g .chain .last row (g .chain .rows i l) e)) in
+            omega (arith, edge-under (t .room) (totalOf t) p h (omega (arith, g .line)), g .user .most);
+      }
