@@ -31,7 +31,7 @@ use Rattle.kernel.specs.Laws.Ready.{Ready, decided-ready, start-ready}
 use Rattle.kernel.specs.declared.Tables.{Tables}
 use Rattle.kernel.specs.declared.Answer.the-variants.{NoRoom}
 use Rattle.history.specs.Definition.Runs.{State, Event, History, after, event, Started, Runs, stay, then, Any, Run, ReadRight}
-use Rattle.history.specs.Definition.NoMark.{NoMark}
+use Rattle.history.specs.Definition.NoMark.{NoMark, Asked, afterAll}
 use Rattle.history.specs.Bytes.Patched.{patched}
 use Rattle.history.specs.Bytes.Words.{written, lastWritten, last-written, written-one, stored, lastStored, last-stored, stored-one, resized, lastSize, last-size, size-one}
 use Rattle.history.specs.Definition.Users.{shared, UsersIn, userByte}
@@ -44,7 +44,7 @@ use Rattle.history.specs.Definition.Layout.{Layout}
 use Rattle.history.specs.Definition.Places.{countIn, inSystem, offered, Outside}
 use Rattle.history.specs.Definition.Room.{Passes, recordsAnd}
 use Rattle.history.specs.Answers.Proved.{refuses-lowest}
-use Rattle.history.specs.Reachable.{reachable, reachable-fewest, reachable-open, reachable-no-mark}
+use Rattle.history.specs.Reachable.{reachable, reachable-fewest, reachable-open, reachable-no-mark, reachable-no-mark-next, reachable-no-mark-later}
 
 -- ---- a sequence of calls, each lent four segments of RAM and three bytes of output
 
@@ -89,6 +89,11 @@ runs h s (c ∷ cs) (n, fs) (p, ps) r = runs _ _ cs fs ps (then r c lent (rw n) 
 anything : (s : State) (cs : List Call) → Along Any s cs
 anything s [] = tt
 anything s (c ∷ cs) = (tt, anything (after s c lent) cs)
+
+-- they as a sequence that follows
+abbrev asked : List Call → List Asked
+asked [] = []
+asked (c ∷ cs) = record { call = c; output = lent } ∷ asked cs
 
 -- ---- a state whose tables are known
 
@@ -367,3 +372,13 @@ module _ (ram : List ℕ) (four : length ram ≡ 65536) where
   pub place-zero : getD (after (after s₁ (opens 99 9938) lent) (close 99) lent .ram) 60105 0 ≡ 0
   unfolding placeOf chainIndexOf offsetOf decided noTables lettersTest upTo chainLength boundaryAt grown shrunk
   place-zero = again-shared .zero 60105 (rw (known-next k₁ (opens 99 9938) refl .tables) (record { k = 0; within = omega arith; place = refl }))
+
+  -- the next call has the same reply: one byte more than fits is refused for room; and the calls of `more` leave the same tables
+  pub next-no-room : event (after (after s₁ (opens 99 9938) lent) (close 99) lent) (opens 3 9939) lent .answer ≡ NoRoom
+  unfolding decided noTables lettersTest upTo chainLength boundaryAt grown shrunk
+  next-no-room =
+      ap (λ (e : Event). e .answer) (reachable-no-mark-next sequence 99 0 9938 _ lent lent (ap granted (known-answer k₁ (opens 99 9938))) (opens 3 9939) lent) ∙ no-room
+
+  pub later-tables : afterAll (after (after s₁ (opens 99 9938) lent) (close 99) lent) (asked more) .tables ≡ leads s₁ more .tables
+  unfolding decided noTables lettersTest upTo chainLength boundaryAt grown shrunk
+  later-tables = reachable-no-mark-later sequence 99 0 9938 _ lent lent (ap granted (known-answer k₁ (opens 99 9938))) (asked more) .tables

@@ -6,7 +6,7 @@ use mathlib.Core.List.{List}
 use Prim.Native.Nat.{ℕ}
 use lib.ListN.{length}
 use Rattle.kernel.specs.Definition.Answers.{granted}
-use Rattle.kernel.specs.Definition.Calls.{«open», close, link}
+use Rattle.kernel.specs.Definition.Calls.{Call, «open», close, link}
 use Rattle.kernel.specs.Definition.Step.{completed, step}
 use Rattle.kernel.specs.Laws.Ready.{never-tables}
 use Rattle.history.specs.Definition.Runs.{State, History, after, event, Started, Runs, stay, then, Run}
@@ -18,6 +18,7 @@ use Rattle.history.specs.Definition.Places.{offered, Outside}
 use Rattle.history.specs.Definition.Room.{Fewest, Passes, OnlyRoom, recordsAnd, LinkFits}
 use Rattle.history.specs.NoMark.Again.{leaves-no-mark}
 use Rattle.history.specs.NoMark.Later.{leaves-no-mark-later}
+use Rattle.history.specs.NoMark.Next.{leaves-no-mark-next}
 use Rattle.history.specs.Room.Fewest.{fewest}
 use Rattle.history.specs.Room.RoomExactly.{open-exactly, link-exactly}
 
@@ -53,7 +54,7 @@ module _ {h : History} {s : State} (r : Run h s) (output : List ℕ) where
   unfolding step completed
   reachable-link m name p = link-exactly (s .tables) (length (s .ram)) (length output) m name (reachable r .0 .good .sized) p
 
--- Open and close again leaves no mark, nor does it for any calls that follow.
+-- Open and close again leaves no mark: the next call has the same reply, and any calls that follow but for bytes that they load from where the record lay.
 module _ {h : History} {s : State} (r : Run h s) (channel driver n : ℕ) (name output lent : List ℕ)
     (done : granted (event s («open» channel driver n name) output .answer) ≡ true) where
   abbrev opened : State
@@ -62,5 +63,8 @@ module _ {h : History} {s : State} (r : Run h s) (channel driver n : ℕ) (name 
   pub reachable-no-mark : NoMark s opened channel n lent
   reachable-no-mark = let g = reachable r .0 in leaves-no-mark s (g .good) (g .size) channel driver n name output lent done
 
-  pub reachable-no-mark-later : (rest : List Asked) → AlikeBut (InRecord (opened .tables) channel) (afterAll s rest) (afterAll (after opened (close channel) lent) rest)
+  pub reachable-no-mark-next : (c : Call) (next : List ℕ) → event (after opened (close channel) lent) c next ≡ event s c next
+  reachable-no-mark-next = let g = reachable r .0 in leaves-no-mark-next s (g .good) (g .size) channel driver n name output lent done
+
+  pub reachable-no-mark-later : (rest : List Asked) → AlikeBut (InRecord (opened .tables) channel) (s .ram) (afterAll s rest) (afterAll (after opened (close channel) lent) rest)
   reachable-no-mark-later = let g = reachable r .0 in leaves-no-mark-later s (g .good) (g .size) channel driver n name output lent done

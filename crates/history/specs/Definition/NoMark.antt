@@ -2,6 +2,7 @@
 use mathlib.Core.Path.{_≡_}
 use mathlib.Core.Bool.{true}
 use mathlib.Core.List.{List, [], _∷_}
+use mathlib.Core.Logic.{_⊎_}
 use Prim.Native.Nat.{ℕ, _+_, _<_}
 use lib.ListN.{length, getD}
 use Rattle.line.specs.Definition.Line.{placeOf}
@@ -11,9 +12,12 @@ use Rattle.kernel.specs.Definition.Bytes.{segmentAt}
 use Rattle.kernel.specs.Definition.Good.{Good}
 use Rattle.kernel.specs.Definition.Answers.{granted}
 use Rattle.kernel.specs.Definition.Calls.{Call, «open», close, load}
+use Rattle.kernel.specs.Definition.Lend.{partOn}
 use Rattle.kernel.specs.declared.Tables.{Tables}
 use Rattle.kernel.specs.declared.Answer.the-variants.{Done}
 use Rattle.history.specs.Definition.Runs.{State, after, event}
+use Rattle.history.specs.Definition.Layout.{Place}
+use Rattle.history.specs.Definition.Places.{offered, Outside}
 
 -- "that record's positions": index i of the RAM is the place of one of the L = 16 + n positions of the channel's record
 pub record InRecord (t : Tables) (channel i : ℕ) : Type 0 where
@@ -32,17 +36,27 @@ pub record NoMark (s opened : State) (channel n : ℕ) (output : List ℕ) : Typ
   pub kept : (i : ℕ) → ¬ InRecord (opened .tables) channel i → getD (after opened (close channel) output .ram) i 0 ≡ getD (s .ram) i 0
   -- "those are zero"
   pub zero : (i : ℕ) → InRecord (opened .tables) channel i → getD (after opened (close channel) output .ram) i 0 ≡ 0
-  -- Which they are: 16 + n positions, from T before the open on; each lies in the RAM, and none where a position of the line before lies
+  -- Which they are: 16 + n positions, from T before the open on
   pub first : recordAt (opened .tables) (channelAt (opened .tables) channel) ≡ totalOf (s .tables)
   pub asked : sizeAt (opened .tables) (channelAt (opened .tables) channel) ≡ n
-  pub inside : (i : ℕ) → InRecord (opened .tables) channel i → i < length (s .ram)
+  -- Whose they were: none lies where a position of the line before lay, and each in the chain or, if nothing is shared, in a free segment, "less the user's
+  -- part of a shared one"
   pub apart : (i : ℕ) → InRecord (opened .tables) channel i → (p : ℕ) → p < totalOf (s .tables) → ¬ (i ≡ placeOf (s .tables .chain) (s .tables .room) p)
+  pub spare : (i : ℕ) → InRecord (opened .tables) channel i
+      → (p : Place) × (i ≡ segmentAt (p .row) + p .offset) × Outside (s .tables) (s .tables .room) (offered (s .tables)) p
 
--- "for good tables, a done open followed at once by that channel's close": for any name, driver and output lent to either call
+-- "for good tables, a done open followed at once by that channel's close": for any name and any output lent to either call
 abbrev pub LeavesNoMark : Type 0
 LeavesNoMark =
     (s : State) → Good (s .tables) → length (s .ram) ≡ ramSize (s .tables) → (channel driver n : ℕ) (name output lent : List ℕ)
     → granted (event s («open» channel driver n name) output .answer) ≡ true → NoMark s (after s («open» channel driver n name) output) channel n lent
+
+-- The next call, whichever it is, has the reply that it would have had without the two.
+abbrev pub LeavesNoMarkNext : Type 0
+LeavesNoMarkNext =
+    (s : State) → Good (s .tables) → length (s .ram) ≡ ramSize (s .tables) → (channel driver n : ℕ) (name output lent : List ℕ)
+    → granted (event s («open» channel driver n name) output .answer) ≡ true → (c : Call) (next : List ℕ)
+    → event (after (after s («open» channel driver n name) output) (close channel) lent) c next ≡ event s c next
 
 -- What follows: calls made one after another, each with the output that is lent to it, and the state that they leave.
 pub record Asked : Type 0 where
@@ -53,30 +67,38 @@ abbrev pub afterAll : State → List Asked → State
 afterAll s [] = s
 afterAll s (a ∷ rest) = afterAll (after s (a .call) (a .output)) rest
 
--- byte j of the output is one that a done load takes from a place of P
-pub record LoadsFrom (P : ℕ → Type 0) (s : State) (c : Call) (output : List ℕ) (j : ℕ) : Type 0 where
+-- a byte at a place of P that is zero here, and there still what it was in an earlier RAM
+pub record Lost (P : ℕ → Type 0) (was : List ℕ) (i here there : ℕ) : Type 0 where
+  pub place : P i
+  pub zero : here ≡ 0
+  pub old : there ≡ getD was i 0
+
+-- byte j of the outputs of a call on u and on s is such a byte, which a done load took
+pub record LoadsLost (P : ℕ → Type 0) (was : List ℕ) (s u : State) (c : Call) (output : List ℕ) (j : ℕ) : Type 0 where
   pub segment : ℕ
   pub offset : ℕ
   pub size : ℕ
   pub call : c ≡ load segment offset size
   pub done : granted (event s c output .answer) ≡ true
   pub within : j < size
-  pub from : P (segmentAt (rowOf (s .tables) segment) + offset + j)
+  pub lost : Lost P was (segmentAt (rowOf (s .tables) segment) + offset + j) (getD (event u c output .output) j 0) (getD (event s c output .output) j 0)
 
--- two states that none can tell apart but by a load from the places P: the tables are the same, and every byte outside P; so is the answer to any call, and
--- every byte of its output that is not loaded from there
-pub record AlikeBut (P : ℕ → Type 0) (s u : State) : Type 0 where
+-- two states with the same tables and the same RAM, but for bytes that were lost at places of P; any call has the same answer and the same output, but for
+-- such bytes that it loads, and what is lent of a buffer is the same
+pub record AlikeBut (P : ℕ → Type 0) (was : List ℕ) (s u : State) : Type 0 where
   pub tables : u .tables ≡ s .tables
   pub size : length (u .ram) ≡ length (s .ram)
-  pub kept : (i : ℕ) → ¬ P i → getD (u .ram) i 0 ≡ getD (s .ram) i 0
+  pub each : (i : ℕ) → (getD (u .ram) i 0 ≡ getD (s .ram) i 0) ⊎ Lost P was i (getD (u .ram) i 0) (getD (s .ram) i 0)
   pub answer : (c : Call) (output : List ℕ) → event u c output .answer ≡ event s c output .answer
   pub lengths : (c : Call) (output : List ℕ) → length (event u c output .output) ≡ length (event s c output .output)
-  pub bytes : (c : Call) (output : List ℕ) (j : ℕ) → ¬ LoadsFrom P s c output j → getD (event u c output .output) j 0 ≡ getD (event s c output .output) j 0
+  pub bytes : (c : Call) (output : List ℕ) (j : ℕ) → (getD (event u c output .output) j 0 ≡ getD (event s c output .output) j 0) ⊎ LoadsLost P was s u c output j
+  pub lent : (channel : ℕ) → partOn (u .tables) (u .ram) channel ≡ partOn (s .tables) (s .ram) channel
 
--- Whatever calls follow, a start among them or not: they find what they would have found without the two, but for loads from places where the record lay
+-- Whatever calls follow, a start among them or not: what they find is what they would have found without the two, but for bytes that the record lay on and
+-- that nothing was put over since, which are zero
 abbrev pub LeavesNoMarkLater : Type 0
 LeavesNoMarkLater =
     (s : State) → Good (s .tables) → length (s .ram) ≡ ramSize (s .tables) → (channel driver n : ℕ) (name output lent : List ℕ)
     → granted (event s («open» channel driver n name) output .answer) ≡ true → (rest : List Asked)
     → let opened = after s («open» channel driver n name) output in
-    AlikeBut (InRecord (opened .tables) channel) (afterAll s rest) (afterAll (after opened (close channel) lent) rest)
+    AlikeBut (InRecord (opened .tables) channel) (s .ram) (afterAll s rest) (afterAll (after opened (close channel) lent) rest)

@@ -6,10 +6,11 @@ use Prim.Native.Nat.{ℕ, _+_, _-_, _<_}
 use native.Mathlib.Omega.{arith}
 use borrow.Author.Tests.{lt-leb}
 use lib.ListN.{length, getD}
+use Rattle.rows.specs.Definition.Lists.{at}
 use Rattle.rows.specs.declared.Channel.{Channel}
 use Rattle.line.specs.Within.Chains.{Chain}
-use Rattle.line.specs.Definition.Line.{placeOf}
-use Rattle.line.specs.Laws.Places.{place-inside, place-apart}
+use Rattle.line.specs.Definition.Line.{chainIndexOf, offsetOf, placeOf}
+use Rattle.line.specs.Laws.Places.{place-apart}
 use Rattle.line.specs.Laws.Points as points
 use Rattle.line.specs.Laws.PointsOpened.{opened-points}
 use Rattle.line.specs.Laws.PointsClosed.{closed-points}
@@ -17,7 +18,7 @@ use Rattle.kernel.specs.Definition.Tables.{channelAt}
 use Rattle.kernel.specs.Definition.Line.{recordAt, totalOf, sizeAt, roomFor, opening, closing}
 use Rattle.kernel.specs.Definition.Answers.{granted, gives, Decision}
 use Rattle.kernel.specs.Definition.Calls.{«open», close, onClose}
-use Rattle.kernel.specs.Definition.Bytes.{ramOpened, ramClosed, ramAfter, outputAfter}
+use Rattle.kernel.specs.Definition.Bytes.{ramOpened, ramClosed, segmentAt, ramAfter, outputAfter}
 use Rattle.kernel.specs.Definition.Step.{Result, result, heard, decided, completed, step}
 use Rattle.kernel.specs.Laws.Changes.{Opened, opening-opens, opens-row, opens-total}
 use Rattle.kernel.specs.Laws.Effects.{Effect, opens}
@@ -26,11 +27,14 @@ use Rattle.kernel.specs.declared.Tables.{Tables}
 use Rattle.kernel.specs.declared.Answer.the-variants.{Done}
 use Rattle.history.specs.Definition.Runs.{State, after, event}
 use Rattle.history.specs.Definition.NoMark.{InRecord, NoMark, LeavesNoMark}
+use Rattle.history.specs.Definition.Layout.{Place}
+use Rattle.history.specs.Definition.Places.{offered, Outside}
 use Rattle.history.specs.Answers.Found.{open-one}
 use Rattle.history.specs.Bytes.Buffers.{opens-starts, opens-chain}
 use Rattle.history.specs.Bytes.Places.{grown-place}
 use Rattle.history.specs.Bytes.Steps.{Sound, done-length, Stepped, refused, done, stepped, step-sound}
 use Rattle.history.specs.NoMark.Tables.{open-close}
+use Rattle.history.specs.NoMark.Spare.{opened-outside}
 
 -- a close of a channel that is open
 close-is : (s : State) → Sound s → (channel row : ℕ) → channelAt (s .tables) channel ≡ row → row < s .tables .opened → (output : List ℕ)
@@ -93,10 +97,13 @@ module _ (t : Tables) (ram : List ℕ) (r : Ready t (length ram)) (c : Channel) 
       let l = short i in-it in
       ap (λ (x : ℕ). getD (ramClosed u held (t .opened)) x 0) (place i in-it) ∙ closed .zeroed (totalOf t + in-it .k) (omega arith) (omega arith) (omega arith)
 
-  in-ram : (i : ℕ) → InRecord u (c .number) i → i < length ram
-  in-ram i in-it =
+  spare-place : (i : ℕ) → InRecord u (c .number) i → (p : Place) × (i ≡ segmentAt (p .row) + p .offset) × Outside t (t .room) (offered t) p
+  unfolding placeOf
+  spare-place i in-it =
       let l = short i in-it in
-      rw (place i in-it) (place-inside (u .chain) (t .room) (totalOf t + 16 + c .n) (length ram) chain (totalOf t + in-it .k) (omega arith))
+      let q = totalOf t + in-it .k in
+      let p : Place = record { row = at (u .chain) (chainIndexOf (t .room) q); offset = offsetOf (t .room) q } in
+      (p, omega (arith, place i in-it), opened-outside t c (r .good) fits (s .good) q (omega (arith, opens-total (r .good) o few)))
 
   off-line : (i : ℕ) → InRecord u (c .number) i → (p : ℕ) → p < totalOf t → ¬ (i ≡ placeOf (t .chain) (t .room) p)
   off-line i in-it p h e =
@@ -118,8 +125,8 @@ module _ (t : Tables) (ram : List ℕ) (r : Ready t (length ram)) (c : Channel) 
         zero = λ i in-it. ap (λ (x : Result). getD (x .ram) i 0) is ∙ zero-bytes i in-it;
         first = rw last first;
         asked = rw last asked;
-        inside = in-ram;
         apart = off-line;
+        spare = spare-place;
       }
 
 -- what a done open leaves

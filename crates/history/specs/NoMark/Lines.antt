@@ -1,4 +1,4 @@
--- Two RAMs under the same tables: a call leaves them alike where they were, and alike all along the line.
+-- Two RAMs under the same tables that are alike along the line: a done call leaves them so, and settles every other index or leaves it.
 use mathlib.Core.Path.{_≡_, refl, ap, _∙_}
 use mathlib.Core.List.{List, [], _++_}
 use Prim.Native.Nat.{ℕ, suc, _+_, _-_, _<_}
@@ -30,7 +30,7 @@ use Rattle.kernel.specs.declared.Tables.{Tables}
 use Rattle.history.specs.Bytes.Buffers.{closes-starts, free-by, reset-by}
 use Rattle.history.specs.Bytes.Places.{grown-place, closed-place}
 use Rattle.history.specs.Bytes.Steps.{store-fits}
-use Rattle.history.specs.NoMark.Alike.{put-sizes, put-alike, put-there, store-alike, each-alike, reset-alike}
+use Rattle.history.specs.NoMark.Alike.{put-sizes, left, settled-on, settled-same, SettledAt, put-settles, put-there, store-settles, each-settles, reset-settles}
 
 -- they have the same byte on every position of the line
 abbrev pub OnLine : Tables → (a b : List ℕ) → Type 0
@@ -52,13 +52,13 @@ module _ (t : Tables) (a b : List ℕ) (r : Ready t (length b)) (l : length a �
   lines-same p n on = bytes-agree (placeOf (t .chain) (t .room)) (placeOf (t .chain) (t .room)) a b p p n (λ k h. line (p + k) (on k h))
 
   -- close moves the records behind the one that goes
-  close-alike : (j : ℕ) → j < t .opened → (i : ℕ) → getD a i 0 ≡ getD b i 0 → getD (ramClosed t a j) i 0 ≡ getD (ramClosed t b j) i 0
+  close-settles : (j : ℕ) → j < t .opened → (i : ℕ) → SettledAt i a b (ramClosed t a j) (ramClosed t b j)
   unfolding afterClose
-  close-alike j h i e =
+  close-settles j h i =
       let gap = 16 + sizeAt t j in
       let within = record-within t j (r .good) h in
       rw (lines-same (recordAt t j + gap) (totalOf t - gap - recordAt t j) (λ k q. omega arith))
-      (put-alike i (placeOf (t .chain) (t .room)) _ a b (recordAt t j) l e)
+      (put-settles i (placeOf (t .chain) (t .room)) _ a b (recordAt t j) l)
 
   close-stays : (j : ℕ) → j < t .opened → Stays t (closing t j)
   close-stays j h p q =
@@ -87,7 +87,7 @@ module _ (t : Tables) (a b : List ℕ) (r : Ready t (length b)) (l : length a �
       omega (arith, length-append heading (replicate (c .n) 0), length-heading (16 + c .n) (c .number) (c .device) (c .unit), length-replicate {A = ℕ} (c .n) 0) in
       rw (o .room)
       (elim (decLt p (totalOf t)) [
-        | yes q ↦ put-alike (walk p) walk xs a b (totalOf t) l (old-place u (o .chain) p q)
+        | yes q ↦ settled-same (put-settles (walk p) walk xs a b (totalOf t) l) (old-place u (o .chain) p q)
         | no q ↦ put-there (walk p) walk xs a b (totalOf t) (p - totalOf t) l (omega (arith, opens-total (r .good) o few)) (ap walk (omega arith))
       ])
 
@@ -96,50 +96,50 @@ module _ (t : Tables) (a b : List ℕ) (r : Ready t (length b)) (l : length a �
     moved-same : lineFrom (u .chain) (t .room) a 0 (totalOf t) ≡ lineFrom (u .chain) (t .room) b 0 (totalOf t)
     moved-same = bytes-agree (placeOf (u .chain) (t .room)) (placeOf (u .chain) (t .room)) a b 0 0 (totalOf t) (λ k q. old-place u (o .chain) (0 + k) (omega arith))
 
-    -- an index that has the same byte once the line is moved
-    link-then : (i : ℕ)
-        → (let xs = lineFrom (u .chain) (t .room) b 0 (totalOf t) in
-        getD (putLine (u .chain) (t .room - m) a 0 xs) i 0 ≡ getD (putLine (u .chain) (t .room - m) b 0 xs) i 0)
-        → getD (afterLink (u .chain) (t .room) m a (totalOf t)) i 0 ≡ getD (afterLink (u .chain) (t .room) m b (totalOf t)) i 0
-    unfolding afterLink
-    link-then i e =
-        let walk = placeOf (u .chain) (t .room - m) in
-        rw moved-same (put-alike i (placeOf (u .chain) (t .room)) (replicate m 0) _ _ 0 (put-sizes walk _ a b 0 l) e)
+    -- the line moved, and the zeros put behind it
+    abbrev moved : List ℕ → List ℕ
+    moved ram = putLine (u .chain) (t .room - m) ram 0 (lineFrom (u .chain) (t .room) b 0 (totalOf t))
 
-    link-alike : (i : ℕ) → getD a i 0 ≡ getD b i 0 → getD (afterLink (u .chain) (t .room) m a (totalOf t)) i 0 ≡ getD (afterLink (u .chain) (t .room) m b (totalOf t)) i 0
-    link-alike i e = link-then i (put-alike i (placeOf (u .chain) (t .room - m)) _ a b 0 l e)
+    zeros-settle : (i : ℕ) → SettledAt i (moved a) (moved b) (afterLink (u .chain) (t .room) m a (totalOf t)) (afterLink (u .chain) (t .room) m b (totalOf t))
+    unfolding afterLink
+    zeros-settle i =
+        rw moved-same (put-settles i (placeOf (u .chain) (t .room)) (replicate m 0) (moved a) (moved b) 0 (put-sizes (placeOf (u .chain) (t .room - m)) _ a b 0 l))
+
+    link-settles : (i : ℕ) → SettledAt i a b (afterLink (u .chain) (t .room) m a (totalOf t)) (afterLink (u .chain) (t .room) m b (totalOf t))
+    link-settles i =
+        settled-on (put-settles i (placeOf (u .chain) (t .room - m)) _ a b 0 l) (zeros-settle i)
 
     link-line : OnLine u (afterLink (u .chain) (t .room) m a (totalOf t)) (afterLink (u .chain) (t .room) m b (totalOf t))
     link-line p h =
         let walk = placeOf (u .chain) (t .room - m) in
         let total : totalOf u ≡ totalOf t = rw (o .opened, o .channels) in
         let n = length-bytes (placeOf (u .chain) (t .room)) b 0 (totalOf t) in
-        rw (o .room) (link-then (walk p) (put-there (walk p) walk _ a b 0 p l (omega arith) (ap walk (omega arith))))
+        rw (o .room)
+        (settled-same (zeros-settle (walk p)) (put-there (walk p) walk _ a b 0 p l (omega arith) (ap walk (omega arith))))
 
   -- every done call
-  pub done-alike : {c : Call} {d : Decision} → Effect t c d → (i : ℕ) → getD a i 0 ≡ getD b i 0
-      → getD (ramAfter t (d .tables) a (d .ram)) i 0 ≡ getD (ramAfter t (d .tables) b (d .ram)) i 0
+  pub done-settles : {c : Call} {d : Decision} → Effect t c d → (i : ℕ) → SettledAt i a b (ramAfter t (d .tables) a (d .ram)) (ramAfter t (d .tables) b (d .ram))
   unfolding ramAfter afterOpen
-  done-alike (resets {flags}) i e = reset-alike i t a b l e flags
-  done-alike (opens c number asked low new device few fits) i e = put-alike i (placeOf (opening t c .chain) (t .room)) _ a b (totalOf t) l e
-  done-alike (closes h) i e = close-alike _ h i e
-  done-alike (reads h) i e = e
-  done-alike (writes {bytes = bytes} h w) i e = put-alike i (placeOf (t .chain) (t .room)) bytes a b _ l e
-  done-alike (names h) i e = e
-  done-alike counts i e = e
-  done-alike (links {m} {name} w few h fits) i e = link-alike (linking t m (deviceNamed name)) m (linking-links t m (deviceNamed name)) i e
-  done-alike tells i e = e
-  done-alike (bounds s h) i e = e
-  done-alike (grants h) i e = e
-  done-alike (shares s) i e = e
-  done-alike (frees h o) i e = e
-  done-alike (stores {segment} {offset} {bytes} m h) i e = store-alike i a b _ bytes (store-fits t b (rowOf t segment) offset (length bytes) r m h) l e
-  done-alike (loads m h) i e = e
-  done-alike (loads-module {segment} {page} {offset} {stream} n m h) i e =
-      each-alike i t (rowOf t segment) m a b (putsIn page offset stream) r l (stored-below _ _ _ h) e
+  done-settles (resets {flags}) i = reset-settles i t a b l flags
+  done-settles (opens c number asked low new device few fits) i = put-settles i (placeOf (opening t c .chain) (t .room)) _ a b (totalOf t) l
+  done-settles (closes h) i = close-settles _ h i
+  done-settles (reads h) i = left refl refl
+  done-settles (writes {bytes = bytes} h w) i = put-settles i (placeOf (t .chain) (t .room)) bytes a b _ l
+  done-settles (names h) i = left refl refl
+  done-settles counts i = left refl refl
+  done-settles (links {m} {name} w few h fits) i = link-settles (linking t m (deviceNamed name)) m (linking-links t m (deviceNamed name)) i
+  done-settles tells i = left refl refl
+  done-settles (bounds s h) i = left refl refl
+  done-settles (grants h) i = left refl refl
+  done-settles (shares s) i = left refl refl
+  done-settles (frees h o) i = left refl refl
+  done-settles (stores {segment} {offset} {bytes} m h) i = store-settles i a b _ bytes (store-fits t b (rowOf t segment) offset (length bytes) r m h) l
+  done-settles (loads m h) i = left refl refl
+  done-settles (loads-module {segment} {page} {offset} {stream} n m h) i =
+      each-settles i t (rowOf t segment) m a b (putsIn page offset stream) r l (stored-below _ _ _ h)
 
   kept-line : {c : Call} {d : Decision} → Effect t c d → Stays t (d .tables) → OnLine (d .tables) (ramAfter t (d .tables) a (d .ram)) (ramAfter t (d .tables) b (d .ram))
-  kept-line m s p h = rw (s p h .1) (done-alike m (placeOf (t .chain) (t .room) p) (line p (s p h .0)))
+  kept-line m s p h = rw (s p h .1) (settled-same (done-settles m (placeOf (t .chain) (t .room) p)) (line p (s p h .0)))
 
   pub done-line : {c : Call} {d : Decision} → Effect t c d → OnLine (d .tables) (ramAfter t (d .tables) a (d .ram)) (ramAfter t (d .tables) b (d .ram))
   unfolding ramAfter granting sharingLast bounding releasing

@@ -66,28 +66,39 @@ shrunk-grown (suc k) t b a h =
     ∙ ap oneLess (shrunk-grown k (oneMore t) (m .body) (m .apart) (omega (arith, m .free)))
     ∙ less-more t b a (omega arith)
 
+-- by how many segments the room rule lets the chain grow: by none where one is shared, and by no more than are free
+pub data Growth (t : Tables) (k : ℕ) : Type 0 where
+  none : k ≡ 0 → Growth t k
+  some : sharing t ≡ false → k ≤ countOf FREE t → Growth t k
+
+growth-by : (t : Tables) (n : ℕ) → Good t → totalOf t ≤ n → roomFor t (t .room) n ≡ true → (shared : Bool) → sharing t ≡ shared → Growth t (chainLength (t .room) n - t .held)
+growth-by t n g long fits true s =
+    let b = body t g in
+    let h = room-in-bytes t b (t .room) n (no-shorter t g (t .room) n (omega arith) long) .yes fits in
+    let zero-spare : spare t ≡ 0 = rw s in
+    let m = chain-most (t .room) n (t .held - 1) (omega arith) in
+    none (omega (arith, b .chain .holds))
+growth-by t n g long fits false s =
+    let b = body t g in
+    let h = room-in-bytes t b (t .room) n (no-shorter t g (t .room) n (omega arith) long) .yes fits in
+    let free : spare t ≡ countOf FREE t = rw s in
+    let m = chain-most (t .room) n (t .held - 1 + countOf FREE t) (omega arith) in
+    some s (omega (arith, b .chain .holds))
+
+pub growth : (t : Tables) (c : Channel) → Good t → roomFor t (t .room) (totalOf t + (16 + c .n)) ≡ true
+    → Growth t (chainLength (t .room) (totalOf t + (16 + c .n)) - t .held)
+growth t c g fits = growth-by t (totalOf t + (16 + c .n)) g (omega arith) fits (sharing t) refl
+
 -- a chain that grew by k segments, and gave them up again
 record Back (k : ℕ) (t : Tables) : Type 0 where
   back : shrunk k (grown k t) ≡ t
   held : grown k t .held ≡ t .held + k
 
--- by as many as the room rule lets it grow: none where a segment is shared
-back-by : (t : Tables) (n k : ℕ) → Good t → totalOf t ≤ n → roomFor t (t .room) n ≡ true → k ≡ chainLength (t .room) n - t .held
-    → (shared : Bool) → sharing t ≡ shared → Back k t
+grown-back : {t : Tables} {k : ℕ} → Good t → Growth t k → Back k t
 unfolding shrunk grown
-back-by t n k g long fits e true s =
+grown-back g (none z) = rw z (record { back = refl; held = omega arith })
+grown-back {t} {k} g (some s few) =
     let b = body t g in
-    let h = room-in-bytes t b (t .room) n (no-shorter t g (t .room) n (omega arith) long) .yes fits in
-    let none : spare t ≡ 0 = rw s in
-    let m = chain-most (t .room) n (t .held - 1) (omega arith) in
-    let z : k ≡ 0 = omega (arith, b .chain .holds) in
-    rw z (record { back = refl; held = omega arith })
-back-by t n k g long fits e false s =
-    let b = body t g in
-    let h = room-in-bytes t b (t .room) n (no-shorter t g (t .room) n (omega arith) long) .yes fits in
-    let free : spare t ≡ countOf FREE t = rw s in
-    let m = chain-most (t .room) n (t .held - 1 + countOf FREE t) (omega arith) in
-    let few : k ≤ countOf FREE t = omega (arith, b .chain .holds) in
     let apart = shares-no t b s in
     record { back = shrunk-grown k t b apart few; held = grown-held k t b apart few }
 
@@ -99,7 +110,7 @@ taking-beside : (t : Tables) (found : Lookup) (opened : ℕ) (channels : List Ch
 taking-beside t (At row) opened channels = refl
 taking-beside t Nowhere opened channels = refl
 
-grown-beside : (k : ℕ) (t : Tables) (opened : ℕ) (channels : List Channel) → withChannels (grown k t) opened channels ≡ grown k (withChannels t opened channels)
+pub grown-beside : (k : ℕ) (t : Tables) (opened : ℕ) (channels : List Channel) → withChannels (grown k t) opened channels ≡ grown k (withChannels t opened channels)
 unfolding grown oneMore
 grown-beside zero t opened channels = refl
 grown-beside (suc k) t opened channels =
@@ -149,6 +160,6 @@ open-close t c g few fits =
     (λ j a h. g .channels .rest j a (omega (arith, g .sized .channels)))) in
     let same : withChannels (grown k v) (grown k v .opened - 1) (without (t .opened) (grown k v .channels) zeroChannel) ≡ grown k t =
     grown-beside k v _ _ ∙ ap (grown k) (same-channels t _ _ o w) in
-    let b = back-by t (totalOf t + (16 + c .n)) k g (omega arith) fits refl (sharing t) refl in
+    let b = grown-back g (growth t c g fits) in
     let held : grown k v .held ≡ t .held + k = sym (ap (λ (u : Tables). u .held) (grown-beside k t (t .opened + 1) cs)) ∙ b .held in
     cut-back t _ k g same b (grown k v .held) (grown k v .room) held (r .room)
