@@ -2,10 +2,10 @@
 use mathlib.Core.Path.{_≡_, refl, ap, _∙_}
 use mathlib.Core.List.{List, _∷_}
 use mathlib.Core.Bool.{true}
-use Prim.Native.Nat.{ℕ, _+_, _≤_, _<_}
+use Prim.Native.Nat.{ℕ, _+_, _-_, _≤_, _<_}
 use native.Mathlib.Omega.{arith}
 use lib.ListN.{length, getD, take, drop, length-take, length-drop, List·getD-append}
-use lib.Seq.{getD-take, getD-drop}
+use lib.Seq.{getD-take, getD-drop, getD-append-add}
 use Rattle.line.specs.Definition.Ram.{filled}
 use Rattle.kernel.specs.Definition.Tables.{rowOf}
 use Rattle.kernel.specs.Definition.Segments.{mayReach, reachOf}
@@ -56,28 +56,41 @@ pub user-bytes : {h : History} {s : State} → Run h s → (segment offset : ℕ
     → LastStored segment offset (userByte s segment offset) j (userByte t segment offset)
 user-bytes r segment offset w = rw (user-runs segment offset (run-holds (r .started) (r .runs) .0) w .2) (last-stored segment offset _ _)
 
+-- what a load of `size` bytes from index `from` on puts into the output: those bytes, and behind them what was there
+module _ (ram : List ℕ) (from size : ℕ) (output : List ℕ) (fits : from + size ≤ length ram) where
+  pub loaded-length : length (take size (drop from ram)) ≡ size
+  loaded-length = omega (arith, length-take size (drop from ram), length-drop from ram)
+
+  pub loaded-byte : (i : ℕ) → i < size → getD (filled size (take size (drop from ram)) output) i 0 ≡ getD ram (from + i) 0
+  unfolding filled
+  loaded-byte i h =
+      List·getD-append (take size (drop from ram)) (drop size output) 0 i (omega (arith, loaded-length)) ∙ getD-take size (drop from ram) i 0 h ∙ getD-drop from ram i 0
+
+  pub loaded-behind : (i : ℕ) → size ≤ i → getD (filled size (take size (drop from ram)) output) i 0 ≡ getD (drop size output) (i - size) 0
+  unfolding filled
+  loaded-behind i h =
+      let e : length (take size (drop from ram)) + (i - size) ≡ i = omega (arith, loaded-length) in
+      rw e at (getD-append-add (take size (drop from ram)) (drop size output) (i - size) 0)
+
 -- What a done load gives: bytes that are the user's, as they lie.
 load-known : {t : Tables} {d : Decision} {segment offset size : ℕ} → Effect t (load segment offset size) d
     → (mayReach t (rowOf t segment) ≡ true) × (offset + size ≤ reachOf t (rowOf t segment)) × (d .output ≡ from-segment (rowOf t segment) offset size)
 load-known (loads m h) = (m, h, refl)
 
+pub sound-loads : (s : State) → Sound s → (segment offset size : ℕ) (output : List ℕ) → granted (event s (load segment offset size) output .answer) ≡ true
+    → (i : ℕ) → i < size → UsersIn segment (offset + i) s × (getD (event s (load segment offset size) output .output) i 0 ≡ userByte s segment (offset + i))
+unfolding step completed outputAfter
+sound-loads s r segment offset size output e i l =
+    let t = s .tables in
+    let row = rowOf t segment in
+    let known = load-known (effect t (length (s .ram)) (length output) (load segment offset size) refl e) in
+    let fits = store-fits t (s .ram) row offset size r (known .0) (known .1) in
+    let at : segmentAt row + offset + i ≡ segmentAt row + (offset + i) = omega arith in (
+      reach-users t row (offset + i) (known .0) (omega (arith, known .1)),
+      rw (known .2) (loaded-byte (s .ram) (segmentAt row + offset) size output fits i l) ∙ ap (λ (x : ℕ). getD (s .ram) x 0) at,
+    )
+
 pub user-loads : {h : History} {s : State} → Run h s → (segment offset size : ℕ) (output : List ℕ)
     → granted (event s (load segment offset size) output .answer) ≡ true
     → (i : ℕ) → i < size → UsersIn segment (offset + i) s × (getD (event s (load segment offset size) output .output) i 0 ≡ userByte s segment (offset + i))
-unfolding step completed outputAfter filled
-user-loads {s = s} run segment offset size output e i l =
-    let r = run-holds (run .started) (run .runs) .0 in
-    let t = s .tables in
-    let row = rowOf t segment in
-    let c = load segment offset size in
-    let known = load-known (effect t (length (s .ram)) (length output) c refl e) in
-    let fits = store-fits t (s .ram) row offset size r (known .0) (known .1) in
-    let xs = drop (segmentAt row + offset) (s .ram) in
-    let n : length (take size xs) ≡ size = omega (arith, length-take size xs, length-drop (segmentAt row + offset) (s .ram)) in
-    let at : segmentAt row + offset + i ≡ segmentAt row + (offset + i) = omega arith in (
-      reach-users t row (offset + i) (known .0) (omega (arith, known .1)),
-      rw (known .2) (List·getD-append (take size xs) (drop size output) 0 i (omega arith))
-          ∙ getD-take size xs i 0 l
-          ∙ getD-drop (segmentAt row + offset) (s .ram) i 0
-          ∙ ap (λ (x : ℕ). getD (s .ram) x 0) at,
-    )
+user-loads {s = s} run = sound-loads s (run-holds (run .started) (run .runs) .0)

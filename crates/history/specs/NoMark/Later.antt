@@ -6,8 +6,8 @@ use mathlib.Core.Logic.{_⊎_, inl, inr}
 use Prim.Native.Nat.{ℕ, _+_, _-_, _≤_, _<_}
 use native.Mathlib.Decide.{decLt}
 use native.Mathlib.Omega.{arith}
-use lib.ListN.{length, getD, take, drop, length-append, length-take, length-drop, length-replicate, List·getD-append}
-use lib.Seq.{getD-take, getD-drop, getD-append-add, ext-getD}
+use lib.ListN.{length, getD, take, drop, length-append, length-replicate}
+use lib.Seq.{ext-getD}
 use Rattle.line.specs.Definition.Line.{placeOf}
 use Rattle.line.specs.Definition.Ram.{filled}
 use Rattle.line.specs.Definition.Given.{givenOf}
@@ -31,6 +31,7 @@ use Rattle.history.specs.Definition.NoMark.{InRecord, Asked, afterAll, L
 use Rattle.history.specs.Definition.Lent.{bufferOf, sizeOf}
 use Rattle.history.specs.Bytes.LentOn.{known, lent-size, part-byte, no-part}
 use Rattle.history.specs.Bytes.Steps.{store-fits, done-length}
+use Rattle.history.specs.Bytes.UserBytes.{loaded-length, loaded-byte, loaded-behind}
 use Rattle.history.specs.NoMark.Again.{leaves-no-mark}
 use Rattle.history.specs.NoMark.Alike.{Settled, same, left}
 use Rattle.history.specs.NoMark.Lines.{OnLine, lines-same, done-settles, done-line}
@@ -74,36 +75,15 @@ module _ (P : ℕ → Type 0) (was : List ℕ) (t : Tables) (a b : List ℕ) (l 
       record { ready = rw (length-replicate {A = ℕ} (length b) 0) r; size = rw (l .size); each = λ i. inl (rw (l .size)); line = λ p h. rw (l .size) }
   next-so r (does g m) = done-so r m
 
-  -- what is loaded
-  loaded-length : (at size : ℕ) → at + size ≤ length b → (length (take size (drop at a)) ≡ size) × (length (take size (drop at b)) ≡ size)
-  loaded-length at size h =
-      (omega (arith, length-take size (drop at a), length-drop at a, l .size), omega (arith, length-take size (drop at b), length-drop at b))
-
-  loaded-byte : (ram : List ℕ) (at size : ℕ) (output : List ℕ) → length (take size (drop at ram)) ≡ size → (j : ℕ) → j < size
-      → getD (filled size (take size (drop at ram)) output) j 0 ≡ getD ram (at + j) 0
-  unfolding filled
-  loaded-byte ram at size output n j h =
-      List·getD-append (take size (drop at ram)) (drop size output) 0 j (omega arith) ∙ getD-take size (drop at ram) j 0 h ∙ getD-drop at ram j 0
-
-  loaded-behind : (ram : List ℕ) (at size : ℕ) (output : List ℕ) → length (take size (drop at ram)) ≡ size → (j : ℕ) → size ≤ j
-      → getD (filled size (take size (drop at ram)) output) j 0 ≡ getD (drop size output) (j - size) 0
-  unfolding filled
-  loaded-behind ram at size output n j h =
-      let e : length (take size (drop at ram)) + (j - size) ≡ j = omega arith in
-      rw e at (getD-append-add (take size (drop at ram)) (drop size output) (j - size) 0)
-
-  load-byte : (at size : ℕ) (output : List ℕ) → at + size ≤ length b → (j : ℕ)
-      → let x = getD (filled size (take size (drop at a)) output) j 0 in
-      let y = getD (filled size (take size (drop at b)) output) j 0 in
-      (x ≡ y) ⊎ ((j < size) × Lost P was (at + j) x y)
-  load-byte at size output h j =
-      let (n, m) = loaded-length at size h in
+  load-byte : (from size : ℕ) (output : List ℕ) → from + size ≤ length b → (j : ℕ)
+      → let x = getD (filled size (take size (drop from a)) output) j 0 in
+      let y = getD (filled size (take size (drop from b)) output) j 0 in
+      (x ≡ y) ⊎ ((j < size) × Lost P was (from + j) x y)
+  load-byte from size output h j =
+      let g : from + size ≤ length a = rw (l .size) h in
       elim (decLt j size) [
-        | yes q ↦
-            let p = loaded-byte a at size output n j q in
-            let o = loaded-byte b at size output m j q in
-            elim (lost-on (left p o) (l .each (at + j))) [ inl e ↦ inl e | inr e ↦ inr (q, e) ]
-        | no q ↦ inl (loaded-behind a at size output n j (omega arith) ∙ sym (loaded-behind b at size output m j (omega arith)))
+        | yes q ↦ elim (lost-on (left (loaded-byte a from size output g j q) (loaded-byte b from size output h j q)) (l .each (from + j))) [ inl e ↦ inl e | inr e ↦ inr (q, e) ]
+        | no q ↦ inl (loaded-behind a from size output g j (omega arith) ∙ sym (loaded-behind b from size output h j (omega arith)))
       ]
 
   -- of the outputs that a call leaves: as many bytes, and the same but for lost ones that it loads
@@ -146,13 +126,13 @@ module _ (P : ℕ → Type 0) (was : List ℕ) (t : Tables) (a b : List ℕ) (l 
   effect-shows (frees h o) output = all-same refl
   effect-shows (stores m h) output = all-same refl
   effect-shows (loads {segment} {offset} {size} m h) output =
-      let at = segmentAt (rowOf t segment) + offset in
+      let from = segmentAt (rowOf t segment) + offset in
       let fits = store-fits t b (rowOf t segment) offset size (l .ready) m h in
-      let (n, o) = loaded-length at size fits in
+      let lengths = loaded-length a from size output (rw (l .size) fits) ∙ sym (loaded-length b from size output fits) in
       record {
-        size = length-append (take size (drop at a)) (drop size output) ∙ ap (λ (x : ℕ). x + length (drop size output)) (n ∙ sym o)
-            ∙ sym (length-append (take size (drop at b)) (drop size output));
-        bytes = λ j. elim (load-byte at size output fits j) [ inl e ↦ inl e | inr (q, e) ↦ inr (segment, offset, size, refl, refl, q, e) ];
+        size = length-append (take size (drop from a)) (drop size output) ∙ ap (λ (x : ℕ). x + length (drop size output)) lengths
+            ∙ sym (length-append (take size (drop from b)) (drop size output));
+        bytes = λ j. elim (load-byte from size output fits j) [ inl e ↦ inl e | inr (q, e) ↦ inr (segment, offset, size, refl, refl, q, e) ];
       }
   effect-shows (loads-module n m h) output = all-same refl
 
