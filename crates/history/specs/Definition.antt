@@ -1,4 +1,4 @@
--- The words of condition 3, and what is said of the definition.
+-- The words of condition 3 and of order 13, and what is said of the definition.
 pub mod Runs
 pub mod NoMark
 pub mod Loads

@@ -1,4 +1,5 @@
--- A sequence worked out: a start, two opens, a write, a close, a link, a segment shared, a store, a module loaded. Its states meet all that the theorems ask.
+-- A sequence worked out: a start, two opens, a write, a close, a link, a segment shared, a store, a module loaded, an open closed again. Its states meet all that the
+-- theorems ask.
 use mathlib.Core.Path.{_≡_, refl, sym, ap, subst, _∙_}
 use mathlib.Core.Bool.{Bool, true, false, _&&_}
 use mathlib.Core.List.{List, [], _∷_}
@@ -10,6 +11,7 @@ use lib.Dec.{ltb, eqb}
 use lib.ListN.{length, getD}
 use Rattle.names.specs.Definition.Tests.{lettersTest}
 use Rattle.line.specs.Definition.Line.{chainIndexOf, offsetOf, placeOf}
+use Rattle.line.specs.Definition.Ram.{putAt}
 use Rattle.line.specs.Definition.Given.{givenOf}
 use Rattle.line.specs.Definition.Lent.{lentAt}
 use Rattle.line.specs.declared.Lent.the-variants.{Part}
@@ -20,11 +22,12 @@ use Rattle.rows.specs.Laws.Lists.{and-left, and-right}
 use Rattle.rows.specs.Definition.Classes.{SHARED}
 use Rattle.rows.specs.Definition.Sizes.{chainLength, boundaryAt}
 use Rattle.kernel.specs.Cases.{opens}
-use Rattle.kernel.specs.Definition.Tables.{ramSize, classAt, rowOf}
+use Rattle.kernel.specs.Definition.Tables.{ramSize, classAt, rowOf, sharing}
 use Rattle.kernel.specs.Definition.Line.{grown, shrunk}
 use Rattle.kernel.specs.Definition.Start.{noTables}
 use Rattle.kernel.specs.Definition.Answers.{numberOf, bOf, granted, Decision}
 use Rattle.kernel.specs.Definition.Calls.{Call, start, close, read, write, link, set-user-boundary, allocate, store, load-module, isStart}
+use Rattle.kernel.specs.Definition.Bytes.{nothing, in-segment, ramAfter}
 use Rattle.kernel.specs.Definition.Step.{decided, completed, step}
 use Rattle.kernel.specs.Definition.Lend.{lentOnGood, lentOn, partOn}
 use Rattle.kernel.specs.Laws.Ready.{Ready, decided-ready, start-ready}
@@ -32,7 +35,7 @@ use Rattle.kernel.specs.declared.Tables.{Tables}
 use Rattle.kernel.specs.declared.Answer.the-variants.{NoRoom}
 use Rattle.history.specs.Definition.Runs.{State, Event, History, after, event, Started, Runs, stay, then, Any, Run, ReadRight}
 use Rattle.history.specs.Definition.NoMark.{NoMark, Asked, afterAll}
-use Rattle.history.specs.Bytes.Patched.{patched}
+use Rattle.history.specs.Bytes.Patched.{patched, put-at-is}
 use Rattle.history.specs.Bytes.Words.{written, lastWritten, last-written, written-one, stored, lastStored, last-stored, stored-one, resized, lastSize, last-size, size-one}
 use Rattle.history.specs.Definition.Users.{shared, UsersIn, userByte}
 use Rattle.history.specs.Definition.Lent.{sizeOf}
@@ -90,7 +93,7 @@ anything : (s : State) (cs : List Call) → Along Any s cs
 anything s [] = tt
 anything s (c ∷ cs) = (tt, anything (after s c lent) cs)
 
--- they as a sequence that follows
+-- the calls, each with the output that is lent to it
 abbrev asked : List Call → List Asked
 asked [] = []
 asked (c ∷ cs) = record { call = c; output = lent } ∷ asked cs
@@ -187,13 +190,17 @@ calls =
 abbrev more : List Call
 more = store 255 5 (9 ∷ []) ∷ load-module 255 1 6 (0x82 ∷ 0x46 ∷ 0x98 ∷ []) ∷ opens 3 9938 ∷ close 2 ∷ []
 
--- thirty-one channels
-abbrev opened : ℕ → List Call
-opened zero = []
-opened (suc k) = opens k 0 ∷ opened k
+-- The user stores a byte in the part of 255 that is then given up.
+abbrev under : List Call
+under = set-user-boundary 6000 ∷ store 255 5000 (9 ∷ []) ∷ set-user-boundary 1000 ∷ []
+
+-- opens of channels k - 1 down to 0
+abbrev openings : ℕ → List Call
+openings zero = []
+openings (suc k) = opens k 0 ∷ openings k
 
 abbrev thirty-one : List Call
-thirty-one = opened 31
+thirty-one = openings 31
 
 abbrev t₀ : Tables
 t₀ = answered noTables begin .tables
@@ -207,9 +214,12 @@ fit = search needs
 fit-more : NoStarts more
 fit-more = search needs
 
-fit-opened : (k : ℕ) → NoStarts (opened k)
-fit-opened zero = tt
-fit-opened (suc k) = (refl, fit-opened k)
+fit-under : NoStarts under
+fit-under = search needs
+
+fit-openings : (k : ℕ) → NoStarts (openings k)
+fit-openings zero = tt
+fit-openings (suc k) = (refl, fit-openings k)
 
 -- 17 is SHARED
 pub answers : numbers t₀ calls ≡ 0 ∷ 0 ∷ 0 ∷ 0 ∷ 0 ∷ 0 ∷ 0 ∷ 17 ∷ 0 ∷ []
@@ -219,6 +229,19 @@ answers = refl
 pub answers-more : numbers t₁ more ≡ 0 ∷ 0 ∷ 0 ∷ 0 ∷ []
 unfolding decided noTables lettersTest upTo chainLength boundaryAt grown shrunk takenIn bitsIn
 answers-more = refl
+
+-- what order 13's cases are: the chain has grown to three segments; 31 channels are open; 255 is shared
+pub grows : answered t₀ (opens 99 43826) .tables .held ≡ 3
+unfolding decided noTables lettersTest upTo chainLength boundaryAt grown shrunk
+grows = refl
+
+pub all-open : leaves t₀ thirty-one .opened ≡ 31
+unfolding decided noTables lettersTest upTo chainLength boundaryAt grown shrunk
+all-open = refl
+
+pub is-shared : sharing (leaves t₁ under) ≡ true
+unfolding decided noTables lettersTest upTo chainLength boundaryAt grown shrunk
+is-shared = refl
 
 -- channel 2's buffer, on positions 16 to 19 of the line, where R is 10,974
 computed : Part 60106 ≡ lentOn t₁ 65536 2
@@ -340,13 +363,22 @@ module _ (ram : List ℕ) (four : length ram ≡ 65536) where
       ∙ written-one 2 1 (lent-written sequence 2 60106 lent-on 1 (subst (λ (n : ℕ). 1 < n) (sym four-bytes) (omega arith))) (last-written 2 1 _)
       ∙ last 1
 
-  -- Open and close again: from the start, where the chain grows by both free segments, and of n = 0; with 31 channels open; and in s₁, where 255 is shared and
-  -- the record fills the room above the user boundary
+  -- Open and close again: from the start, where the chain grows by both free segments, and of n = 0; with 31 channels open; and in s₂, where 255 is shared
+  -- and the record fills the room above the user boundary
   fresh : Run [] s₀
   fresh = record { first = s₀; started = starts; runs = stay tt }
 
   full : Run (tells [] s₀ thirty-one) (leads s₀ thirty-one)
-  full = record { first = s₀; started = starts; runs = runs [] s₀ thirty-one (fit-opened 31) (anything s₀ thirty-one) (stay tt) }
+  full = record { first = s₀; started = starts; runs = runs [] s₀ thirty-one (fit-openings 31) (anything s₀ thirty-one) (stay tt) }
+
+  abbrev s₂ : State
+  s₂ = leads s₁ under
+
+  k₂ : Known s₂ (leaves t₁ under)
+  k₂ = known-all k₁ under fit-under
+
+  longer : Run (tells (tells [] s₀ calls) s₁ under) s₂
+  longer = record { first = sequence .first; started = sequence .started; runs = runs (tells [] s₀ calls) s₁ under fit-under (anything s₁ under) (sequence .runs) }
 
   again : {h : History} {s : State} {t : Tables} → Run h s → Known s t → (n : ℕ) → granted (answered t (opens 99 n) .answer) ≡ true
       → NoMark s (after s (opens 99 n) lent) 99 n lent
@@ -362,23 +394,46 @@ module _ (ram : List ℕ) (four : length ram ≡ 65536) where
 
   pub again-full : NoMark (leads s₀ thirty-one) (after (leads s₀ thirty-one) (opens 99 5) lent) 99 5 lent
   unfolding decided noTables lettersTest upTo chainLength boundaryAt grown shrunk
-  again-full = again full (known-all k₀ thirty-one (fit-opened 31)) 5 refl
+  again-full = again full (known-all k₀ thirty-one (fit-openings 31)) 5 refl
 
-  pub again-shared : NoMark s₁ (after s₁ (opens 99 9938) lent) 99 9938 lent
+  pub again-shared : NoMark s₂ (after s₂ (opens 99 9938) lent) 99 9938 lent
   unfolding decided noTables lettersTest upTo chainLength boundaryAt grown shrunk
-  again-shared = again sequence k₁ 9938 refl
+  again-shared = again longer k₂ 9938 refl
 
-  -- its first position is the 21st of the line: the place before that of channel 2's last byte
-  pub place-zero : getD (after (after s₁ (opens 99 9938) lent) (close 99) lent .ram) 60105 0 ≡ 0
+  -- byte 5,000 of 255, which lay in the user's part, is the 9 that was stored; the record lies on it, and it is zero
+  ram-stored : {s : State} {t : Tables} → Known s t → (d : Decision) → answered t (store 255 5000 (9 ∷ [])) ≡ d → d .ram ≡ in-segment 3 5000 (9 ∷ [])
+      → after s (store 255 5000 (9 ∷ [])) lent .ram ≡ putAt (s .ram) 54152 (9 ∷ [])
+  unfolding step completed ramAfter
+  ram-stored k d e f = rw (k .tables, k .size, e, f)
+
+  ram-kept : {s : State} {t : Tables} → Known s t → (c : Call) (d : Decision) → answered t c ≡ d → d .ram ≡ nothing → after s c lent .ram ≡ s .ram
+  unfolding step completed ramAfter
+  ram-kept k c d e f = rw (k .tables, k .size, e, f)
+
+  pub byte-there : getD (s₂ .ram) 54152 0 ≡ 9
+  unfolding patched decided noTables lettersTest upTo chainLength boundaryAt grown shrunk
+  byte-there =
+      let a = known-next k₁ (set-user-boundary 6000) refl in
+      let b = known-next a (store 255 5000 (9 ∷ [])) refl in
+      let long = a .size in
+      ap (λ (ram : List ℕ). getD ram 54152 0) (ram-kept b (set-user-boundary 1000) _ refl refl ∙ ram-stored a _ refl refl)
+      ∙ put-at-is _ 54152 (9 ∷ []) 54152 (omega arith)
+
+  pub byte-lost : getD (after (after s₂ (opens 99 9938) lent) (close 99) lent .ram) 54152 0 ≡ 0
   unfolding placeOf chainIndexOf offsetOf decided noTables lettersTest upTo chainLength boundaryAt grown shrunk
-  place-zero = again-shared .zero 60105 (rw (known-next k₁ (opens 99 9938) refl .tables) (record { k = 0; within = omega arith; place = refl }))
+  byte-lost = again-shared .zero 54152 (rw (known-next k₂ (opens 99 9938) refl .tables) (record { k = 5953; within = omega arith; place = refl }))
 
   -- the next call has the same reply: one byte more than fits is refused for room; and the calls of `more` leave the same tables
-  pub next-no-room : event (after (after s₁ (opens 99 9938) lent) (close 99) lent) (opens 3 9939) lent .answer ≡ NoRoom
+  refused-there : event s₂ (opens 3 9939) lent .answer ≡ NoRoom
   unfolding decided noTables lettersTest upTo chainLength boundaryAt grown shrunk
-  next-no-room =
-      ap (λ (e : Event). e .answer) (reachable-no-mark-next sequence 99 0 9938 _ lent lent (ap granted (known-answer k₁ (opens 99 9938))) (opens 3 9939) lent) ∙ no-room
+  refused-there = known-answer k₂ (opens 3 9939)
 
-  pub later-tables : afterAll (after (after s₁ (opens 99 9938) lent) (close 99) lent) (asked more) .tables ≡ leads s₁ more .tables
+  done-there : granted (event s₂ (opens 99 9938) lent .answer) ≡ true
   unfolding decided noTables lettersTest upTo chainLength boundaryAt grown shrunk
-  later-tables = reachable-no-mark-later sequence 99 0 9938 _ lent lent (ap granted (known-answer k₁ (opens 99 9938))) (asked more) .tables
+  done-there = ap granted (known-answer k₂ (opens 99 9938))
+
+  pub next-no-room : event (after (after s₂ (opens 99 9938) lent) (close 99) lent) (opens 3 9939) lent .answer ≡ NoRoom
+  next-no-room = ap (λ (e : Event). e .answer) (reachable-no-mark-next longer 99 0 9938 _ lent lent done-there (opens 3 9939) lent) ∙ refused-there
+
+  pub later-tables : afterAll (after (after s₂ (opens 99 9938) lent) (close 99) lent) (asked more) .tables ≡ leads s₂ more .tables
+  later-tables = reachable-no-mark-later longer 99 0 9938 _ lent lent done-there (asked more) .tables

@@ -1,4 +1,4 @@
--- Condition 3 over any sequence of calls, and that each input has exactly one result.
+-- Condition 3 over any sequence of calls, that each input has exactly one result, and that an open and its close leave no mark.
 pub mod Definition
 pub mod Bytes
 pub mod Room

@@ -2,7 +2,7 @@
 mod Tables
 mod Spare
 pub mod Again
-mod Alike
+mod Settled
 mod Lines
 pub mod Later
 pub mod Next

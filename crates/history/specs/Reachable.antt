@@ -55,16 +55,16 @@ module _ {h : History} {s : State} (r : Run h s) (output : List ℕ) where
   reachable-link m name p = link-exactly (s .tables) (length (s .ram)) (length output) m name (reachable r .0 .good .sized) p
 
 -- Open and close again leaves no mark: the next call has the same reply, and any calls that follow but for bytes that they load from where the record lay.
-module _ {h : History} {s : State} (r : Run h s) (channel driver n : ℕ) (name output lent : List ℕ)
+module _ {h : History} {s : State} (r : Run h s) (channel driver n : ℕ) (name output output₁ : List ℕ)
     (done : granted (event s («open» channel driver n name) output .answer) ≡ true) where
   abbrev opened : State
   opened = after s («open» channel driver n name) output
 
-  pub reachable-no-mark : NoMark s opened channel n lent
-  reachable-no-mark = let g = reachable r .0 in leaves-no-mark s (g .good) (g .size) channel driver n name output lent done
+  pub reachable-no-mark : NoMark s opened channel n output₁
+  reachable-no-mark = let g = reachable r .0 in leaves-no-mark s (g .good) (g .size) channel driver n name output output₁ done
 
-  pub reachable-no-mark-next : (c : Call) (next : List ℕ) → event (after opened (close channel) lent) c next ≡ event s c next
-  reachable-no-mark-next = let g = reachable r .0 in leaves-no-mark-next s (g .good) (g .size) channel driver n name output lent done
+  pub reachable-no-mark-next : (c : Call) (output₂ : List ℕ) → event (after opened (close channel) output₁) c output₂ ≡ event s c output₂
+  reachable-no-mark-next = let g = reachable r .0 in leaves-no-mark-next s (g .good) (g .size) channel driver n name output output₁ done
 
-  pub reachable-no-mark-later : (rest : List Asked) → AlikeBut (InRecord (opened .tables) channel) (s .ram) (afterAll s rest) (afterAll (after opened (close channel) lent) rest)
-  reachable-no-mark-later = let g = reachable r .0 in leaves-no-mark-later s (g .good) (g .size) channel driver n name output lent done
+  pub reachable-no-mark-later : (rest : List Asked) → AlikeBut (InRecord (opened .tables) channel) (s .ram) (afterAll s rest) (afterAll (after opened (close channel) output₁) rest)
+  reachable-no-mark-later = let g = reachable r .0 in leaves-no-mark-later s (g .good) (g .size) channel driver n name output output₁ done

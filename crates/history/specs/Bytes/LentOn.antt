@@ -56,24 +56,24 @@ module _ (t : Tables) (ram : List ℕ) (r : Ready t (length ram)) (channel : ℕ
       rw (lent-open (o .known), lt-ltb 0 (sizeOf t channel) (o .some), eq-eqb (chainIndexOf (t .room) (bufferOf t channel)) (chainIndexOf (t .room) end) (sym same))
 
   module _ (at : ℕ) (e : Part at ≡ lentOn t (length ram) channel) where
-    pub known : channelAt t channel < t .opened
-    known = elim (decLt (channelAt t channel) (t .opened)) [ yes h ↦ h | no h ↦ absurd (never (e ∙ lent-closed (omega arith))) ]
+    pub lent-known : channelAt t channel < t .opened
+    lent-known = elim (decLt (channelAt t channel) (t .opened)) [ yes h ↦ h | no h ↦ absurd (never (e ∙ lent-closed (omega arith))) ]
       where
         never : Part at ≡ Nothing → ⊥
         never f = let z : _≡_ {A = ℕ} 0 1 = cc in omega arith
 
     lent : Part at ≡ lentAt (t .chain) (t .room) (bufferOf t channel) (sizeOf t channel)
-    lent = e ∙ lent-open known
+    lent = e ∙ lent-open lent-known
 
     lent-one : OneSegment t channel
     lent-one = record {
-      known = known;
-      some = lies (t .chain) (t .room) (bufferOf t channel) (sizeOf t channel) at (chained known .small) lent .some;
-      same = lent-index (t .chain) (t .room) (bufferOf t channel) (sizeOf t channel) at ram (chained known) lent;
+      known = lent-known;
+      some = lies (t .chain) (t .room) (bufferOf t channel) (sizeOf t channel) at (chained lent-known .small) lent .some;
+      same = lent-index (t .chain) (t .room) (bufferOf t channel) (sizeOf t channel) at ram (chained lent-known) lent;
     }
 
     pub lent-size : length (partOn t ram channel) ≡ sizeOf t channel
-    lent-size = rw (part-lent, ← e) (lent-length (t .chain) (t .room) (bufferOf t channel) (sizeOf t channel) at ram (chained known) lent)
+    lent-size = rw (part-lent, ← e) (lent-length (t .chain) (t .room) (bufferOf t channel) (sizeOf t channel) at ram (chained lent-known) lent)
 
     pub part-byte : (k : ℕ) → k < sizeOf t channel
         → getD (partOn t ram channel) (sizeOf t channel - 1 - k) 0 ≡ getD ram (placeOf (t .chain) (t .room) (bufferOf t channel + k)) 0
@@ -81,12 +81,12 @@ module _ (t : Tables) (ram : List ℕ) (r : Ready t (length ram)) (channel : ℕ
         let n = sizeOf t channel in
         let back : n - 1 - (n - 1 - k) ≡ k = omega arith in
         let byte : getD (partOf ram n (Part at)) (n - 1 - k) 0 ≡ getD (lineFrom (t .chain) (t .room) ram (bufferOf t channel) n) k 0 =
-        rw back at (lent-byte (t .chain) (t .room) (bufferOf t channel) n at ram (chained known) lent (n - 1 - k) (omega arith)) in
+        rw back at (lent-byte (t .chain) (t .room) (bufferOf t channel) n at ram (chained lent-known) lent (n - 1 - k) (omega arith)) in
         let part : getD (partOn t ram channel) (n - 1 - k) 0 ≡ getD (partOf ram n (Part at)) (n - 1 - k) 0 = rw (part-lent, ← e) in
         part ∙ byte ∙ bytes-at (placeOf (t .chain) (t .room)) ram (bufferOf t channel) n k h
 
     lent-holds : (f : ℕ → ℕ → ℕ) → Holds f t ram → (k : ℕ) → k < sizeOf t channel → getD (partOn t ram channel) (sizeOf t channel - 1 - k) 0 ≡ f channel k
-    lent-holds f holds k h = part-byte k h ∙ holds (channelAt t channel) known k h ∙ ap (λ (x : ℕ). f x k) (open-at t (r .good) channel known .number)
+    lent-holds f holds k h = part-byte k h ∙ holds (channelAt t channel) lent-known k h ∙ ap (λ (x : ℕ). f x k) (open-at t (r .good) channel lent-known .number)
 
   pub no-part : Nothing ≡ lentOn t (length ram) channel → partOn t ram channel ≡ []
   unfolding partOf

@@ -1,6 +1,6 @@
--- The line's places: no place of the line is the user's.
+-- The line's places: where they lie once the chain grew or a record went; all are the system's, none is the user's.
 use mathlib.Core.Path.{_≡_, refl, sym, ap, _∙_}
-use mathlib.Core.Bool.{Bool, true, false, cond, _||_, false≢true}
+use mathlib.Core.Bool.{Bool, true, false, cond, not, _||_, false≢true}
 use mathlib.Core.List.{List}
 use Prim.Native.Nat.{ℕ, _+_, _-_, _*_, _≤_, _<_}
 use native.Mathlib.Decide.{decLe, decLt, ℕ-discrete}
@@ -14,7 +14,7 @@ use Rattle.rows.specs.Definition.Sizes.{chainLength, boundaryAt}
 use Rattle.rows.specs.Laws.Sizes.{Ends, ends, length-high, length-some, edge-low}
 use Rattle.line.specs.Definition.Line.{chainIndexOf, offsetOf, placeOf}
 use Rattle.line.specs.Laws.Places.{index-low, index-high, offset-low, offset-high, offset-lt}
-use Rattle.kernel.specs.Definition.Tables.{SEGMENT, classAt}
+use Rattle.kernel.specs.Definition.Tables.{SEGMENT, classAt, sharing}
 use Rattle.kernel.specs.Definition.Line.{totalOf}
 use Rattle.kernel.specs.Definition.Segments.{mayReach, reachOf}
 use Rattle.kernel.specs.Definition.Good.{Good}
@@ -22,7 +22,8 @@ use Rattle.kernel.specs.Definition.Bytes.{segmentAt}
 use Rattle.kernel.specs.Laws.Changes.{Closed}
 use Rattle.kernel.specs.Laws.Facts.{chain-exactly, chain-once, room-small, user-small}
 use Rattle.kernel.specs.declared.Tables.{Tables}
-use Rattle.history.specs.Definition.Places.{inSystem, Outside}
+use Rattle.history.specs.Definition.Layout.{Place}
+use Rattle.history.specs.Definition.Places.{inSystem, offered, Outside}
 use Rattle.history.specs.Definition.Users.{Users, page-zero, own, shared}
 
 -- a position lies at the same place of two chains that hold its segment alike
@@ -51,7 +52,7 @@ pub closed-place : (t u : Tables) (j : ℕ) → Closed t u j → Good u → (p :
 closed-place t u j o g p h =
     place-same (u .chain) (t .chain) (u .room) p (o .chain (chainIndexOf (u .room) p) (index-held u g p h)) ∙ ap (λ (x : ℕ). placeOf (t .chain) x p) (o .room)
 
--- a position is, in the last of the line's segments, no lower than the EXOS boundary
+-- in the last of the line's segments a position is no lower than the EXOS boundary
 edge-under : (room total p : ℕ) → p < total → chainIndexOf room p + 1 ≡ chainLength room total → boundaryAt room total ≤ offsetOf room p
 edge-under room total p h e =
     elim (decLt p room) [
@@ -85,10 +86,13 @@ reach-users t row offset m h =
           ]
     ]
 
--- held once, or not at all
-holds-in : (b : Bool) → 1 ≤ cond {A = ℕ} b 1 0 → b ≡ true
-holds-in true h = refl
-holds-in false h = absurd (omega arith)
+-- what the chain holds is the system's
+pub held-in : (t : Tables) (row : ℕ) → 1 ≤ timesHeld (classAt t row) → inSystem t row ≡ true
+held-in t row = go (inSystem t row)
+  where
+    go : (b : Bool) → 1 ≤ cond {A = ℕ} b 1 0 → b ≡ true
+    go true h = refl
+    go false h = absurd (omega arith)
 
 module _ (t : Tables) (g : Good t) where
   -- a place of the chain's segment i that is in a row of another class than system and shared
@@ -109,18 +113,7 @@ module _ (t : Tables) (g : Good t) where
       let last : i ≡ t .held - 1 = chain-once t g i (t .held - 1) l (omega arith) (e ∙ sym (g .chain .last row k c)) in
       (omega arith, h)
 
-  -- no place of the line is the user's
-  pub off-line : (row offset : ℕ) → Users t row offset → (p : ℕ) → p < totalOf t → segmentAt row + offset ≡ placeOf (t .chain) (t .room) p → ⊥
-  unfolding placeOf
-  off-line row offset u p h e =
-      let so = users-small row offset u in
-      let sp = offset-lt (t .room) p (room-small t g) in
-      let same : at (t .chain) (chainIndexOf (t .room) p) ≡ row = omega arith in
-      let l = index-held t g p h in
-      let last = users-last row offset (chainIndexOf (t .room) p) u l same in
-      omega (arith, edge-under (t .room) (totalOf t) p h (last .0 ∙ g .line), last .1, g .user .most)
-
-  -- nor is one of segment 255 from R on
+  -- no place of segment 255 from R on is the user's
   pub off-room : (row offset : ℕ) → Users t row offset → (o : ℕ) → t .room ≤ o → o < 16384 → segmentAt row + offset ≡ at (t .chain) 0 * 16384 + o → ⊥
   off-room row offset u o h l e =
       let so = users-small row offset u in
@@ -139,7 +132,7 @@ module _ (t : Tables) (g : Good t) where
       record {
         place = record {
           known = g .chain .rows i l;
-          chosen = holds-in (inSystem t row) (chain-exactly t g .only i l);
+          chosen = held-in t row (chain-exactly t g .only i l);
           inside = offset-lt (t .room) p (room-small t g);
           room = λ e.
               let z : i ≡ 0 = chain-once t g i 0 l m (e ∙ sym (g .chain .starts)) in
@@ -150,3 +143,28 @@ module _ (t : Tables) (g : Good t) where
             let last : i ≡ t .held - 1 = chain-once t g i (t .held - 1) l (omega arith) (sym (g .chain .last row (g .chain .rows i l) e)) in
             omega (arith, edge-under (t .room) (totalOf t) p h (omega (arith, g .line)), g .user .most);
       }
+
+  -- a place that is offered to the line is not the user's
+  pub offered-not : (p : Place) → Outside t (t .room) (offered t) p → ¬ Users t (p .row) (p .offset)
+  offered-not p o (page-zero z h) = false≢true (and-right (not (sharing t)) _ (rw (z, g .classes .page) at (o .place .chosen)))
+  offered-not p o (own k c h) = false≢true (and-right (not (sharing t)) _ (rw c at (o .place .chosen)))
+  offered-not p o (shared k c h) = omega (arith, o .outside c)
+
+  -- an index that is a place offered to the line is no place of the user's
+  pub apart-users : (row offset : ℕ) → Users t row offset → (p : Place) → Outside t (t .room) (offered t) p → ¬ (segmentAt row + offset ≡ segmentAt (p .row) + p .offset)
+  apart-users row offset u p o e =
+      let small = users-small row offset u in
+      let inside = o .place .inside in
+      let here : row ≡ p .row = omega arith in
+      let there : offset ≡ p .offset = omega arith in
+      offered-not p o (rw (here, there) at u)
+
+  -- so that no place of the line is the user's
+  pub off-line : (row offset : ℕ) → Users t row offset → (p : ℕ) → p < totalOf t → segmentAt row + offset ≡ placeOf (t .chain) (t .room) p → ⊥
+  unfolding placeOf
+  off-line row offset u p h e =
+      let o = line-outside p h in
+      apart-users row offset u _ (record {
+        place = record { known = o .place .known; chosen = rw (o .place .chosen); inside = o .place .inside; room = o .place .room };
+        outside = o .outside;
+      }) (omega arith)

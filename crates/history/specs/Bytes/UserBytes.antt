@@ -57,19 +57,19 @@ pub user-bytes : {h : History} {s : State} → Run h s → (segment offset : ℕ
 user-bytes r segment offset w = rw (user-runs segment offset (run-holds (r .started) (r .runs) .0) w .2) (last-stored segment offset _ _)
 
 -- what a load of `size` bytes from index `from` on puts into the output: those bytes, and behind them what was there
-module _ (ram : List ℕ) (from size : ℕ) (output : List ℕ) (fits : from + size ≤ length ram) where
-  pub loaded-length : length (take size (drop from ram)) ≡ size
-  loaded-length = omega (arith, length-take size (drop from ram), length-drop from ram)
+pub loaded-length : (ram : List ℕ) (from size : ℕ) → from + size ≤ length ram → length (take size (drop from ram)) ≡ size
+loaded-length ram from size fits = omega (arith, length-take size (drop from ram), length-drop from ram)
 
+module _ (ram : List ℕ) (from size : ℕ) (output : List ℕ) (fits : from + size ≤ length ram) where
   pub loaded-byte : (i : ℕ) → i < size → getD (filled size (take size (drop from ram)) output) i 0 ≡ getD ram (from + i) 0
   unfolding filled
   loaded-byte i h =
-      List·getD-append (take size (drop from ram)) (drop size output) 0 i (omega (arith, loaded-length)) ∙ getD-take size (drop from ram) i 0 h ∙ getD-drop from ram i 0
+      List·getD-append (take size (drop from ram)) (drop size output) 0 i (omega (arith, loaded-length ram from size fits)) ∙ getD-take size (drop from ram) i 0 h ∙ getD-drop from ram i 0
 
   pub loaded-behind : (i : ℕ) → size ≤ i → getD (filled size (take size (drop from ram)) output) i 0 ≡ getD (drop size output) (i - size) 0
   unfolding filled
   loaded-behind i h =
-      let e : length (take size (drop from ram)) + (i - size) ≡ i = omega (arith, loaded-length) in
+      let e : length (take size (drop from ram)) + (i - size) ≡ i = omega (arith, loaded-length ram from size fits) in
       rw e at (getD-append-add (take size (drop from ram)) (drop size output) (i - size) 0)
 
 -- What a done load gives: bytes that are the user's, as they lie.

@@ -25,40 +25,42 @@ pub record InRecord (t : Tables) (channel i : ℕ) : Type 0 where
   pub within : k < 16 + sizeAt t (channelAt t channel)
   pub place : i ≡ placeOf (t .chain) (t .room) (recordAt t (channelAt t channel) + k)
 
--- s is the state before the open, `opened` the one that it left; the close is lent `output`
-pub record NoMark (s opened : State) (channel n : ℕ) (output : List ℕ) : Type 0 where
-  -- the close is done, and leaves the output as it was
-  pub done : event opened (close channel) output ≡ record { call = close channel; answer = Done 0 0; output = output }
+-- s is the state before the open, `opened` the one that it left; the close is lent `output₁`
+pub record NoMark (s opened : State) (channel n : ℕ) (output₁ : List ℕ) : Type 0 where
+  -- the close is done, and leaves its output as it was
+  pub done : event opened (close channel) output₁ ≡ record { call = close channel; answer = Done 0 0; output = output₁ }
   -- it "gives back the same tables"
-  pub tables : after opened (close channel) output .tables ≡ s .tables
-  -- "and every RAM byte outside that record's positions"
-  pub size : length (after opened (close channel) output .ram) ≡ length (s .ram)
-  pub kept : (i : ℕ) → ¬ InRecord (opened .tables) channel i → getD (after opened (close channel) output .ram) i 0 ≡ getD (s .ram) i 0
+  pub tables : after opened (close channel) output₁ .tables ≡ s .tables
+  -- "and every RAM byte outside that record's positions"; the RAM is as long as it was
+  pub size : length (after opened (close channel) output₁ .ram) ≡ length (s .ram)
+  pub kept : (i : ℕ) → ¬ InRecord (opened .tables) channel i → getD (after opened (close channel) output₁ .ram) i 0 ≡ getD (s .ram) i 0
   -- "those are zero"
-  pub zero : (i : ℕ) → InRecord (opened .tables) channel i → getD (after opened (close channel) output .ram) i 0 ≡ 0
-  -- Which they are: 16 + n positions, from T before the open on
+  pub zero : (i : ℕ) → InRecord (opened .tables) channel i → getD (after opened (close channel) output₁ .ram) i 0 ≡ 0
+  -- More than the order says. Which they are: the channel was open, and its record has 16 + n positions, from T before the open on
+  pub is-open : channelAt (opened .tables) channel < opened .tables .opened
   pub first : recordAt (opened .tables) (channelAt (opened .tables) channel) ≡ totalOf (s .tables)
-  pub asked : sizeAt (opened .tables) (channelAt (opened .tables) channel) ≡ n
-  -- Whose they were: none lies where a position of the line before lay, and each in the chain or, if nothing is shared, in a free segment, "less the user's
-  -- part of a shared one"
+  pub buffer : sizeAt (opened .tables) (channelAt (opened .tables) channel) ≡ n
+  -- And whose they were: none lies where a position of the line before lay; each lies in the chain, in 255 below R, or, if nothing is shared, in a free
+  -- segment, "less the user's part of a shared one"
   pub apart : (i : ℕ) → InRecord (opened .tables) channel i → (p : ℕ) → p < totalOf (s .tables) → ¬ (i ≡ placeOf (s .tables .chain) (s .tables .room) p)
-  pub spare : (i : ℕ) → InRecord (opened .tables) channel i
+  pub whose : (i : ℕ) → InRecord (opened .tables) channel i
       → (p : Place) × (i ≡ segmentAt (p .row) + p .offset) × Outside (s .tables) (s .tables .room) (offered (s .tables)) p
 
--- "for good tables, a done open followed at once by that channel's close": for any name and any output lent to either call
+-- "for good tables, a done open followed at once by that channel's close": for any name and any outputs
 abbrev pub LeavesNoMark : Type 0
 LeavesNoMark =
-    (s : State) → Good (s .tables) → length (s .ram) ≡ ramSize (s .tables) → (channel driver n : ℕ) (name output lent : List ℕ)
-    → granted (event s («open» channel driver n name) output .answer) ≡ true → NoMark s (after s («open» channel driver n name) output) channel n lent
+    (s : State) → Good (s .tables) → length (s .ram) ≡ ramSize (s .tables) → (channel driver n : ℕ) (name output output₁ : List ℕ)
+    → granted (event s («open» channel driver n name) output .answer) ≡ true → NoMark s (after s («open» channel driver n name) output) channel n output₁
 
--- The next call, whichever it is, has the reply that it would have had without the two.
+-- "this leaves no mark", of what follows, which the order does not spell out. The next call, whichever it is, has the reply that it would have had without
+-- the two.
 abbrev pub LeavesNoMarkNext : Type 0
 LeavesNoMarkNext =
-    (s : State) → Good (s .tables) → length (s .ram) ≡ ramSize (s .tables) → (channel driver n : ℕ) (name output lent : List ℕ)
-    → granted (event s («open» channel driver n name) output .answer) ≡ true → (c : Call) (next : List ℕ)
-    → event (after (after s («open» channel driver n name) output) (close channel) lent) c next ≡ event s c next
+    (s : State) → Good (s .tables) → length (s .ram) ≡ ramSize (s .tables) → (channel driver n : ℕ) (name output output₁ : List ℕ)
+    → granted (event s («open» channel driver n name) output .answer) ≡ true → (c : Call) (output₂ : List ℕ)
+    → event (after (after s («open» channel driver n name) output) (close channel) output₁) c output₂ ≡ event s c output₂
 
--- What follows: calls made one after another, each with the output that is lent to it, and the state that they leave.
+-- Calls made one after another, each with the output that is lent to it, and the state that they leave.
 pub record Asked : Type 0 where
   pub call : Call
   pub output : List ℕ
@@ -67,7 +69,7 @@ abbrev pub afterAll : State → List Asked → State
 afterAll s [] = s
 afterAll s (a ∷ rest) = afterAll (after s (a .call) (a .output)) rest
 
--- a byte at a place of P that is zero here, and there still what it was in an earlier RAM
+-- a byte at place i of P: `here`, after the two calls, zero; `there`, without them, what it was in the RAM `was`
 pub record Lost (P : ℕ → Type 0) (was : List ℕ) (i here there : ℕ) : Type 0 where
   pub place : P i
   pub zero : here ≡ 0
@@ -94,11 +96,11 @@ pub record AlikeBut (P : ℕ → Type 0) (was : List ℕ) (s u : State) : Type 0
   pub bytes : (c : Call) (output : List ℕ) (j : ℕ) → (getD (event u c output .output) j 0 ≡ getD (event s c output .output) j 0) ⊎ LoadsLost P was s u c output j
   pub lent : (channel : ℕ) → partOn (u .tables) (u .ram) channel ≡ partOn (s .tables) (s .ram) channel
 
--- Whatever calls follow, a start among them or not: what they find is what they would have found without the two, but for bytes that the record lay on and
--- that nothing was put over since, which are zero
+-- Whatever calls follow, a start among them or not: what they find is what they would have found without the two, but for bytes where the record lay,
+-- which are zero, and which without the two are still what they were before the open
 abbrev pub LeavesNoMarkLater : Type 0
 LeavesNoMarkLater =
-    (s : State) → Good (s .tables) → length (s .ram) ≡ ramSize (s .tables) → (channel driver n : ℕ) (name output lent : List ℕ)
+    (s : State) → Good (s .tables) → length (s .ram) ≡ ramSize (s .tables) → (channel driver n : ℕ) (name output output₁ : List ℕ)
     → granted (event s («open» channel driver n name) output .answer) ≡ true → (rest : List Asked)
     → let opened = after s («open» channel driver n name) output in
-    AlikeBut (InRecord (opened .tables) channel) (s .ram) (afterAll s rest) (afterAll (after opened (close channel) lent) rest)
+    AlikeBut (InRecord (opened .tables) channel) (s .ram) (afterAll s rest) (afterAll (after opened (close channel) output₁) rest)

@@ -63,8 +63,8 @@ module _ (t : Tables) (ram : List ℕ) (r : Ready t (length ram)) (c : Channel) 
   first : recordAt u (t .opened) ≡ totalOf t
   first = opens-starts o (t .opened) (omega arith)
 
-  asked : sizeAt u (t .opened) ≡ c .n
-  asked = ap (λ (x : Channel). x .n) (opens-row (r .good) o few)
+  buffer : sizeAt u (t .opened) ≡ c .n
+  buffer = ap (λ (x : Channel). x .n) (opens-row (r .good) o few)
 
   chain : Chain (u .chain) (t .room) (totalOf t + 16 + c .n) (length ram)
   chain = opens-chain r o few s
@@ -74,15 +74,15 @@ module _ (t : Tables) (ram : List ℕ) (r : Ready t (length ram)) (c : Channel) 
 
   closed : points.Closed (u .chain) (t .room) held (totalOf t) (16 + c .n) (totalOf t + 16 + c .n) (ramClosed u held (t .opened))
   closed =
-      rw (o .room, first, asked, opens-total (r .good) o few)
+      rw (o .room, first, buffer, opens-total (r .good) o few)
       (closed-points (u .chain) (t .room) held (totalOf t) (16 + c .n) (totalOf t + 16 + c .n) (rw (opened .size) chain) (omega arith))
 
   -- its positions
   put-in : (i k : ℕ) → k < 16 + c .n → i ≡ placeOf (u .chain) (t .room) (totalOf t + k) → InRecord u (c .number) i
-  put-in i k h e = record { k = k; within = rw (last, asked) h; place = rw (last, first, o .room) e }
+  put-in i k h e = record { k = k; within = rw (last, buffer) h; place = rw (last, first, o .room) e }
 
   short : (i : ℕ) (in-it : InRecord u (c .number) i) → in-it .k < 16 + c .n
-  short i in-it = rw (last, asked) at (in-it .within)
+  short i in-it = rw (last, buffer) at (in-it .within)
 
   place : (i : ℕ) (in-it : InRecord u (c .number) i) → i ≡ placeOf (u .chain) (t .room) (totalOf t + in-it .k)
   place i in-it = rw (last, first, o .room) at (in-it .place)
@@ -97,54 +97,55 @@ module _ (t : Tables) (ram : List ℕ) (r : Ready t (length ram)) (c : Channel) 
       let l = short i in-it in
       ap (λ (x : ℕ). getD (ramClosed u held (t .opened)) x 0) (place i in-it) ∙ closed .zeroed (totalOf t + in-it .k) (omega arith) (omega arith) (omega arith)
 
-  spare-place : (i : ℕ) → InRecord u (c .number) i → (p : Place) × (i ≡ segmentAt (p .row) + p .offset) × Outside t (t .room) (offered t) p
+  offered-place : (i : ℕ) → InRecord u (c .number) i → (p : Place) × (i ≡ segmentAt (p .row) + p .offset) × Outside t (t .room) (offered t) p
   unfolding placeOf
-  spare-place i in-it =
+  offered-place i in-it =
       let l = short i in-it in
       let q = totalOf t + in-it .k in
       let p : Place = record { row = at (u .chain) (chainIndexOf (t .room) q); offset = offsetOf (t .room) q } in
       (p, omega (arith, place i in-it), opened-outside t c (r .good) fits (s .good) q (omega (arith, opens-total (r .good) o few)))
 
-  off-line : (i : ℕ) → InRecord u (c .number) i → (p : ℕ) → p < totalOf t → ¬ (i ≡ placeOf (t .chain) (t .room) p)
-  off-line i in-it p h e =
+  off-old-line : (i : ℕ) → InRecord u (c .number) i → (p : ℕ) → p < totalOf t → ¬ (i ≡ placeOf (t .chain) (t .room) p)
+  off-old-line i in-it p h e =
       let l = short i in-it in
       let there : i ≡ placeOf (u .chain) (t .room) p = e ∙ sym (grown-place t u (r .good) (o .chain) p h) in
       let same : totalOf t + in-it .k ≡ p =
       place-apart (u .chain) (t .room) (totalOf t + 16 + c .n) (length ram) chain (totalOf t + in-it .k) p (omega arith) (omega arith) (sym (place i in-it) ∙ there) in
       omega arith
 
-  no-mark : (lent : List ℕ) → NoMark (record { tables = t; ram = ram }) (record { tables = u; ram = held }) (c .number) (c .n) lent
-  no-mark lent =
+  no-mark : (output₁ : List ℕ) → NoMark (record { tables = t; ram = ram }) (record { tables = u; ram = held }) (c .number) (c .n) output₁
+  no-mark output₁ =
       let sound : Ready u (length held) = rw (opened .size) s in
-      let is = close-is (record { tables = u; ram = held }) sound (c .number) (t .opened) last (omega (arith, o .opened)) lent in
+      let is = close-is (record { tables = u; ram = held }) sound (c .number) (t .opened) last (omega (arith, o .opened)) output₁ in
       record {
         done = ap (λ (x : Result). record { call = close (c .number); answer = x .answer; output = x .output }) is;
         tables = ap (λ (x : Result). x .tables) is ∙ open-close t c (r .good) few fits;
         size = ap (λ (x : Result). length (x .ram)) is ∙ closed .size ∙ opened .size;
         kept = λ i off. ap (λ (x : Result). getD (x .ram) i 0) is ∙ kept-bytes i off;
         zero = λ i in-it. ap (λ (x : Result). getD (x .ram) i 0) is ∙ zero-bytes i in-it;
+        is-open = rw (last, o .opened) (omega arith);
         first = rw last first;
-        asked = rw last asked;
-        apart = off-line;
-        spare = spare-place;
+        buffer = rw last buffer;
+        apart = off-old-line;
+        whose = offered-place;
       }
 
 -- what a done open leaves
 opened-by : (s : State) {channel driver n : ℕ} {name : List ℕ} {d : Decision} → Sound s → Ready (d .tables) (length (s .ram)) → Effect (s .tables) («open» channel driver n name) d
-    → (lent : List ℕ) → NoMark s (record { tables = d .tables; ram = ramAfter (s .tables) (d .tables) (s .ram) (d .ram) }) channel n lent
+    → (output₁ : List ℕ) → NoMark s (record { tables = d .tables; ram = ramAfter (s .tables) (d .tables) (s .ram) (d .ram) }) channel n output₁
 unfolding ramAfter
-opened-by s r there (opens c number asked low new device few fits) lent = rw (← number, ← asked) (no-mark (s .tables) (s .ram) r c few fits there lent)
+opened-by s r there (opens c number size low new device few fits) output₁ = rw (← number, ← size) (no-mark (s .tables) (s .ram) r c few fits there output₁)
 
-again : (s : State) (channel driver n : ℕ) (name output lent : List ℕ) → Sound s → granted (event s («open» channel driver n name) output .answer) ≡ true
-    → Stepped s («open» channel driver n name) output → NoMark s (after s («open» channel driver n name) output) channel n lent
-again s channel driver n name output lent r e (refused f q) = absurd (false≢true (sym f ∙ e))
-again s channel driver n name output lent r e (done d f m p q) =
+again : (s : State) (channel driver n : ℕ) (name output output₁ : List ℕ) → Sound s → granted (event s («open» channel driver n name) output .answer) ≡ true
+    → Stepped s («open» channel driver n name) output → NoMark s (after s («open» channel driver n name) output) channel n output₁
+again s channel driver n name output output₁ r e (refused f q) = absurd (false≢true (sym f ∙ e))
+again s channel driver n name output output₁ r e (done d f m p q) =
     let c = «open» channel driver n name in
     let there : Ready (d .tables) (length (s .ram)) = rw (p, q, done-length (s .ram) r m) at (step-sound s c output r refl) in
     let next : after s c output ≡ record { tables = d .tables; ram = ramAfter (s .tables) (d .tables) (s .ram) (d .ram) } = rw (p, q) in
-    subst (λ (x : State). NoMark s x channel n lent) (sym next) (opened-by s r there m lent)
+    subst (λ (x : State). NoMark s x channel n output₁) (sym next) (opened-by s r there m output₁)
 
 -- Two steps: a done open, and at once the close, which is done.
 pub leaves-no-mark : LeavesNoMark
-leaves-no-mark s good size channel driver n name output lent e =
-    again s channel driver n name output lent (record { good = good; size = size }) e (stepped s («open» channel driver n name) output refl)
+leaves-no-mark s good size channel driver n name output output₁ e =
+    again s channel driver n name output output₁ (record { good = good; size = size }) e (stepped s («open» channel driver n name) output refl)

@@ -29,11 +29,11 @@ use Rattle.kernel.specs.declared.Tables.{Tables}
 use Rattle.history.specs.Definition.Runs.{State, after, event}
 use Rattle.history.specs.Definition.NoMark.{InRecord, Asked, afterAll, Lost, LoadsLost, AlikeBut, LeavesNoMarkLater}
 use Rattle.history.specs.Definition.Lent.{bufferOf, sizeOf}
-use Rattle.history.specs.Bytes.LentOn.{known, lent-size, part-byte, no-part}
+use Rattle.history.specs.Bytes.LentOn.{lent-known, lent-size, part-byte, no-part}
 use Rattle.history.specs.Bytes.Steps.{store-fits, done-length}
 use Rattle.history.specs.Bytes.UserBytes.{loaded-length, loaded-byte, loaded-behind}
 use Rattle.history.specs.NoMark.Again.{leaves-no-mark}
-use Rattle.history.specs.NoMark.Alike.{Settled, same, left}
+use Rattle.history.specs.NoMark.Settled.{Settled, same, left}
 use Rattle.history.specs.NoMark.Lines.{OnLine, lines-same, done-settles, done-line}
 
 -- what is the same or lost stays so, where it settles
@@ -87,12 +87,21 @@ module _ (P : ℕ → Type 0) (was : List ℕ) (t : Tables) (a b : List ℕ) (l 
       ]
 
   -- of the outputs that a call leaves: as many bytes, and the same but for lost ones that it loads
+  record Loaded (c : Call) (d : Decision) (j x y : ℕ) : Type 0 where
+    segment : ℕ
+    offset : ℕ
+    size : ℕ
+    call : c ≡ load segment offset size
+    done : granted (d .answer) ≡ true
+    within : j < size
+    lost : Lost P was (segmentAt (rowOf t segment) + offset + j) x y
+
   record Shows (c : Call) (d : Decision) (output : List ℕ) : Type 0 where
     size : length (outputAfter t a (d .output) output) ≡ length (outputAfter t b (d .output) output)
     bytes : (j : ℕ)
         → let x = getD (outputAfter t a (d .output) output) j 0 in
         let y = getD (outputAfter t b (d .output) output) j 0 in
-        (x ≡ y) ⊎ ((segment : ℕ) × (offset : ℕ) × (size : ℕ) × (c ≡ load segment offset size) × (granted (d .answer) ≡ true) × (j < size) × Lost P was (segmentAt (rowOf t segment) + offset + j) x y)
+        (x ≡ y) ⊎ Loaded c d j x y
 
   all-same : {c : Call} {d : Decision} {output : List ℕ} → outputAfter t a (d .output) output ≡ outputAfter t b (d .output) output → Shows c d output
   all-same e = record { size = ap length e; bytes = λ j. inl (ap (λ (xs : List ℕ). getD xs j 0) e) }
@@ -128,11 +137,11 @@ module _ (P : ℕ → Type 0) (was : List ℕ) (t : Tables) (a b : List ℕ) (l 
   effect-shows (loads {segment} {offset} {size} m h) output =
       let from = segmentAt (rowOf t segment) + offset in
       let fits = store-fits t b (rowOf t segment) offset size (l .ready) m h in
-      let lengths = loaded-length a from size output (rw (l .size) fits) ∙ sym (loaded-length b from size output fits) in
+      let lengths = loaded-length a from size (rw (l .size) fits) ∙ sym (loaded-length b from size fits) in
       record {
         size = length-append (take size (drop from a)) (drop size output) ∙ ap (λ (x : ℕ). x + length (drop size output)) lengths
             ∙ sym (length-append (take size (drop from b)) (drop size output));
-        bytes = λ j. elim (load-byte from size output fits j) [ inl e ↦ inl e | inr (q, e) ↦ inr (segment, offset, size, refl, refl, q, e) ];
+        bytes = λ j. elim (load-byte from size output fits j) [ inl e ↦ inl e | inr (q, e) ↦ inr (record { segment = segment; offset = offset; size = size; call = refl; done = refl; within = q; lost = e }) ];
       }
   effect-shows (loads-module n m h) output = all-same refl
 
@@ -153,7 +162,7 @@ module _ (P : ℕ → Type 0) (was : List ℕ) (t : Tables) (a b : List ℕ) (l 
       go (Part at) e =
           let n = sizeOf t channel in
           let f : Part at ≡ lentOn t (length a) channel = rw (l .size) e in
-          let within = record-within t (channelAt t channel) (l .ready .good) (known t b (l .ready) channel at e) in
+          let within = record-within t (channelAt t channel) (l .ready .good) (lent-known t b (l .ready) channel at e) in
           let long = lent-size t a other channel at f in
           ext-getD 0 (partOn t a channel) (partOn t b channel) (long ∙ sym (lent-size t b (l .ready) channel at e))
           (λ j h.
@@ -179,15 +188,15 @@ module _ (P : ℕ → Type 0) (was : List ℕ) where
         let o : getD (event u c output .output) j 0 ≡ _ = ap (λ (xs : List ℕ). getD xs j 0) shown in
         elim (so .bytes j) [
           | inl f ↦ inl (o ∙ f)
-          | inr (segment, offset, size, q, g, h, k) ↦
+          | inr k ↦
               inr (record {
-                segment = segment;
-                offset = offset;
-                size = size;
-                call = q;
-                done = g;
-                within = h;
-                lost = record { place = k .place; zero = o ∙ k .zero; old = k .old };
+                segment = k .segment;
+                offset = k .offset;
+                size = k .size;
+                call = k .call;
+                done = k .done;
+                within = k .within;
+                lost = record { place = k .lost .place; zero = o ∙ k .lost .zero; old = k .lost .old };
               })
         ]
 
@@ -225,10 +234,10 @@ in-record t channel i =
     ]
 
 pub leaves-no-mark-later : LeavesNoMarkLater
-leaves-no-mark-later s good size channel driver n name output lent e rest =
-    let m = leaves-no-mark s good size channel driver n name output lent e in
+leaves-no-mark-later s good size channel driver n name output output₁ e rest =
+    let m = leaves-no-mark s good size channel driver n name output output₁ e in
     let opened = after s («open» channel driver n name) output in
-    all-later (InRecord (opened .tables) channel) (s .ram) s (after opened (close channel) lent) (m .tables)
+    all-later (InRecord (opened .tables) channel) (s .ram) s (after opened (close channel) output₁) (m .tables)
     (record {
       ready = record { good = good; size = size };
       size = m .size;

@@ -30,7 +30,7 @@ use Rattle.kernel.specs.declared.Tables.{Tables}
 use Rattle.history.specs.Bytes.Buffers.{closes-starts, free-by, reset-by}
 use Rattle.history.specs.Bytes.Places.{grown-place, closed-place}
 use Rattle.history.specs.Bytes.Steps.{store-fits}
-use Rattle.history.specs.NoMark.Alike.{put-sizes, left, settled-on, settled-same, SettledAt, put-settles, put-there, store-settles, each-settles, reset-settles}
+use Rattle.history.specs.NoMark.Settled.{put-sizes, left, settled-on, settled-same, SettledAt, put-settles, put-there, store-settles, each-settles, reset-settles}
 
 -- they have the same byte on every position of the line
 abbrev pub OnLine : Tables → (a b : List ℕ) → Type 0

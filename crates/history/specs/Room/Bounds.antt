@@ -1,7 +1,7 @@
 -- What good tables say of the chain's length and the segment 255, as the counts of places need it.
 use mathlib.Core.Path.{_≡_, sym, _∙_}
-use mathlib.Core.Bool.{Bool, true, false, cond}
-use Prim.Native.Nat.{ℕ, _-_, _≤_}
+use mathlib.Core.Bool.{true}
+use Prim.Native.Nat.{_-_, _≤_}
 use native.Mathlib.Decide.{decLe}
 use native.Mathlib.Omega.{arith}
 use Rattle.rows.specs.Definition.Classes.{SHARED}
@@ -12,15 +12,12 @@ use Rattle.kernel.specs.Laws.Facts.{chain-exactly, top-held}
 use Rattle.kernel.specs.Laws.Room.{line-sum}
 use Rattle.kernel.specs.declared.Tables.{Tables}
 use Rattle.history.specs.Definition.Places.{inSystem}
+use Rattle.history.specs.Bytes.Places.{held-in}
 
 module _ (t : Tables) (g : Good t) where
   -- "255 is always held."
   pub top-in : inSystem t (t .segments - 1) ≡ true
-  top-in = go (inSystem t (t .segments - 1)) (top-held t g)
-    where
-      go : (b : Bool) → 1 ≤ cond {A = ℕ} b 1 0 → b ≡ true
-      go true h = λ i. true
-      go false h = absurd (omega arith)
+  top-in = held-in t (t .segments - 1) (top-held t g)
 
   -- "a shared segment is the chain's last": 255 shared is the whole chain
   pub top-alone : classAt t (t .segments - 1) ≡ SHARED → t .held ≡ 1
