@@ -189,6 +189,7 @@ mod tests {
     #[test]
     fn some_opens_of_a_log_are_closed_again_at_once() {
         let (mut again, mut opens) = (0, 0);
+        // a log, but where a planned case has the number
         for number in 2..50 {
             let Played { case, replies, .. } = played(5, number * 100 + 2);
             let calls = case.requests.iter().zip(&replies);
