@@ -145,7 +145,7 @@ module _ (t : Tables) (g : Good t) where
       }
 
   -- a place that is offered to the line is not the user's
-  pub offered-not : (p : Place) → Outside t (t .room) (offered t) p → ¬ Users t (p .row) (p .offset)
+  offered-not : (p : Place) → Outside t (t .room) (offered t) p → ¬ Users t (p .row) (p .offset)
   offered-not p o (page-zero z h) = false≢true (and-right (not (sharing t)) _ (rw (z, g .classes .page) at (o .place .chosen)))
   offered-not p o (own k c h) = false≢true (and-right (not (sharing t)) _ (rw c at (o .place .chosen)))
   offered-not p o (shared k c h) = omega (arith, o .outside c)
