@@ -5,6 +5,7 @@ ghost use lib.ListN.{length, replicate};
 ghost use Rattle.line.specs.Definition.Ram.{filled};
 ghost use Rattle.line.specs.Within.Chains.{Chain};
 ghost use Rattle.line.specs.Definition.Line.{placeOf, lineFrom, putLine, headingOf, afterClose, afterLink, afterOpen};
+ghost use Rattle.line.specs.Definition.Moves.{movesDown, closeMoves, linkMoves};
 ghost use Rattle.line.specs.Definition.Given.{givenOf};
 ghost use Rattle.line.specs.Within.Runs.{runUpTo};
 ghost use Rattle.line.specs.Definition.Lent.{lentAt, partOf};
@@ -134,36 +135,51 @@ pub fn clear(ram: &mut [u8], chain: &[u8; 32], room: usize, start: usize, end: u
     }
 }
 
-// The bytes from position start + gap to the end of the line move up by gap, the first of them first.
-fn move_up(ram: &mut [u8], chain: &[u8; 32], room: usize, start: usize, gap: usize, total: usize)
+// The bytes from position start + gap to the end of the line move up by gap, the first of them first. How many they are.
+fn move_up(
+    ram: &mut [u8],
+    chain: &[u8; 32],
+    room: usize,
+    start: usize,
+    gap: usize,
+    total: usize,
+) -> usize
     requires { ⌜ (start + gap ≤ total) × Chain (now chain) room total (length (now ram)) ⌝ }
-    ensures { λ _. ⌜ now (ram .exit) ≡ putLine (now (chain .entry)) room (now (ram .entry)) start (lineFrom (now (chain .entry)) room (now (ram .entry)) (start + gap) (total - gap - start)) ⌝ }
+    ensures bytes { λ _. ⌜ now (ram .exit) ≡ putLine (now (chain .entry)) room (now (ram .entry)) start (lineFrom (now (chain .entry)) room (now (ram .entry)) (start + gap) (total - gap - start)) ⌝ }
+    ensures moved { λ r. ⌜ r ≡ length (closeMoves (now (chain .entry)) room start gap total) ⌝ }
 {
     let end = total - gap;
     let mut p = start;
+    let mut moved: usize = 0;
     while p < end {
         let s = place(chain, room, p + gap);
         let d = place(chain, room, p);
         let n = least(least(s % 16384 + 1, d % 16384 + 1), end - p);
         runs::copy_fall(ram, d, s, n);
+        moved += n;
         p += n;
     }
+    moved
 }
 
-// The whole line moves down by m, the last of it first.
-fn move_down(ram: &mut [u8], chain: &[u8; 32], room: usize, m: usize, total: usize)
+// The whole line moves down by m, the last of it first. How many bytes it has.
+fn move_down(ram: &mut [u8], chain: &[u8; 32], room: usize, m: usize, total: usize) -> usize
     requires { ⌜ Chain (now chain) room (total + m) (length (now ram)) ⌝ }
-    ensures { λ _. ⌜ now (ram .exit) ≡ putLine (now (chain .entry)) room (now (ram .entry)) m (lineFrom (now (chain .entry)) room (now (ram .entry)) 0 total) ⌝ }
+    ensures bytes { λ _. ⌜ now (ram .exit) ≡ putLine (now (chain .entry)) room (now (ram .entry)) m (lineFrom (now (chain .entry)) room (now (ram .entry)) 0 total) ⌝ }
+    ensures moved { λ r. ⌜ r ≡ length (movesDown (now (chain .entry)) room m total) ⌝ }
 {
     let mut p = total;
+    let mut moved: usize = 0;
     while 0 < p {
         let q = p - 1;
         let s = place(chain, room, q);
         let d = place(chain, room, q + m);
         let n = least(least(reach(room, q), reach(room, q + m)), p);
         runs::copy_rise(ram, d, s, n);
+        moved += n;
         p -= n;
     }
+    moved
 }
 
 // A record of a heading and a buffer of n zero bytes comes to the end of a line of total bytes.
@@ -186,7 +202,7 @@ pub fn open_record(
     clear(ram, chain, room, at, at + n as usize);
 }
 
-// The gap bytes from position start leave a line of total bytes.
+// The gap bytes from position start leave a line of total bytes. How many bytes it moved.
 pub fn close_record(
     ram: &mut [u8],
     chain: &[u8; 32],
@@ -194,21 +210,29 @@ pub fn close_record(
     start: usize,
     gap: usize,
     total: usize,
-)
+) -> usize
     requires { ⌜ (start + gap ≤ total) × Chain (now chain) room total (length (now ram)) ⌝ }
-    ensures { λ _. ⌜ now (ram .exit) ≡ afterClose (now (chain .entry)) room (now (ram .entry)) start gap total ⌝ }
+    ensures bytes { λ _. ⌜ now (ram .exit) ≡ afterClose (now (chain .entry)) room (now (ram .entry)) start gap total ⌝ }
+    ensures moved { λ r. ⌜ r ≡ length (closeMoves (now (chain .entry)) room start gap total) ⌝ }
 {
-    move_up(ram, chain, room, start, gap, total);
+    let moved = move_up(ram, chain, room, start, gap, total);
     clear(ram, chain, room, total - gap, total);
+    moved
 }
 
-// The room falls by m under a line of total bytes.
-pub fn link_line(ram: &mut [u8], chain: &[u8; 32], room: usize, m: usize, total: usize)
+// The room falls by m under a line of total bytes. How many bytes it moved.
+pub fn link_line(ram: &mut [u8], chain: &[u8; 32], room: usize, m: usize, total: usize) -> usize
     requires { ⌜ (m ≤ room) × Chain (now chain) room (total + m) (length (now ram)) ⌝ }
-    ensures { λ _. ⌜ now (ram .exit) ≡ afterLink (now (chain .entry)) room m (now (ram .entry)) total ⌝ }
+    ensures bytes { λ _. ⌜ now (ram .exit) ≡ afterLink (now (chain .entry)) room m (now (ram .entry)) total ⌝ }
+    ensures moved { λ r. ⌜ r ≡ length (linkMoves (now (chain .entry)) room m total) ⌝ }
 {
-    move_down(ram, chain, room, m, total);
+    // R does not fall
+    if m == 0 {
+        return 0;
+    }
+    let moved = move_down(ram, chain, room, m, total);
     clear(ram, chain, room, 0, m);
+    moved
 }
 
 // Where the n bytes on positions start, start + 1, .. are lent on.

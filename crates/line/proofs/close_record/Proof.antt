@@ -1,4 +1,4 @@
--- `line::close_record` meets its contract: the two calls make `afterClose`.
+-- `line::close_record` meets its contract: the two calls make `afterClose`, and the first counts its moves.
 use denote.Ref.{now}
 use native.Mathlib.Omega.{arith}
 use borrow.Author.Needs.{needs}
@@ -30,7 +30,7 @@ returns c =
     let a = s .args in
     let moved = c .before .before .before .before .before .before .move-up in
     let cleared = c .before .before .clear in
-    closed-of (now (a .chain)) (a .room) (now (a .ram)) (moved .last .0) (cleared .last .0) (a .start) (a .gap) (a .total) (s .pre .0) (moved .ensures) (cleared .ensures)
+    (closed-of (now (a .chain)) (a .room) (now (a .ram)) (moved .last .0) (cleared .last .0) (a .start) (a .gap) (a .total) (s .pre .0) (moved .ensures .0) (cleared .ensures), moved .ensures .1)
 
 pub close-record-spec : {M : Type 1} → statement M
 close-record-spec =

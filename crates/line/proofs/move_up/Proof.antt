@@ -1,4 +1,4 @@
--- `line::move_up` meets its contract. The invariant: positions start to p - 1 have their new bytes. A turn moves a run.
+-- `line::move_up` meets its contract. The invariant: positions start to p - 1 have their new bytes, and as many were moved. A turn moves a run.
 use denote.Ref.{now}
 use mathlib.Core.Path.{_≡_, refl, _∙_}
 use Prim.Native.Nat.{_+_, _-_, _≤_}
@@ -6,16 +6,17 @@ use native.Mathlib.Omega.{arith}
 use borrow.Author.Needs.{needs}
 use lib.ListN.{length}
 use Rattle.line.specs.Definition.Line.{lineFrom, putLine, placeOf}
+use Rattle.line.specs.Laws.Moves.{length-close}
 use Rattle.line.proofs.Turns.{copied-none}
 use Rattle.line.proofs.Moves.{Up, up-inside, up-ahead, up-turn}
 use Rattle.line.proofs.move_up.Statement.{statement}
 use Rattle.line.proofs.move_up.Tie as tie
 
 abbrev Inv-loop : tie.InvT-loop
-Inv-loop ram₀ chain room start gap total end p₀ ram p = (ram ≡ putLine chain room ram₀ start (lineFrom chain room ram₀ (start + gap) (p - start))) × (start ≤ p) × (p ≤ end) × (length ram ≡ length ram₀)
+Inv-loop ram₀ chain room start gap total end p₀ moved₀ ram p moved = (ram ≡ putLine chain room ram₀ start (lineFrom chain room ram₀ (start + gap) (p - start))) × (start ≤ p) × (p ≤ end) × (length ram ≡ length ram₀) × (moved ≡ p - start)
 
 abbrev μ-loop : tie.MeasureT-loop
-μ-loop ram₀ chain room start gap total end p₀ ram p = end - p
+μ-loop ram₀ chain room start gap total end p₀ moved₀ ram p moved = end - p
 
 sub-end : tie.Need-sub-end Inv-loop μ-loop
 sub-end c = omega arith
@@ -24,7 +25,7 @@ loop-holds : tie.Need-loop-holds Inv-loop μ-loop
 loop-holds c =
     let a = c .before .args in
     let walk = placeOf (now (a .chain)) (a .room) in
-    (copied-none walk walk (now (a .ram)) (a .start) (a .start + a .gap) (a .start), omega arith, omega arith, refl)
+    (copied-none walk walk (now (a .ram)) (a .start) (a .start + a .gap) (a .start), omega arith, omega arith, refl, omega arith)
 
 add-place : tie.Need-add-place Inv-loop μ-loop
 add-place c = omega arith
@@ -72,6 +73,9 @@ copy-fall-requires c κs =
     let inside = up-inside (run (c .before)) in
     (inside .0, omega (arith, l .inv .3), inside .2, omega (arith, l .inv .3), up-ahead (run (c .before)))
 
+add-moved : tie.Need-add-moved Inv-loop μ-loop
+add-moved c = omega (arith, run (c .before .before .before .before) .fits, c .before .before .before .before .before .before .before .before .before)
+
 add-p : tie.Need-add-p Inv-loop μ-loop
 add-p c = omega (arith, run (c .before .before .before .before) .fits, c .before .before .before .before .before .before .before .before .before)
 
@@ -89,6 +93,7 @@ loop-again c =
       omega arith,
       omega (arith, run (c .before .before .before .before) .fits),
       moved .kept .0 ∙ l .inv .3,
+      omega (arith, l .inv .4, l .inv .1),
     )
 
 same-length : tie.Need-same-length Inv-loop μ-loop
@@ -99,7 +104,7 @@ returns c =
     let l = c .before .loop in
     let a = c .before .before .before .args in
     let done : l .p ≡ a .total - a .gap = omega arith in
-    rw done at (l .inv .0)
+    (rw done at (l .inv .0), omega (arith, l .inv .4, length-close (now (a .chain)) (a .room) (a .start) (a .gap) (a .total)))
 
 pub move-up-spec : {M : Type 1} → statement M
 move-up-spec =
@@ -118,6 +123,7 @@ move-up-spec =
     sub-least
     least-requires-2
     copy-fall-requires
+    add-moved
     add-p
     loop-less
     loop-again

@@ -86,6 +86,14 @@ sum-set xs n c h = rw (add-one, take-suc-set xs n c h) (omega (arith, sum-append
 pub sum-more : (xs : List Channel) (i : ℕ) (d : Channel) → i < length xs → sumOf (take (i + 1) xs) ≡ sumOf (take i xs) + (16 + getD xs i d .n)
 sum-more xs i d h = rw (add-one, take-suc xs i d h) (omega (arith, sum-append (take i xs) (getD xs i d ∷ [])))
 
+-- a record and those before and after it are all of them
+pub sum-after : (xs : List Channel) (i n : ℕ) (d : Channel) → i < n → n ≤ length xs
+    → sumOf (take i xs) + (16 + getD xs i d .n) + sumOf (drop (suc i) (take n xs)) ≡ sumOf (take n xs)
+sum-after [] i n d h l = absurd (omega arith)
+sum-after (x ∷ xs) i zero d h l = absurd (omega arith)
+sum-after (x ∷ xs) zero (suc n) d h l = omega arith
+sum-after (x ∷ xs) (suc i) (suc n) d h l = omega (arith, sum-after xs i n d (omega arith) (omega arith))
+
 -- a row less
 pub channels-less : (cs : List Channel) (opened known i : ℕ) → length cs ≡ 32 → i < opened → ChannelsGood cs opened known
     → ChannelsGood (without i cs zeroChannel) (opened - 1) known
