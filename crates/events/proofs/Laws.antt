@@ -6,11 +6,10 @@ use native.Mathlib.Omega.{arith}
 use lib.ListN.{length, take, drop, length-drop}
 use lib.Seq.{take-all}
 use borrow.Author.Tests.{lt-ltb}
-use Rattle.kernel.specs.Definition.Answers.{gives, _changing_}
+use Rattle.kernel.specs.Definition.Answers.{gives}
 use Rattle.kernel.specs.Definition.Calls.{Call, no-call}
 use Rattle.kernel.specs.Definition.Good.{Good}
 use Rattle.kernel.specs.Definition.Tables.{ramSize}
-use Rattle.kernel.specs.Definition.Bytes.{nothing}
 use Rattle.kernel.specs.Definition.Step.{Result, heard, decided, result, completed, step}
 use Rattle.kernel.specs.Laws.Ready.{ready-heard}
 use Rattle.kernel.specs.declared.Tables.{Tables}
@@ -36,11 +35,6 @@ module _ (t : Tables) (ram : List ℕ) (out : List ℕ) (g : Good t) (s : length
   pub bad-call : (d : Call) (r : Outcome) → d ≡ no-call → r ≡ gives BadCall t → result r ram out ≡ step t ram d out
   unfolding heard completed
   bad-call d r e q = done no-call d r ram out e (rw q)
-
-  -- a call that touches neither the RAM nor the output
-  pub quiet : (c d : Call) (r : Outcome) → d ≡ c → r changing nothing ≡ heard t (length ram) (length out) c → result r ram out ≡ step t ram d out
-  unfolding completed
-  quiet c d r e h = done c d r ram out e (rw (← h))
 
 -- a start is heard on any tables
 module _ (t : Tables) (ram : List ℕ) (body : List ℕ) (out : List ℕ) where

@@ -13,7 +13,7 @@ use Rattle.kernel.specs.declared.Answer.{Answer}
 use Rattle.kernel.specs.declared.Outcome.{Outcome}
 use Rattle.events.specs.Definition.Records.{u16At, stepOf}
 use Rattle.image.specs.Definition.Offsets.{SIZE}
-use Rattle.image.specs.Definition.Image.{imageOf, tablesOf, answerBytes}
+use Rattle.image.specs.Definition.Image.{imageOf, tablesOf, outcomeBytes}
 use Rattle.image.specs.Laws.Bytes.{body-is}
 use Rattle.exos.specs.Definition.Call.{fits, stepOn, imageAfter, Done}
 
@@ -30,16 +30,16 @@ module _ (image event reply : List ℕ) where
   unfolding fits
   too-long h g k = rw (eq-eqb (length image) SIZE h, le-leb 2 (length event) g, lt-leb (length event) 4096 k)
 
-  pub no-reply : length image ≡ SIZE → 2 ≤ length event → length event ≤ 4096 → (length reply ≡ 6 → ⊥) → false ≡ fits image event reply
+  pub no-reply : length image ≡ SIZE → 2 ≤ length event → length event ≤ 4096 → (length reply ≡ 10 → ⊥) → false ≡ fits image event reply
   unfolding fits
-  no-reply h g k l = rw (eq-eqb (length image) SIZE h, le-leb 2 (length event) g, le-leb (length event) 4096 k, ne-eqb (length reply) 6 l)
+  no-reply h g k l = rw (eq-eqb (length image) SIZE h, le-leb 2 (length event) g, le-leb (length event) 4096 k, ne-eqb (length reply) 10 l)
 
-  pub all-fit : length image ≡ SIZE → 2 ≤ length event → length event ≤ 4096 → length reply ≡ 6 → true ≡ fits image event reply
+  pub all-fit : length image ≡ SIZE → 2 ≤ length event → length event ≤ 4096 → length reply ≡ 10 → true ≡ fits image event reply
   unfolding fits
-  all-fit h g k l = rw (eq-eqb (length image) SIZE h, le-leb 2 (length event) g, le-leb (length event) 4096 k, eq-eqb (length reply) 6 l)
+  all-fit h g k l = rw (eq-eqb (length image) SIZE h, le-leb 2 (length event) g, le-leb (length event) 4096 k, eq-eqb (length reply) 10 l)
 
 pub done : (image ram event out image′ ram′ out′ reply′ : List ℕ) (t : Tables) (kind : ℕ) (o : Outcome) → t ≡ tablesOf image → kind ≡ u16At event 0
-    → result o ram′ out′ ≡ stepOf t ram kind (take (length event - 2) (drop 2 event)) out → image′ ≡ imageAfter (o .answer) (o .tables) image → reply′ ≡ answerBytes (o .answer)
+    → result o ram′ out′ ≡ stepOf t ram kind (take (length event - 2) (drop 2 event)) out → image′ ≡ imageAfter (o .answer) (o .tables) image → reply′ ≡ outcomeBytes (o .answer) (o .moved)
     → Done image ram event out image′ ram′ out′ reply′
 done image ram event out image′ ram′ out′ reply′ t kind o p q s i r =
     let h : result o ram′ out′ ≡ stepOn image ram event out = s ∙ rw (body-is event, p, q) in
@@ -47,7 +47,7 @@ done image ram event out image′ ram′ out′ reply′ t kind o p q s i r =
       image-is = i ∙ ap (λ (x : Result). imageAfter (x .answer) (x .tables) image) h;
       ram-is = ap (λ (x : Result). x .ram) h;
       out-is = ap (λ (x : Result). x .output) h;
-      reply-is = r ∙ ap (λ (x : Result). answerBytes (x .answer)) h;
+      reply-is = r ∙ ap (λ (x : Result). outcomeBytes (x .answer) (x .moved)) h;
     }
 
 pub granted-is : (answer : Answer) (n : ℕ) → n ≡ numberOf answer → eqb n 0 || eqb n 17 ≡ granted answer

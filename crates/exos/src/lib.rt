@@ -12,7 +12,7 @@ use events::fields::u16_at;
 use image::fields::put_u16;
 use image::fields::put_u64;
 use image::offsets::SIZE;
-use image::put_answer;
+use image::put_outcome;
 use image::tables::decode;
 use image::tables::encode;
 use kernel::Answer;
@@ -61,7 +61,7 @@ pub extern "C" fn exos_call(
     if 4096 < record.len() {
         return false;
     }
-    if reply.len() != 6 {
+    if reply.len() != 10 {
         return false;
     }
     let kind = u16_at(record, 0);
@@ -69,22 +69,22 @@ pub extern "C" fn exos_call(
     let answer = o.answer;
     let next = o.tables;
     write_back(answer, next, image);
-    put_answer(answer, reply, 0);
+    put_outcome(answer, o.moved, reply, 0);
     true
 }
 
-// Every whole record at the front of a log, from no tables; with the last answer, the bytes that they take. Zero, and nothing changed, where the
+// Every whole record at the front of a log, from no tables; with the last answer and the bytes that its call moved, the bytes that they take. Zero, and nothing changed, where the
 // reply's length is wrong.
 fn replay_log(ram: &mut [u8], out: &mut [u8], log: &[u8], reply: &mut [u8], hold: bool) -> usize
     ensures { λ r. ⌜ Replays (now (ram .entry)) (now (out .entry)) (now (log .entry)) (now (reply .entry)) (now (ram .exit)) (now (out .exit)) (now (reply .exit)) r ⌝ }
 {
-    if reply.len() != 6 {
+    if reply.len() != 10 {
         return 0;
     }
     let r = replay(Tables::none(), ram, out, log, hold);
     let o = r.last;
     let answer = o.answer;
-    put_answer(answer, reply, 0);
+    put_outcome(answer, o.moved, reply, 0);
     r.taken
 }
 

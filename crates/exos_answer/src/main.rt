@@ -41,7 +41,7 @@ fn renewed(h: Machine, ram: &mut [u8], bytes: &[u8]) -> Machine
     bring(ram, bytes)
 }
 
-// Answers a whole request: 46 bytes of reply.
+// Answers a whole request: 50 bytes of reply.
 fn answer(
     h: Machine,
     q: Request,
@@ -51,7 +51,7 @@ fn answer(
     text: &mut [u8],
     at: usize,
 ) -> Machine
-    requires { ⌜ (h .size ≤ 524288) × (length (now ram) ≡ 524288) × (1 ≤ length (now bytes)) × Brings (now bytes) × Spans (now bytes) q × (length (now out) ≡ 65535) × (at + 46 ≤ length (now text)) ⌝ }
+    requires { ⌜ (h .size ≤ 524288) × (length (now ram) ≡ 524288) × (1 ≤ length (now bytes)) × Brings (now bytes) × Spans (now bytes) q × (length (now out) ≡ 65535) × (at + 50 ≤ length (now text)) ⌝ }
     ensures { λ r. ⌜ r .size ≤ 524288 ⌝ }
 {
     let n = q.out;
@@ -163,7 +163,7 @@ fn turn(s: State, ram: &mut [u8], out: &mut [u8], buf: &mut [u8], text: &mut [u8
     let filled = s.filled;
     let used = s.used;
     let tables = s.tables;
-    if 65536 < used + 46 {
+    if 65536 < used + 50 {
         return flush(s, text);
     }
     match request(&buf[from..filled]) {
@@ -186,7 +186,7 @@ fn turn(s: State, ram: &mut [u8], out: &mut [u8], buf: &mut [u8], text: &mut [u8
                 size: h.size,
                 from: from + q.end,
                 filled,
-                used: used + 46,
+                used: used + 50,
                 going: true,
             }
         }

@@ -1,9 +1,9 @@
-// Numbers of two and of eight bytes, and runs of bytes. A function that puts hands back the place after what it put.
+// Numbers of two, four and eight bytes, and runs of bytes. A function that puts hands back the place after what it put.
 ghost use mathlib.Core.Path.{_≡_};
 ghost use Prim.Native.Nat.{_+_, _≤_};
 ghost use lib.ListN.{length, take, drop};
 ghost use Rattle.text.specs.Definition.Put.{Put};
-ghost use Rattle.image.specs.Definition.Image.{u16Bytes, u64Bytes};
+ghost use Rattle.image.specs.Definition.Image.{u16Bytes, lowBytes, u32Bytes, u64Bytes};
 use text::put;
 
 pub fn put_u16(x: u16, to: &mut [u8], at: usize) -> usize
@@ -14,20 +14,34 @@ pub fn put_u16(x: u16, to: &mut [u8], at: usize) -> usize
     put(to, m, (x / 256) as u8)
 }
 
-// Eight bytes, the lowest first.
-pub fn put_u64(x: u64, to: &mut [u8], at: usize) -> usize
-    requires { ⌜ at + 8 ≤ length (now to) ⌝ }
-    ensures { λ r. ⌜ Put (now (to .entry)) (now (to .exit)) at r (u64Bytes x) × (r ≡ at + 8) ⌝ }
+// The lowest bytes of a number, the lowest first.
+fn put_low(count: usize, x: u64, to: &mut [u8], at: usize) -> usize
+    requires { ⌜ at + count ≤ length (now to) ⌝ }
+    ensures { λ r. ⌜ Put (now (to .entry)) (now (to .exit)) at r (lowBytes count x) × (r ≡ at + count) ⌝ }
 {
     let mut rest = x;
     let mut m = at;
     let mut i: usize = 0;
-    while i < 8 {
+    while i < count {
         m = put(to, m, (rest % 256) as u8);
         rest = rest / 256;
         i += 1;
     }
     m
+}
+
+pub fn put_u32(x: u32, to: &mut [u8], at: usize) -> usize
+    requires { ⌜ at + 4 ≤ length (now to) ⌝ }
+    ensures { λ r. ⌜ Put (now (to .entry)) (now (to .exit)) at r (u32Bytes x) × (r ≡ at + 4) ⌝ }
+{
+    put_low(4, x as u64, to, at)
+}
+
+pub fn put_u64(x: u64, to: &mut [u8], at: usize) -> usize
+    requires { ⌜ at + 8 ≤ length (now to) ⌝ }
+    ensures { λ r. ⌜ Put (now (to .entry)) (now (to .exit)) at r (u64Bytes x) × (r ≡ at + 8) ⌝ }
+{
+    put_low(8, x, to, at)
 }
 
 pub fn put_run(xs: &[u8], to: &mut [u8], at: usize) -> usize

@@ -40,8 +40,3 @@ module _ (t : Tables) (ram : List ℕ) (c : Call) (out : List ℕ) (b : Bool) (e
   pub call-done : not b ≡ false → (r : Outcome) (ram' out' : List ℕ) → result r ram' out' ≡ completed t (heard t (length ram) (length out) c) ram out
       → result r ram' out' ≡ step t ram c out
   call-done n r ram' out' q = q ∙ step-heard n
-
-  -- a call that touches neither the RAM nor the output
-  pub call-quiet : not b ≡ false → (r : Outcome) → r changing nothing ≡ heard t (length ram) (length out) c → result r ram out ≡ step t ram c out
-  unfolding completed
-  call-quiet n r h = call-done n r ram out (rw (← h))

@@ -4,7 +4,7 @@ use mathlib.Core.List.{List}
 use Prim.Native.Nat.{ℕ, _+_, _-_, _≤_, _<_}
 use native.Mathlib.Omega.{arith}
 use borrow.Author.Tests.{le-leb, lt-leb}
-use lib.ListN.{take}
+use lib.ListN.{length, take}
 use Rattle.rows.specs.Definition.Lists.{without}
 use Rattle.rows.specs.Definition.Channels.{zeroChannel, sumOf}
 use Rattle.rows.specs.Definition.Sizes.{chainLength}
@@ -12,12 +12,14 @@ use Rattle.rows.specs.Laws.Sizes.{length-some}
 use Rattle.rows.specs.declared.Channel.{Channel}
 use Rattle.line.specs.Within.Chains.{Chain}
 use Rattle.line.specs.Definition.Line.{afterClose}
+use Rattle.line.specs.Definition.Moves.{closeMoves}
+use Rattle.line.specs.Laws.Moves.{close-most}
 use Rattle.kernel.specs.Definition.Tables.{channelAt, ramSize, withChannels}
 use Rattle.kernel.specs.Definition.Good.{Good}
 use Rattle.kernel.specs.Definition.Line.{recordAt, sizeAt, shrunk, closing}
 use Rattle.kernel.specs.Definition.Answers.{gives}
 use Rattle.kernel.specs.Definition.Calls.{onClose}
-use Rattle.kernel.specs.Definition.Bytes.{ramClosed}
+use Rattle.kernel.specs.Definition.Bytes.{ramClosed, movesClosed}
 use Rattle.kernel.specs.Definition.Step.{completed, result}
 use Rattle.kernel.specs.Within.{Fit}
 use Rattle.kernel.specs.Laws.Facts.{fit}
@@ -49,6 +51,14 @@ module _ (t : Tables) (i start n opened line room : ℕ) (s : start ≡ recordAt
   pub record-closed : (ram after : List ℕ) → after ≡ afterClose (t .chain) room ram start (16 + n) line → after ≡ ramClosed t ram i
   record-closed ram after a = rw (a, s, p, l, o, r)
 
+  -- the bytes that it moved, which are no more than the line has
+  module _ (moved : ℕ) (e : moved ≡ length (closeMoves (t .chain) room start (16 + n) line)) where
+    pub record-moved : moved ≡ length (movesClosed t i)
+    record-moved = rw (e, s, p, l, o, r)
+
+    pub moved-most : moved ≤ line
+    moved-most = omega (arith, e, close-most (t .chain) room start (16 + n) line)
+
 -- the channel's row, as the code finds it
 
 module _ (t : Tables) (channel : ℕ) (ram out : List ℕ) where
@@ -56,7 +66,7 @@ module _ (t : Tables) (channel : ℕ) (ram out : List ℕ) where
   unfolding completed onClose
   close-gone h = rw (le-leb _ _ h)
 
-  pub close-done : (i : ℕ) (next : Tables) (after : List ℕ) → channelAt t channel ≡ i → i < t .opened → next ≡ closing t i → after ≡ ramClosed t ram i
-      → result (gives (Done 0 0) next) after out ≡ completed t (onClose t channel) ram out
+  pub close-done : (i : ℕ) (next : Tables) (after : List ℕ) (moved : ℕ) → channelAt t channel ≡ i → i < t .opened → next ≡ closing t i → after ≡ ramClosed t ram i
+      → moved ≡ length (movesClosed t i) → result (record { answer = Done 0 0; tables = next; moved = moved }) after out ≡ completed t (onClose t channel) ram out
   unfolding completed onClose
-  close-done i next after e h n a = rw (n, a, e, lt-leb _ _ h)
+  close-done i next after moved e h n a k = rw (n, a, k, e, lt-leb _ _ h)

@@ -17,11 +17,13 @@ use Rattle.names.specs.Definition.Tests.{linkNameTest}
 use Rattle.names.specs.Definition.Words.{wordOf, LinkName}
 use Rattle.line.specs.Within.Chains.{Chain}
 use Rattle.line.specs.Definition.Line.{afterLink}
+use Rattle.line.specs.Definition.Moves.{linkMoves}
+use Rattle.line.specs.Laws.Moves.{link-most}
 use Rattle.kernel.specs.Definition.Tables.{ramSize, withDevices}
 use Rattle.kernel.specs.Definition.Good.{Good}
 use Rattle.kernel.specs.Definition.Line.{totalOf, grown, roomFor}
 use Rattle.kernel.specs.Definition.Devices.{linking, deviceNamed}
-use Rattle.kernel.specs.Definition.Bytes.{nothing, moved}
+use Rattle.kernel.specs.Definition.Bytes.{nothing, lowered}
 use Rattle.kernel.specs.Definition.Answers.{gives, _changing_}
 use Rattle.kernel.specs.Definition.Calls.{onLink}
 use Rattle.kernel.specs.Definition.Step.{completed, result}
@@ -83,7 +85,7 @@ module _ (t : Tables) (m : ℕ) (name : List ℕ) (ok : Bool) (n : ok ≡ linkNa
       room-rule : not fits ≡ false → (ltb (t .room) (256 + m) || not (roomFor t (t .room - m) (totalOf t))) ≡ false
       room-rule h = not-true _ (sym r ∙ not-false _ h)
 
-      pub link-answer : not fits ≡ false → onLink t m name ≡ gives (Done (t .known) (t .room - m)) (linking t m (deviceNamed name)) changing moved m
+      pub link-answer : not fits ≡ false → onLink t m name ≡ gives (Done (t .known) (t .room - m)) (linking t m (deviceNamed name)) changing lowered m
       unfolding onLink
       link-answer h = rw (← n, named, lt-leb _ _ few, room-rule h)
 
@@ -104,8 +106,11 @@ module _ (t : Tables) (m : ℕ) (d : Device) (g : Good t) (l : Links t m d) (nex
   pub link-chain : (bytes : ℕ) → bytes ≡ ramSize t → (size ≤ room) × Chain (next .chain) room (total + size) bytes
   link-chain bytes h = (omega (arith, l .least), rw (a, b, s, e) (linking-chain t m d g l bytes h))
 
-  pub link-done : (name ram after out : List ℕ) → after ≡ afterLink (next .chain) room size ram total
-      → onLink t m name ≡ gives (Done (t .known) (t .room - m)) (linking t m d) changing moved m
-      → result (gives (Done (t .known) (next .room)) next) after out ≡ completed t (onLink t m name) ram out
+  pub moved-most : (moved : ℕ) → moved ≡ length (linkMoves (next .chain) room size total) → moved ≤ total
+  moved-most moved k = omega (arith, k, link-most (next .chain) room size total)
+
+  pub link-done : (name ram after out : List ℕ) (moved : ℕ) → after ≡ afterLink (next .chain) room size ram total → moved ≡ length (linkMoves (next .chain) room size total)
+      → onLink t m name ≡ gives (Done (t .known) (t .room - m)) (linking t m d) changing lowered m
+      → result (record { answer = Done (t .known) (next .room); tables = next; moved = moved }) after out ≡ completed t (onLink t m name) ram out
   unfolding completed
-  link-done name ram after out h o = rw (h, a, b, s, o, e, linking-room t m d g l)
+  link-done name ram after out moved h k o = rw (h, k, a, b, s, o, e, linking-room t m d g l)

@@ -1,4 +1,4 @@
--- What a refused call leaves.
+-- What a call leaves that changes no byte.
 use mathlib.Core.Path.{_≡_}
 use mathlib.Core.List.{List}
 use Prim.Native.Nat.{ℕ}
@@ -14,3 +14,9 @@ pub refused : (t : Tables) (answer : Answer) (d : Decision) (r : Outcome) (ram o
     → result r ram out ≡ completed t d ram out
 unfolding completed
 refused t answer d r ram out q e = rw (q, e)
+
+-- nor does a call that is done on the tables alone
+pub quietly : (t : Tables) (answer : Answer) (u : Tables) (d : Decision) → gives answer u changing nothing ≡ d → (ram out : List ℕ)
+    → result (gives answer u) ram out ≡ completed t d ram out
+unfolding completed
+quietly t answer u d e ram out = rw (← e)

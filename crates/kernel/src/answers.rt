@@ -57,13 +57,14 @@ impl Answer {
 }
 
 impl Tables {
-    // A refusal leaves the tables.
+    // A refusal leaves the tables, and nothing moves.
     pub fn refuse(self, answer: Answer) -> Outcome
         ensures { λ r. ⌜ r ≡ gives answer self ⌝ }
     {
         Outcome {
             answer,
             tables: self,
+            moved: 0,
         }
     }
 }

@@ -91,6 +91,7 @@ impl Tables {
         Outcome {
             answer: Answer::Done(0, count as u16),
             tables: self,
+            moved: 0,
         }
     }
 
@@ -124,6 +125,7 @@ impl Tables {
         Outcome {
             answer: Answer::Done(0, count as u16),
             tables: self,
+            moved: 0,
         }
     }
 
@@ -182,6 +184,7 @@ impl Tables {
         Outcome {
             answer: Answer::Done(0, count as u16),
             tables: self,
+            moved: 0,
         }
     }
 
@@ -220,6 +223,7 @@ impl Tables {
         Outcome {
             answer: Answer::Done(0, size),
             tables: self,
+            moved: 0,
         }
     }
 

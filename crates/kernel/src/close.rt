@@ -8,7 +8,7 @@ ghost use Rattle.kernel.specs.Definition.Good.{Good};
 ghost use Rattle.kernel.specs.Definition.Line.{closing};
 ghost use Rattle.kernel.specs.Definition.Calls.{onClose};
 ghost use Rattle.kernel.specs.Definition.Calls as calls;
-ghost use Rattle.kernel.specs.Definition.Bytes.{ramClosed};
+ghost use Rattle.kernel.specs.Definition.Bytes.{ramClosed, movesClosed};
 ghost use Rattle.kernel.specs.Definition.Step.{step, completed, result};
 use super::Answer;
 use super::Outcome;
@@ -44,17 +44,18 @@ impl Tables {
         next.shrink(gone)
     }
 
-    // The RAM without the record of the channel in row `i`.
-    fn close_record(self, ram: &mut [u8], i: usize)
+    // The RAM without the record of the channel in row `i`. How many bytes it moved.
+    fn close_record(self, ram: &mut [u8], i: usize) -> u32
         requires { ⌜ Good self × (i < self .opened) × (length (now ram) ≡ ramSize self) ⌝ }
-        ensures { λ _. ⌜ now (ram .exit) ≡ ramClosed self (now (ram .entry)) i ⌝ }
+        ensures bytes { λ _. ⌜ now (ram .exit) ≡ ramClosed self (now (ram .entry)) i ⌝ }
+        ensures moved { λ r. ⌜ r ≡ length (movesClosed self i) ⌝ }
     {
         let chain = self.chain;
         let channels = self.channels;
         let start = total(channels, i);
         let total = total(channels, wide(self.opened));
         let n = wide16(channels[i].n);
-        close_record(ram, &chain, wide16(self.room), start, 16 + n, total);
+        close_record(ram, &chain, wide16(self.room), start, 16 + n, total) as u32
     }
 
     pub fn close(self, ram: &mut [u8], channel: u8) -> Outcome
@@ -75,10 +76,11 @@ impl Tables {
         let Lookup::At(i) = channel_row(channels, opened, channel) else {
             return self.refuse(Answer::NoChannel);
         };
-        self.close_record(ram, i);
+        let moved = self.close_record(ram, i);
         Outcome {
             answer: Answer::Done(0, 0),
             tables: self.closed(i),
+            moved,
         }
     }
 }

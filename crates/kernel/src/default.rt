@@ -3,11 +3,9 @@ ghost use mathlib.Core.Path.{_≡_};
 ghost use mathlib.Core.List.{List};
 ghost use Prim.Native.Nat.{ℕ};
 ghost use Rattle.kernel.specs.Definition.Good.{Good};
-ghost use Rattle.kernel.specs.Definition.Bytes.{nothing};
-ghost use Rattle.kernel.specs.Definition.Answers.{_changing_};
 ghost use Rattle.kernel.specs.Definition.Calls.{onDefault};
 ghost use Rattle.kernel.specs.Definition.Calls as calls;
-ghost use Rattle.kernel.specs.Definition.Step.{step, result};
+ghost use Rattle.kernel.specs.Definition.Step.{step, completed, result};
 use super::Answer;
 use super::Outcome;
 use super::Tables;
@@ -26,7 +24,7 @@ impl Tables {
 
     pub fn default_good(self, unit: u8, name: &[u8]) -> Outcome
         requires { ⌜ Good self ⌝ }
-        ensures { λ r. ⌜ (r changing nothing) ≡ onDefault self unit (now (name .entry)) ⌝ }
+        ensures { λ r. ⌜ ((ram out : List ℕ) → result r ram out ≡ completed self (onDefault self unit (now (name .entry))) ram out) ⌝ }
     {
         if !default_name(name) {
             return self.refuse(Answer::BadName);
@@ -40,6 +38,7 @@ impl Tables {
         Outcome {
             answer: Answer::Done(0, 0),
             tables: next,
+            moved: 0,
         }
     }
 }

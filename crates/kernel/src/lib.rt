@@ -1,4 +1,4 @@
-// The kernel of document 01, with order 3 of document 02: its tables, its answers and its calls.
+// The kernel of document 01, with the orders of document 02 that have landed: its tables, its answers and its calls.
 use rows::Channel;
 use rows::Device;
 
@@ -67,10 +67,11 @@ pub enum Answer {
     BadPage, // 20 PAGE
 }
 
-// The answer with the next tables.
+// The answer with the next tables, and how many record bytes the call moved: of a close or a link, and else 0.
 pub struct Outcome {
     pub answer: Answer,
     pub tables: Tables,
+    pub moved: u32,
 }
 
 // What a string of open means: a device's name in 28 bytes with its length, and a unit.

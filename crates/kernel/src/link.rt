@@ -95,10 +95,11 @@ impl Tables {
         }
         let next = self.add_device(m, device_named(name), total);
         let chain = next.chain;
-        link_line(ram, &chain, wide16(self.room), wide16(m), total);
+        let moved = link_line(ram, &chain, wide16(self.room), wide16(m), total);
         Outcome {
             answer: Answer::Done(self.known, next.room),
             tables: next,
+            moved: moved as u32,
         }
     }
 }

@@ -65,6 +65,7 @@ impl Tables {
                 Outcome {
                     answer: Answer::Done(0, used),
                     tables: self,
+                    moved: 0,
                 }
             }
             Judged::Module => self.refuse(Answer::BadModule),

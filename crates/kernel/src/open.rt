@@ -123,6 +123,7 @@ impl Tables {
         Outcome {
             answer: Answer::Done(c.device, c.unit as u16),
             tables: next,
+            moved: 0,
         }
     }
 

@@ -135,6 +135,7 @@ impl Tables {
         Outcome {
             answer: Answer::Done(0, 0),
             tables: self.reset_tables(flags),
+            moved: 0,
         }
     }
 }

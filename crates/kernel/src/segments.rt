@@ -7,8 +7,7 @@ ghost use Rattle.kernel.specs.Definition.Good.{Good};
 ghost use Rattle.kernel.specs.Definition.Segments.{classFor};
 ghost use Rattle.kernel.specs.Definition.Calls.{onBoundary, onSetUserBoundary, onAllocate, onFree, onStatus};
 ghost use Rattle.kernel.specs.Definition.Calls as calls;
-ghost use Rattle.kernel.specs.Definition.Bytes.{nothing, countsOf};
-ghost use Rattle.kernel.specs.Definition.Answers.{_changing_};
+ghost use Rattle.kernel.specs.Definition.Bytes.{countsOf};
 ghost use Rattle.kernel.specs.Definition.Step.{step, completed, result};
 use super::Answer;
 use super::Outcome;
@@ -36,7 +35,7 @@ impl Tables {
 
     pub fn boundary_good(self) -> Outcome
         requires { ⌜ Good self ⌝ }
-        ensures { λ r. ⌜ (r changing nothing) ≡ onBoundary self ⌝ }
+        ensures { λ r. ⌜ ((ram out : List ℕ) → result r ram out ≡ completed self (onBoundary self) ram out) ⌝ }
     {
         let held = wide(self.held);
         let last = wide(self.chain[held - 1]);
@@ -45,6 +44,7 @@ impl Tables {
         Outcome {
             answer: Answer::Done(number, edge),
             tables: self,
+            moved: 0,
         }
     }
 
@@ -60,7 +60,7 @@ impl Tables {
 
     pub fn set_user_boundary_good(self, value: u16) -> Outcome
         requires { ⌜ Good self ⌝ }
-        ensures { λ r. ⌜ (r changing nothing) ≡ onSetUserBoundary self value ⌝ }
+        ensures { λ r. ⌜ ((ram out : List ℕ) → result r ram out ≡ completed self (onSetUserBoundary self value) ram out) ⌝ }
     {
         let classes = self.classes;
         let segments = wide(self.segments);
@@ -75,6 +75,7 @@ impl Tables {
         Outcome {
             answer: Answer::Done(0, 0),
             tables: next,
+            moved: 0,
         }
     }
 
@@ -90,7 +91,7 @@ impl Tables {
 
     pub fn allocate_good(self, caller: u8) -> Outcome
         requires { ⌜ Good self ⌝ }
-        ensures { λ r. ⌜ (r changing nothing) ≡ onAllocate self caller ⌝ }
+        ensures { λ r. ⌜ ((ram out : List ℕ) → result r ram out ≡ completed self (onAllocate self caller) ram out) ⌝ }
     {
         if 1 < caller {
             return self.refuse(Answer::BadCall);
@@ -105,6 +106,7 @@ impl Tables {
             return Outcome {
                 answer: Answer::Done(number, 16384),
                 tables: next,
+                moved: 0,
             };
         }
         if caller == 1 {
@@ -126,6 +128,7 @@ impl Tables {
         Outcome {
             answer: Answer::Shared(number, edge),
             tables: next,
+            moved: 0,
         }
     }
 
@@ -141,7 +144,7 @@ impl Tables {
 
     pub fn free_good(self, caller: u8, segment: u8) -> Outcome
         requires { ⌜ Good self ⌝ }
-        ensures { λ r. ⌜ (r changing nothing) ≡ onFree self caller segment ⌝ }
+        ensures { λ r. ⌜ ((ram out : List ℕ) → result r ram out ≡ completed self (onFree self caller segment) ram out) ⌝ }
     {
         if 1 < caller {
             return self.refuse(Answer::BadCall);
@@ -159,6 +162,7 @@ impl Tables {
             return Outcome {
                 answer: Answer::Done(0, 0),
                 tables: next,
+                moved: 0,
             };
         }
         if (caller == 0) & (class == SHARED) {
@@ -168,6 +172,7 @@ impl Tables {
             return Outcome {
                 answer: Answer::Done(0, 0),
                 tables: next,
+                moved: 0,
             };
         }
         self.refuse(Answer::NotOwner)
@@ -211,6 +216,7 @@ impl Tables {
         Outcome {
             answer: Answer::Done(0, 5),
             tables: self,
+            moved: 0,
         }
     }
 }

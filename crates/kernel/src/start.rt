@@ -93,6 +93,7 @@ impl Tables {
         Outcome {
             answer: Answer::Done(next.segments, room),
             tables: next,
+            moved: 0,
         }
     }
 }

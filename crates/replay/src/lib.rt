@@ -14,7 +14,7 @@ use kernel::Outcome;
 use kernel::Tables;
 
 pub struct Replayed {
-    // The last record's answer, and the tables it left. Where there is no record: done, 0, 0, and the tables that were given.
+    // The last record's answer, the tables it left and the bytes it moved. Where there is no record: done, 0, 0, the tables that were given, and none.
     pub last: Outcome,
     // The bytes of the records.
     pub taken: usize,
@@ -65,6 +65,7 @@ pub fn replay(t: Tables, ram: &mut [u8], out: &mut [u8], input: &[u8], hold: boo
     let mut last = Outcome {
         answer: Answer::Done(0, 0),
         tables: t,
+        moved: 0,
     };
     let mut at: usize = 0;
     loop {

@@ -31,7 +31,7 @@ behind ram part rest size seed h p =
 
 pub replied : (first : ℕ) (t : Tables) (ram event out text : List ℕ) (at : ℕ) (blank : List ℕ) (o : Outcome) (ram′ out′ : List ℕ) (channel : ℕ) (text′ : List ℕ) (r : ℕ)
     → blank ≡ replicate (length out) 165 → result o ram′ out′ ≡ askedOf first t ram event blank
-    → channel ≡ channelIn event → Put text text′ at r (replyBytes (result o ram′ out′) channel) → r ≡ at + 46
+    → channel ≡ channelIn event → Put text text′ at r (replyBytes (result o ram′ out′) channel) → r ≡ at + 50
     → Replied first t ram event out text at (o .tables) ram′ out′ text′
 replied first t ram event out text at blank o ram′ out′ channel text′ r b s n p e =
     let h : result o ram′ out′ ≡ askedBlank first t ram event (length out) = s ∙ rw b in

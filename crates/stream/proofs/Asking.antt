@@ -5,6 +5,7 @@ use Prim.Native.Nat.{ℕ, _-_, _<_}
 use native.Mathlib.Omega.{arith}
 use borrow.Author.Tests.{eq-eqb, ne-eqb}
 use lib.ListN.{length, take, drop}
+use Rattle.kernel.specs.Definition.Answers.{gives}
 use Rattle.kernel.specs.Definition.Step.{result}
 use Rattle.kernel.specs.declared.Tables.{Tables}
 use Rattle.kernel.specs.declared.Outcome.{Outcome}
@@ -48,7 +49,7 @@ module _ (r heard : Reply) (e : r ≡ heard) where
 
 pub asked-write : (first : ℕ) (t : Tables) (ram event output : List ℕ) (answer : Answer) (output′ : List ℕ) → first ≡ 2
     → (answer ≡ replyAnswer (replyFrom event (length output))) × (output′ ≡ bufferFrom event output)
-    → result (record { answer = answer; tables = t }) ram output′ ≡ askedOf first t ram event output
+    → result (gives answer t) ram output′ ≡ askedOf first t ram event output
 unfolding askedOf
 asked-write first t ram event output answer output′ f h = rw (eq-eqb first 2 f, ← (h .0), ← (h .1))
 

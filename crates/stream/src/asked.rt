@@ -47,7 +47,11 @@ pub fn ask(first: u8, t: Tables, ram: &mut [u8], record: &[u8], out: &mut [u8]) 
 {
     if first == 2 {
         let answer = write(record, out);
-        return Outcome { answer, tables: t };
+        return Outcome {
+            answer,
+            tables: t,
+            moved: 0,
+        };
     }
     let kind = u16_at(record, 0);
     call(t, ram, kind, &record[2..], out)

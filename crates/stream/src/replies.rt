@@ -21,7 +21,7 @@ use super::requests::RAM;
 use super::requests::SEED;
 use image::fields::put_u64;
 use image::offsets::SIZE;
-use image::put_answer;
+use image::put_outcome;
 use image::tables::decode;
 use image::tables::encode;
 use kernel::Outcome;
@@ -73,21 +73,21 @@ fn put_lent(t: Tables, ram: &[u8], channel: u8, text: &mut [u8], at: usize) -> u
     put_u64(lent_digest(t, ram, channel), text, m)
 }
 
-// The answer, the digests of the image, of the RAM and of the output, and a channel's buffer lent on.
+// The answer and the bytes moved, the digests of the image, of the RAM and of the output, and a channel's buffer lent on.
 fn put_reply(o: Outcome, ram: &[u8], out: &[u8], channel: u8, text: &mut [u8], at: usize) -> usize
-    requires { ⌜ at + 46 ≤ length (now text) ⌝ }
-    ensures { λ r. ⌜ Put (now (text .entry)) (now (text .exit)) at r (replyBytes (result o (now (ram .entry)) (now (out .entry))) channel) × (r ≡ at + 46) ⌝ }
+    requires { ⌜ at + 50 ≤ length (now text) ⌝ }
+    ensures { λ r. ⌜ Put (now (text .entry)) (now (text .exit)) at r (replyBytes (result o (now (ram .entry)) (now (out .entry))) channel) × (r ≡ at + 50) ⌝ }
 {
     let answer = o.answer;
     let next = o.tables;
-    let m = put_answer(answer, text, at);
+    let m = put_outcome(answer, o.moved, text, at);
     let m = put_u64(image_digest(next), text, m);
     let m = put_u64(digest(ram), text, m);
     let m = put_u64(digest(out), text, m);
     put_lent(next, ram, channel, text, m)
 }
 
-// What comes of a record on an output that is all 165: the next tables, and 46 bytes of reply.
+// What comes of a record on an output that is all 165: the next tables, and 50 bytes of reply.
 pub fn reply(
     first: u8,
     t: Tables,
@@ -97,7 +97,7 @@ pub fn reply(
     text: &mut [u8],
     at: usize,
 ) -> Tables
-    requires { ⌜ (2 ≤ length (now «record»)) × (length (now out) < 65536) × (at + 46 ≤ length (now text)) ⌝ }
+    requires { ⌜ (2 ≤ length (now «record»)) × (length (now out) < 65536) × (at + 50 ≤ length (now text)) ⌝ }
     ensures { λ r. ⌜ Replied first t (now (ram .entry)) (now («record» .entry)) (now (out .entry)) (now (text .entry)) at r (now (ram .exit)) (now (out .exit)) (now (text .exit)) ⌝ }
 {
     blank(out, 165);

@@ -41,8 +41,8 @@ call-requires c κs = search needs
 write-back-requires : tie.Need-write-back-requires
 write-back-requires c κs = search needs
 
-put-answer-requires : tie.Need-put-answer-requires
-put-answer-requires c κs = search needs
+put-outcome-requires : tie.Need-put-outcome-requires
+put-outcome-requires c κs = search needs
 
 same-length : tie.Need-same-length
 same-length c = search needs
@@ -64,10 +64,10 @@ returns-5 c =
     let t = c .before .before .before .before .before .before .before .before .before .before .before .before .before .before .before .before .before .decode in
     let k = c .before .before .before .before .before .before .before .before .before .before .before .before .before .call in
     let image = c .before .before .before .before .before .before .write-back in
-    let reply = c .before .before .put-answer in
-    let long = reply .kept .1 .0 ∙ tested .if4 .left in (
+    let reply = c .before .before .put-outcome in
+    let long = reply .kept .1 .1 .0 ∙ tested .if4 .left in (
       all-fit (now (a .image)) (now (a .«record»)) (now (a .reply)) (c .before .before .before .before .before .before .before .before .before .before .before .before .before .before .before .before .before .before .before .before .before .before .before .if1 .left) (c .before .before .before .before .before .before .before .before .before .before .before .before .before .before .before .before .before .before .before .before .before .before .if2 .left) (c .before .before .before .before .before .before .before .before .before .before .before .before .before .before .before .before .before .before .before .before .before .if3 .left) (tested .if4 .left),
-      done (now (a .image)) (now (a .ram)) (now (a .«record»)) (now (a .out)) (image .last .1 .1 .0) (k .last .1 .0) (k .last .1 .1 .1 .1 .0) (reply .last .1 .0) (t .result) (kind .result) (k .result)
+      done (now (a .image)) (now (a .ram)) (now (a .«record»)) (now (a .out)) (image .last .1 .1 .0) (k .last .1 .0) (k .last .1 .1 .1 .1 .0) (reply .last .1 .1 .0) (t .result) (kind .result) (k .result)
           (t .ensures) (kind .ensures) (k .ensures) (image .ensures) (whole (reply .ensures .0) (omega (arith, long, reply .ensures .1))),
     )
 
@@ -86,7 +86,7 @@ exos-call-spec =
     part-call-end
     call-requires
     write-back-requires
-    put-answer-requires
+    put-outcome-requires
     same-length
     same-length-2
     same-length-3

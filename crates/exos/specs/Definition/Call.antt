@@ -1,4 +1,4 @@
--- A call over bytes: the tables as their image, the event record's kind and body, and six bytes of reply.
+-- A call over bytes: the tables as their image, the event record's kind and body, and ten bytes of reply.
 use mathlib.Core.Path.{_≡_}
 use mathlib.Core.Bool.{Bool, true, false, cond, _&&_}
 use mathlib.Core.List.{List}
@@ -11,11 +11,11 @@ use Rattle.kernel.specs.declared.Tables.{Tables}
 use Rattle.kernel.specs.declared.Answer.{Answer}
 use Rattle.events.specs.Definition.Records.{u16At, stepOf}
 use Rattle.image.specs.Definition.Offsets.{SIZE}
-use Rattle.image.specs.Definition.Image.{imageOf, tablesOf, answerBytes}
+use Rattle.image.specs.Definition.Image.{imageOf, tablesOf, outcomeBytes}
 
 -- the lengths that a call over bytes takes
 unfoldable pub fits : (image event reply : List ℕ) → Bool
-fits image event reply = eqb (length image) SIZE && leb 2 (length event) && leb (length event) 4096 && eqb (length reply) 6
+fits image event reply = eqb (length image) SIZE && leb 2 (length event) && leb (length event) 4096 && eqb (length reply) 10
 
 abbrev pub stepOn : (image ram event out : List ℕ) → Result
 stepOn image ram event out = stepOf (tablesOf image) ram (u16At event 0) (drop 2 event) out
@@ -29,7 +29,7 @@ pub record Done (image ram event out : List ℕ) (image′ ram′ out′ reply�
   pub image-is : image′ ≡ imageAfter (stepOn image ram event out .answer) (stepOn image ram event out .tables) image
   pub ram-is : ram′ ≡ stepOn image ram event out .ram
   pub out-is : out′ ≡ stepOn image ram event out .output
-  pub reply-is : reply′ ≡ answerBytes (stepOn image ram event out .answer)
+  pub reply-is : reply′ ≡ outcomeBytes (stepOn image ram event out .answer) (stepOn image ram event out .moved)
 
 pub record Kept (image ram out reply : List ℕ) (image′ ram′ out′ reply′ : List ℕ) : Type 0 where
   pub image-is : image′ ≡ image

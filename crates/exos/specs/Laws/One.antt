@@ -30,7 +30,7 @@ module _ (ram out log reply : List ℕ) {ram′ out′ reply′ ram″ out″ re
 
   pub one-replayed : Replays ram out log reply ram′ out′ reply′ taken → Replays ram out log reply ram″ out″ reply″ taken′
       → (taken ≡ taken′) × (ram′ ≡ ram″) × (out′ ≡ out″) × (reply′ ≡ reply″)
-  one-replayed = one-replay (eqb (length reply) 6)
+  one-replayed = one-replay (eqb (length reply) 10)
 
 module _ (page offset : ℕ) (items buffer reply : List ℕ) {buffer′ reply′ buffer″ reply″ : List ℕ} {r s : Bool} where
   one-writing : (ten : Bool) (list : Listed) → WritesBy ten list page offset buffer reply buffer′ reply′ r → WritesBy ten list page offset buffer reply buffer″ reply″ s

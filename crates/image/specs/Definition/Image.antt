@@ -24,6 +24,9 @@ abbrev pub lowBytes : (n x : ℕ) → List ℕ
 lowBytes zero x = []
 lowBytes (suc n) x = x % 256 ∷ lowBytes n (x / 256)
 
+unfoldable pub u32Bytes : ℕ → List ℕ
+u32Bytes x = lowBytes 4 x
+
 unfoldable pub u64Bytes : ℕ → List ℕ
 u64Bytes x = lowBytes 8 x
 
@@ -104,3 +107,7 @@ tablesOf xs =
 -- an answer's number and values
 abbrev pub answerBytes : Answer → List ℕ
 answerBytes a = u16Bytes (numberOf a) ++ u16Bytes (aOf a) ++ u16Bytes (bOf a)
+
+-- an answer and how many bytes the call moved; the number is "wider than 16 bits" (READINGS 02)
+abbrev pub outcomeBytes : Answer → (moved : ℕ) → List ℕ
+outcomeBytes a moved = answerBytes a ++ u32Bytes moved

@@ -80,8 +80,9 @@ bOf BadPage = 0
 abbrev pub granted : Answer → Bool
 granted answer = eqb (numberOf answer) 0 || eqb (numberOf answer) 17
 
+-- an answer and the next tables, with nothing moved; what a close and a link move follows from their change of the RAM (Step.antt)
 abbrev pub gives : Answer → Tables → Outcome
-gives answer t = record { answer = answer; tables = t }
+gives answer t = record { answer = answer; tables = t; moved = 0 }
 
 -- what a call decides before a byte is touched: its answer, the next tables, the change of the RAM, and what fills the lent output
 pub record Decision : Type 0 where

@@ -1,9 +1,11 @@
--- What becomes of the bytes: a call names its change of the RAM and what fills the lent output (Calls.antt); what each of these means is said here, once.
+-- What becomes of the bytes: a call names its change of the RAM and what fills the lent output (Calls.antt); what each of these means is said here, once,
+-- and which record bytes a change moves.
 use mathlib.Core.Bool.{cond}
 use mathlib.Core.List.{List, [], _∷_}
 use Prim.Native.Nat.{ℕ, _+_, _-_, _*_}
 use lib.ListN.{length, take, drop, replicate}
 use Rattle.line.specs.Definition.Line.{lineFrom, putLine, afterOpen, afterClose, afterLink}
+use Rattle.line.specs.Definition.Moves.{Move, closeMoves, linkMoves}
 use Rattle.line.specs.Definition.Ram.{putAt, filled}
 use Rattle.modules.specs.Definition.Counter.{Put, putEach}
 use Rattle.rows.specs.Definition.Classes.{FREE, USER, SYSTEM, DEVICE, SHARED}
@@ -25,7 +27,7 @@ pub data Change : Type 0 where
   -- "Close removes one": the record of row i
   removed : (i : ℕ) → Change
   -- link: "R falls by m, the line keeps its positions and so moves down"
-  moved : (m : ℕ) → Change
+  lowered : (m : ℕ) → Change
   -- bytes put into the buffer of row i
   in-buffer : (i offset : ℕ) (bytes : List ℕ) → Change
   -- bytes put into the segment of a row
@@ -66,10 +68,26 @@ ramAfter t u ram zeroed = replicate (length ram) 0
 ramAfter t u ram (cleared flags) = ramReset t ram flags
 ramAfter t u ram (appended c) = ramOpened t u ram c
 ramAfter t u ram (removed i) = ramClosed t ram i
-ramAfter t u ram (moved m) = afterLink (u .chain) (t .room) m ram (totalOf t)
+ramAfter t u ram (lowered m) = afterLink (u .chain) (t .room) m ram (totalOf t)
 ramAfter t u ram (in-buffer i offset bytes) = putLine (t .chain) (t .room) ram (bufferAt t i + offset) bytes
 ramAfter t u ram (in-segment row offset bytes) = putAt ram (segmentAt row + offset) bytes
 ramAfter t u ram (one-by-one row puts) = putEach (segmentAt row) ram puts
+
+-- order 8: "how many record bytes changed position or place". The moves of a close, which line's Moves.antt says step by step
+abbrev pub movesClosed : Tables → ℕ → List Move
+movesClosed t i = closeMoves (t .chain) (t .room) (recordAt t i) (16 + sizeAt t i) (totalOf t)
+
+-- the moves of a change, as above; "Other and refused calls report 0"
+unfoldable pub movesOf : (t u : Tables) → Change → List Move
+movesOf t u nothing = []
+movesOf t u zeroed = []
+movesOf t u (cleared flags) = []
+movesOf t u (appended c) = []
+movesOf t u (removed i) = movesClosed t i
+movesOf t u (lowered m) = linkMoves (u .chain) (t .room) m (totalOf t)
+movesOf t u (in-buffer i offset bytes) = []
+movesOf t u (in-segment row offset bytes) = []
+movesOf t u (one-by-one row puts) = []
 
 -- "Status writes the counts free, user, system, device, shared."
 abbrev pub countsOf : Tables → List ℕ

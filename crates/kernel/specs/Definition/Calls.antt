@@ -24,7 +24,7 @@ use Rattle.kernel.specs.Definition.Reset.{otherBits, resetting}
 use Rattle.kernel.specs.Definition.Start.{startTest, started}
 use Rattle.kernel.specs.Definition.Names.{wanted, deviceFor}
 use Rattle.kernel.specs.declared.Wanted.{Wanted}
-use Rattle.kernel.specs.Definition.Bytes.{nothing, zeroed, cleared, appended, removed, moved, in-buffer, in-segment, one-by-one, these, from-buffer, from-segment, countsOf}
+use Rattle.kernel.specs.Definition.Bytes.{nothing, zeroed, cleared, appended, removed, lowered, in-buffer, in-segment, one-by-one, these, from-buffer, from-segment, countsOf}
 use Rattle.kernel.specs.Definition.Answers.{gives, Decision, _changing_, _filling_, unless, _when_}
 use Rattle.kernel.specs.declared.Tables.{Tables}
 use Rattle.kernel.specs.declared.Answer.the-variants.{Done, BadCall, NoChannel, Exists, BadName, NoDevice, Driver, Full, NoRoom, NoSegment, NotOwner, BadBoundary, BadRange, Guarded, BadFlags, BadStart, Shared, BadModule, BadPage}
@@ -164,7 +164,7 @@ onLink t m name =
     ∷ Full when leb 16 (t .known)
     ∷ NoRoom when (ltb (t .room) (256 + m) || not (roomFor t (t .room - m) (totalOf t)))
     ∷ []) t
-    (gives (Done (t .known) (t .room - m)) (linking t m (deviceNamed name)) changing moved m)
+    (gives (Done (t .known) (t .room - m)) (linking t m (deviceNamed name)) changing lowered m)
 
 -- "last chain segment, EXOS boundary"
 unfoldable pub onBoundary : Tables → Decision

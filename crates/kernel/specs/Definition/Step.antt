@@ -1,4 +1,5 @@
--- One step over all calls: from tables, RAM, a call and the lent output to the answer, the next tables, the next RAM and the next output.
+-- One step over all calls: from tables, RAM, a call and the lent output to the answer, the next tables, the next RAM, the next
+-- output and how many record bytes were moved.
 use mathlib.Core.Bool.{Bool, not, _&&_, _||_}
 use mathlib.Core.List.{List, [], _∷_}
 use Prim.Native.Nat.{ℕ}
@@ -6,7 +7,7 @@ use lib.Dec.{eqb}
 use lib.ListN.{length}
 use Rattle.kernel.specs.Definition.Tables.{ramSize}
 use Rattle.kernel.specs.Definition.Good.{goodTest}
-use Rattle.kernel.specs.Definition.Bytes.{nothing, ramAfter, outputAfter}
+use Rattle.kernel.specs.Definition.Bytes.{nothing, ramAfter, movesOf, outputAfter}
 use Rattle.kernel.specs.Definition.Answers.{gives, Decision, _changing_, unless, _when_}
 use Rattle.kernel.specs.Definition.Calls.{Call, start, reset, «open», close, read, write, default, status, link, boundary, set-user-boundary, allocate, free, store, load, load-module, no-call, short-start, isStart, onStart, onReset, onOpen, onClose, onRead, onWrite, onDefault, onStatus, onLink, onBoundary, onSetUserBoundary, onAllocate, onFree, onStore, onLoad, onLoadModule}
 use Rattle.kernel.specs.declared.Tables.{Tables}
@@ -52,16 +53,24 @@ pub record Result : Type 0 where
   pub tables : Tables
   pub ram : List ℕ
   pub output : List ℕ
+  -- order 8: "Close and links of any sort report in a further value how many record bytes changed position or place"
+  pub moved : ℕ
 
--- the answer and the tables with a RAM and an output
+-- the answer, the tables and the bytes moved, with a RAM and an output
 abbrev pub result : Outcome → (ram output : List ℕ) → Result
-result o ram output = record { answer = o .answer; tables = o .tables; ram = ram; output = output }
+result o ram output = record { answer = o .answer; tables = o .tables; ram = ram; output = output; moved = o .moved }
 
 -- what was decided, carried out on the bytes
 unfoldable pub completed : Tables → Decision → (ram output : List ℕ) → Result
-unfolding ramAfter outputAfter
-completed t d ram output =
-    record { answer = d .answer; tables = d .tables; ram = ramAfter t (d .tables) ram (d .ram); output = outputAfter t ram (d .output) output }
+unfolding ramAfter outputAfter movesOf
+completed t d ram output = record {
+  answer = d .answer;
+  tables = d .tables;
+  ram = ramAfter t (d .tables) ram (d .ram);
+  output = outputAfter t ram (d .output) output;
+  -- "The number equals the moves of a written step-by-step definition"
+  moved = length (movesOf t (d .tables) (d .ram));
+}
 
 unfoldable pub step : Tables → (ram : List ℕ) → Call → (output : List ℕ) → Result
 unfolding decided completed

@@ -31,7 +31,7 @@ use Rattle.kernel.specs.Definition.Reset.{otherBits, resetting}
 use Rattle.kernel.specs.Definition.Start.{startTest, started}
 use Rattle.kernel.specs.Definition.Names.{wanted, deviceFor}
 use Rattle.kernel.specs.declared.Wanted.{Wanted}
-use Rattle.kernel.specs.Definition.Bytes.{nothing, zeroed, cleared, appended, removed, moved, in-buffer, in-segment, one-by-one, these, from-buffer, from-segment, countsOf}
+use Rattle.kernel.specs.Definition.Bytes.{nothing, zeroed, cleared, appended, removed, lowered, in-buffer, in-segment, one-by-one, these, from-buffer, from-segment, countsOf}
 use Rattle.kernel.specs.Definition.Answers.{numberOf, aOf, bOf, granted, gives, Decision, _changing_, _filling_}
 use Rattle.kernel.specs.Definition.Calls.{Call, start, reset, «open», close, read, write, default, status, link, boundary, set-user-boundary, allocate, free, store, load, load-module, no-call, short-start, isStart, targetOf, onStart, onReset, onOpenTo, onOpenNamed, onOpen, onClose, onRead, onWrite, onDefault, onStatus, onLink, onBoundary, onSetUserBoundary, onAllocate, onFree, onStore, onLoad, onLoadModule}
 use Rattle.kernel.specs.Definition.Step.{readyTest, heard, decided}
@@ -72,7 +72,7 @@ pub data Effect (t : Tables) : Call → Decision → Type 0 where
       → Effect t (default unit name) (gives (Done 0 0) (withDefault t (wordOf name) (length name) unit) changing nothing)
   counts : Effect t status (gives (Done 0 5) t filling these (countsOf t))
   links : {m : ℕ} {name : List ℕ} → LinkName name → t .known < 16 → 256 + m ≤ t .room → roomFor t (t .room - m) (totalOf t) ≡ true
-      → Effect t (link m name) (gives (Done (t .known) (t .room - m)) (linking t m (deviceNamed name)) changing moved m)
+      → Effect t (link m name) (gives (Done (t .known) (t .room - m)) (linking t m (deviceNamed name)) changing lowered m)
   tells : Effect t boundary (gives (Done (numberAt t (lastRow t)) (boundaryOf t)) t changing nothing)
   bounds : {value : ℕ} → sharing t ≡ true → value ≤ boundaryOf t
       → Effect t (set-user-boundary value) (gives (Done 0 0) (bounding t value) changing nothing)

@@ -5,17 +5,17 @@ use mathlib.Core.List.{List}
 use Prim.Native.Nat.{ℕ, _*_}
 use native.Mathlib.Omega.{arith}
 use borrow.Author.Tests.{eq-eqb, eqb-true}
-use lib.Dec.{leb}
+use lib.Dec.{leb, eqb}
 use lib.ListN.{length}
 use Rattle.rows.specs.Definition.Lists.{padded}
-use Rattle.rows.specs.Laws.Lists.{and-right}
+use Rattle.rows.specs.Laws.Lists.{and-left, and-right}
 use Rattle.rows.specs.Definition.Tests.{listTest}
 use Rattle.kernel.specs.Definition.Tables.{SEGMENT, ramSize}
 use Rattle.kernel.specs.Definition.Start.{startTest, started}
 use Rattle.kernel.specs.Definition.Bytes.{nothing}
 use Rattle.kernel.specs.Definition.Answers.{numberOf, granted, gives, Decision, _changing_}
 use Rattle.kernel.specs.Definition.Calls.{Call, start, isStart}
-use Rattle.kernel.specs.Definition.Good.{Good}
+use Rattle.kernel.specs.Definition.Good.{Good, Sized, goodTest}
 use Rattle.kernel.specs.Definition.Step.{readyTest, heard, decided}
 use Rattle.kernel.specs.Laws.Good.{good-says}
 use Rattle.kernel.specs.Laws.KeptReset.{start-good}
@@ -51,6 +51,18 @@ never r (does d e) q = false≢true (rw q at d)
 
 pub never-tables : (t : Tables) (ram output : ℕ) (c : Call) → Ready t ram → decided t ram output c .answer ≡ BadTables → ⊥
 never-tables t ram output c r e = never r (verdict t ram output c) (ap numberOf e)
+
+-- and a call that is done, but for a start, found them so
+pub granted-ready : (t : Tables) (ram output : ℕ) (c : Call) → Sized t → isStart c ≡ false → granted (decided t ram output c .answer) ≡ true → Ready t ram
+unfolding decided
+granted-ready t ram output c sized s g = by (readyTest t ram) refl (rw s at g)
+  where
+    by : (ready : Bool) → readyTest t ram ≡ ready → granted (cond (not ready) (gives BadTables t changing nothing) (heard t ram output c) .answer) ≡ true → Ready t ram
+    by true e h = record {
+      good = good-says t sized .yes (and-left (goodTest t) (eqb ram (ramSize t)) e);
+      size = eqb-true ram (ramSize t) (and-right (goodTest t) (eqb ram (ramSize t)) e);
+    }
+    by false e h = absurd (false≢true h)
 
 started-size : (ram room : ℕ) (list : List ℕ) → startTest ram room list ≡ true → ram ≡ ramSize (started room list)
 unfolding started

@@ -31,7 +31,7 @@ lentTo segments kind size = SEGMENT * min 4 (cond (eqb kind 256) (size - 2) segm
 
 -- a result with the rest of the RAM, which the call was not lent
 abbrev pub onRest : (ram : List ℕ) (n : ℕ) → Result → Result
-onRest ram n r = record { answer = r .answer; tables = r .tables; ram = r .ram ++ drop n ram; output = r .output }
+onRest ram n r = record { answer = r .answer; tables = r .tables; ram = r .ram ++ drop n ram; output = r .output; moved = r .moved }
 
 -- what one record leaves of the tables, of the four segments and of the output
 unfoldable pub logStep : Tables → (ram out : List ℕ) (kind : ℕ) (body : List ℕ) → Result

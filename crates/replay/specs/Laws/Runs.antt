@@ -75,7 +75,7 @@ replayed-last m (r ∷ rs) q = replayed-last (asked m r) rs q
 pub last-read : (m : Result) (xs : List ℕ) (rs : List EventRecord) (q : EventRecord) → records xs ≡ rs ++ (q ∷ []) → HasAcceptedStart m rs
     → (channel offset wanted : ℕ) → callOf q ≡ read channel offset wanted → granted (replayed m (records xs) .answer) ≡ true
     → ReadRight channel offset wanted (since [] m rs)
-    (record { call = callOf q; answer = replayed m (records xs) .answer; output = replayed m (records xs) .output })
+    (record { call = callOf q; answer = replayed m (records xs) .answer; output = replayed m (records xs) .output; moved = replayed m (records xs) .moved })
 last-read m xs rs q e s channel offset wanted is done =
     let last = replayed-last m rs q in
     rw (e, last, is) (bytes-read (run-from [] m rs s) channel offset wanted (replayed m rs .output) (rw (e, last, is) at done))

@@ -31,5 +31,5 @@ replyAnswer (Answered w) = writtenAnswer w
 unfoldable pub askedOf : (first : ℕ) → Tables → (ram bytes output : List ℕ) → Result
 askedOf first t ram bytes output =
     cond (eqb first 2)
-    (record { answer = replyAnswer (replyFrom bytes (length output)); tables = t; ram = ram; output = bufferFrom bytes output })
+    (record { answer = replyAnswer (replyFrom bytes (length output)); tables = t; ram = ram; output = bufferFrom bytes output; moved = 0 })
     (stepOf t ram (u16At bytes 0) (drop 2 bytes) output)

@@ -11,7 +11,7 @@ use Rattle.line.specs.declared.Lent.the-variants.{Part, Nothing}
 use Rattle.text.specs.Definition.Put.{Put}
 use Rattle.events.specs.Definition.Records.{u8At}
 use Rattle.image.specs.Definition.Offsets.{SIZE}
-use Rattle.image.specs.Definition.Image.{runAt, u64Bytes, imageOf, tablesOf, answerBytes}
+use Rattle.image.specs.Definition.Image.{runAt, u64Bytes, imageOf, tablesOf, outcomeBytes}
 use Rattle.stream.specs.Definition.Digest.{digestOf}
 use Rattle.stream.specs.Definition.Seed.{seeded}
 use Rattle.stream.specs.Definition.Numbers.{u32At}
@@ -43,14 +43,14 @@ startOf Nothing = 0
 abbrev pub lentBytes : Tables → (ram : List ℕ) (channel : ℕ) → List ℕ
 lentBytes t ram channel = u64Bytes (startOf (lentOn t (length ram) channel)) ++ u64Bytes (digestOf (partOn t ram channel))
 
--- answer number, a and b; the digests of the image, of the RAM and of the output after the call; and of a channel's buffer lent on after it
+-- answer number, a and b, and the bytes moved; the digests of the image, of the RAM and of the output after the call; and of a channel's buffer lent on after it
 abbrev pub replyBytes : Result → (channel : ℕ) → List ℕ
 replyBytes s channel =
-    answerBytes (s .answer) ++ u64Bytes (digestOf (imageOf (s .tables))) ++ u64Bytes (digestOf (s .ram)) ++ u64Bytes (digestOf (s .output)) ++ lentBytes (s .tables) (s .ram) channel
+    outcomeBytes (s .answer) (s .moved) ++ u64Bytes (digestOf (imageOf (s .tables))) ++ u64Bytes (digestOf (s .ram)) ++ u64Bytes (digestOf (s .output)) ++ lentBytes (s .tables) (s .ram) channel
 
 -- what a request leaves, with the accents, and its reply in a text
 pub record Replied (first : ℕ) (t : Tables) (ram event out text : List ℕ) (at : ℕ) (t′ : Tables) (ram′ out′ text′ : List ℕ) : Type 0 where
   pub tables-is : t′ ≡ askedBlank first t ram event (length out) .tables
   pub ram-is : ram′ ≡ askedBlank first t ram event (length out) .ram
   pub out-is : out′ ≡ askedBlank first t ram event (length out) .output
-  pub reply-is : Put text text′ at (at + 46) (replyBytes (askedBlank first t ram event (length out)) (channelIn event))
+  pub reply-is : Put text text′ at (at + 50) (replyBytes (askedBlank first t ram event (length out)) (channelIn event))

@@ -1,7 +1,7 @@
 -- `events::segments::allocate_event` meets its contract.
 use Rattle.kernel.specs.Definition.Calls.{allocate}
 use Rattle.kernel.specs.Definition.Step.{heard}
-use Rattle.events.proofs.Laws.{bad-call, quiet}
+use Rattle.events.proofs.Laws.{bad-call, done}
 use Rattle.events.proofs.Taken.{allocate-bad, allocate-taken}
 use borrow.Author.Needs.{needs}
 use Rattle.events.proofs.segments.allocate_event.Statement.{statement}
@@ -21,7 +21,7 @@ allocate-good-requires c κs = search needs
 
 returns-2 : tie.Need-returns-2
 unfolding heard
-returns-2 c = λ ram out s. quiet _ ram out (c .before .before .before .before .pre) s (allocate _) _ _ (allocate-taken _ (c .before .before .if1 .left)) (c .allocate-good .ensures)
+returns-2 c = λ ram out s. done _ ram out (c .before .before .before .before .pre) s (allocate _) _ _ ram out (allocate-taken _ (c .before .before .if1 .left)) (c .allocate-good .ensures ram out)
 
 pub allocate-event-spec : {M : Type 1} → statement M
 allocate-event-spec =

@@ -1,7 +1,7 @@
 -- `events::segments::free_event` meets its contract.
 use Rattle.kernel.specs.Definition.Calls.{free}
 use Rattle.kernel.specs.Definition.Step.{heard}
-use Rattle.events.proofs.Laws.{bad-call, quiet}
+use Rattle.events.proofs.Laws.{bad-call, done}
 use Rattle.events.proofs.Taken.{free-bad, free-taken}
 use borrow.Author.Needs.{needs}
 use Rattle.events.proofs.segments.free_event.Statement.{statement}
@@ -24,7 +24,7 @@ free-good-requires c κs = search needs
 
 returns-2 : tie.Need-returns-2
 unfolding heard
-returns-2 c = λ ram out s. quiet _ ram out (c .before .before .before .before .before .pre) s (free _ _) _ _ (free-taken _ (c .before .before .before .if1 .left)) (c .free-good .ensures)
+returns-2 c = λ ram out s. done _ ram out (c .before .before .before .before .before .pre) s (free _ _) _ _ ram out (free-taken _ (c .before .before .before .if1 .left)) (c .free-good .ensures ram out)
 
 pub free-event-spec : {M : Type 1} → statement M
 free-event-spec =

@@ -1,7 +1,7 @@
 -- `events::segments::set_user_boundary_event` meets its contract.
 use Rattle.kernel.specs.Definition.Calls.{set-user-boundary}
 use Rattle.kernel.specs.Definition.Step.{heard}
-use Rattle.events.proofs.Laws.{bad-call, quiet}
+use Rattle.events.proofs.Laws.{bad-call, done}
 use Rattle.events.proofs.Taken.{set-user-boundary-bad, set-user-boundary-taken}
 use borrow.Author.Needs.{needs}
 use Rattle.events.proofs.segments.set_user_boundary_event.Statement.{statement}
@@ -21,7 +21,7 @@ set-user-boundary-good-requires c κs = search needs
 
 returns-2 : tie.Need-returns-2
 unfolding heard
-returns-2 c = λ ram out s. quiet _ ram out (c .before .before .before .before .pre) s (set-user-boundary _) _ _ (set-user-boundary-taken _ _ (c .before .before .if1 .left) (c .before .u16-at .ensures)) (c .set-user-boundary-good .ensures)
+returns-2 c = λ ram out s. done _ ram out (c .before .before .before .before .pre) s (set-user-boundary _) _ _ ram out (set-user-boundary-taken _ _ (c .before .before .if1 .left) (c .before .u16-at .ensures)) (c .set-user-boundary-good .ensures ram out)
 
 pub set-user-boundary-event-spec : {M : Type 1} → statement M
 set-user-boundary-event-spec =

@@ -1,7 +1,7 @@
 -- `events::system::default_event` meets its contract.
 use Rattle.kernel.specs.Definition.Calls.{default}
 use Rattle.kernel.specs.Definition.Step.{heard}
-use Rattle.events.proofs.Laws.{bad-call, quiet}
+use Rattle.events.proofs.Laws.{bad-call, done}
 use Rattle.events.proofs.Taken.{default-bad, default-taken}
 use borrow.Author.Needs.{needs}
 use Rattle.events.proofs.system.default_event.Statement.{statement}
@@ -30,7 +30,7 @@ default-good-requires c κs = search needs
 
 returns-2 : tie.Need-returns-2
 unfolding heard
-returns-2 c = λ ram out s. quiet _ ram out (c .before .before .before .before .before .pre) s (default _ _) _ _ (default-taken _ (c .before .before .before .if1 .left)) (c .default-good .ensures)
+returns-2 c = λ ram out s. done _ ram out (c .before .before .before .before .before .pre) s (default _ _) _ _ ram out (default-taken _ (c .before .before .before .if1 .left)) (c .default-good .ensures ram out)
 
 pub default-event-spec : {M : Type 1} → statement M
 default-event-spec =

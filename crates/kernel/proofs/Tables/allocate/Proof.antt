@@ -2,7 +2,7 @@
 use mathlib.Core.Path.{refl}
 use Rattle.kernel.specs.Definition.Calls.{allocate}
 use Rattle.kernel.specs.Definition.Step.{heard}
-use Rattle.kernel.proofs.Calls.{ready-good, call-refused, call-quiet}
+use Rattle.kernel.proofs.Calls.{ready-good, call-refused, call-done}
 use borrow.Author.Needs.{needs}
 use Rattle.kernel.proofs.Tables.allocate.Statement.{statement}
 use Rattle.kernel.proofs.Tables.allocate.Tie as tie
@@ -21,7 +21,7 @@ allocate-good-requires c κs = ready-good _ _ (c .before .is-ready .ensures .1) 
 
 returns-2 : tie.Need-returns-2
 unfolding heard
-returns-2 c = λ out. call-quiet _ _ (allocate _) out _ (c .before .before .is-ready .ensures .0) (c .before .if1 .left) _ (c .allocate-good .ensures)
+returns-2 c = λ out. call-done _ _ (allocate _) out _ (c .before .before .is-ready .ensures .0) (c .before .if1 .left) _ _ out (c .allocate-good .ensures _ out)
 
 pub allocate-spec : {M : Type 1} → statement M
 allocate-spec =

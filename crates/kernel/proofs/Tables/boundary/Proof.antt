@@ -2,7 +2,7 @@
 use mathlib.Core.Path.{refl}
 use Rattle.kernel.specs.Definition.Calls.{boundary}
 use Rattle.kernel.specs.Definition.Step.{heard}
-use Rattle.kernel.proofs.Calls.{ready-good, call-refused, call-quiet}
+use Rattle.kernel.proofs.Calls.{ready-good, call-refused, call-done}
 use borrow.Author.Needs.{needs}
 use Rattle.kernel.proofs.Tables.boundary.Statement.{statement}
 use Rattle.kernel.proofs.Tables.boundary.Tie as tie
@@ -21,7 +21,7 @@ boundary-good-requires c κs = ready-good _ _ (c .before .is-ready .ensures .1) 
 
 returns-2 : tie.Need-returns-2
 unfolding heard
-returns-2 c = λ out. call-quiet _ _ (boundary) out _ (c .before .before .is-ready .ensures .0) (c .before .if1 .left) _ (c .boundary-good .ensures)
+returns-2 c = λ out. call-done _ _ (boundary) out _ (c .before .before .is-ready .ensures .0) (c .before .if1 .left) _ _ out (c .boundary-good .ensures _ out)
 
 pub boundary-spec : {M : Type 1} → statement M
 boundary-spec =

@@ -1,5 +1,6 @@
 -- `Tables::boundary_good` meets its contract.
 use Rattle.kernel.proofs.Allocating.{last-of, last-below, boundary-done}
+use Rattle.kernel.proofs.Refusing.{quietly}
 use borrow.Author.Needs.{needs}
 use Rattle.kernel.proofs.Tables.boundary_good.Statement.{statement}
 use Rattle.kernel.proofs.Tables.boundary_good.Tie as tie
@@ -23,7 +24,7 @@ exos-boundary-requires : tie.Need-exos-boundary-requires
 exos-boundary-requires c κs = search needs
 
 returns : tie.Need-returns
-returns c = boundary-done (c .before .before .before .before .before .args .t1) _ _ (last-of (c .before .before .before .before .before .args .t1) _ _ (c .before .before .before .before .wide .ensures .0) (c .before .before .wide2 .ensures .0)) (c .exos-boundary .ensures)
+returns c = quietly _ _ _ _ (boundary-done (c .before .before .before .before .before .args .t1) _ _ (last-of (c .before .before .before .before .before .args .t1) _ _ (c .before .before .before .before .wide .ensures .0) (c .before .before .wide2 .ensures .0)) (c .exos-boundary .ensures))
 
 pub boundary-good-spec : {M : Type 1} → statement M
 boundary-good-spec =

@@ -51,7 +51,7 @@ returns-2 : tie.Need-returns-2
 returns-2 c =
     let s = c .before .before .before .before .before .before .before .before .before .before .before .before .args in
     let p = placed (c .before .before .before .before .before) in
-    λ out. close-done (s .self) _ _ out _ _ _ (p .here) (p .among) (c .closed .ensures) (c .before .before .before .close-record .ensures)
+    λ out. close-done (s .self) _ _ out _ _ _ _ (p .here) (p .among) (c .closed .ensures) (c .before .before .before .close-record .ensures .0) (c .before .before .before .close-record .ensures .1)
 
 pub close-good-spec : {M : Type 1} → statement M
 close-good-spec =

@@ -1,5 +1,6 @@
 -- `Tables::close_record` meets its contract.
-use Rattle.kernel.proofs.Closing.{record-chain, record-closed}
+use native.Mathlib.Omega.{arith}
+use Rattle.kernel.proofs.Closing.{record-chain, record-closed, record-moved, moved-most}
 use borrow.Author.Needs.{needs}
 use Rattle.kernel.proofs.Tables.close_record.Statement.{statement}
 use Rattle.kernel.proofs.Tables.close_record.Tie as tie
@@ -34,14 +35,30 @@ close-record-requires c κs =
     record-chain (s .args .self) _ _ _ _ _ _ (c .before .before .before .before .before .before .total .ensures .0) (c .before .before .before .wide16 .ensures .0) (c .before .before .before .before .before .wide .ensures .0)
     (c .before .before .before .before .total2 .ensures .0) (c .wide162 .ensures .0) _ (s .pre .0) (s .pre .1) (s .pre .2)
 
+cast-result : tie.Need-cast-result
+cast-result c =
+    let s = c .before .before .before .before .before .before .before .before .before .before .before .before .before in
+    omega (
+      arith,
+      c .before .before .before .before .before .before .before .total2 .ensures .1,
+      moved-most (s .args .self) _ _ _ _ _ _ (c .before .before .before .before .before .before .before .before .before .total .ensures .0) (c .before .before .before .before .before .before .wide16 .ensures .0)
+          (c .before .before .before .before .before .before .before .before .wide .ensures .0) (c .before .before .before .before .before .before .before .total2 .ensures .0) (c .before .before .before .wide162 .ensures .0)
+          _ (c .before .before .close-record .ensures .1),
+    )
+
 same-length : tie.Need-same-length
 same-length c = search needs
 
 returns : tie.Need-returns
 returns c =
-    let s = c .before .before .before .before .before .before .before .before .before .before .before .before .before in
-    record-closed (s .args .self) _ _ _ _ _ _ (c .before .before .before .before .before .before .before .before .before .total .ensures .0) (c .before .before .before .before .before .before .wide16 .ensures .0)
-    (c .before .before .before .before .before .before .before .before .wide .ensures .0) (c .before .before .before .before .before .before .before .total2 .ensures .0) (c .before .before .before .wide162 .ensures .0) _ _ (c .before .before .close-record .ensures)
+    let s = c .before .before .before .before .before .before .before .before .before .before .before .before .before in (
+      record-closed (s .args .self) _ _ _ _ _ _ (c .before .before .before .before .before .before .before .before .before .total .ensures .0) (c .before .before .before .before .before .before .wide16 .ensures .0)
+          (c .before .before .before .before .before .before .before .before .wide .ensures .0) (c .before .before .before .before .before .before .before .total2 .ensures .0) (c .before .before .before .wide162 .ensures .0)
+          _ _ (c .before .before .close-record .ensures .0),
+      record-moved (s .args .self) _ _ _ _ _ _ (c .before .before .before .before .before .before .before .before .before .total .ensures .0) (c .before .before .before .before .before .before .wide16 .ensures .0)
+          (c .before .before .before .before .before .before .before .before .wide .ensures .0) (c .before .before .before .before .before .before .before .total2 .ensures .0) (c .before .before .before .wide162 .ensures .0)
+          _ (c .before .before .close-record .ensures .1),
+    )
 
 pub close-record-spec : {M : Type 1} → statement M
 close-record-spec =
@@ -56,5 +73,6 @@ close-record-spec =
     wide16-requires-2
     add-close-record
     close-record-requires
+    cast-result
     same-length
     returns)

@@ -2,7 +2,7 @@
 use mathlib.Core.Path.{refl}
 use Rattle.kernel.specs.Definition.Calls.{set-user-boundary}
 use Rattle.kernel.specs.Definition.Step.{heard}
-use Rattle.kernel.proofs.Calls.{ready-good, call-refused, call-quiet}
+use Rattle.kernel.proofs.Calls.{ready-good, call-refused, call-done}
 use borrow.Author.Needs.{needs}
 use Rattle.kernel.proofs.Tables.set_user_boundary.Statement.{statement}
 use Rattle.kernel.proofs.Tables.set_user_boundary.Tie as tie
@@ -21,7 +21,7 @@ set-user-boundary-good-requires c κs = ready-good _ _ (c .before .is-ready .ens
 
 returns-2 : tie.Need-returns-2
 unfolding heard
-returns-2 c = λ out. call-quiet _ _ (set-user-boundary _) out _ (c .before .before .is-ready .ensures .0) (c .before .if1 .left) _ (c .set-user-boundary-good .ensures)
+returns-2 c = λ out. call-done _ _ (set-user-boundary _) out _ (c .before .before .is-ready .ensures .0) (c .before .if1 .left) _ _ out (c .set-user-boundary-good .ensures _ out)
 
 pub set-user-boundary-spec : {M : Type 1} → statement M
 set-user-boundary-spec =

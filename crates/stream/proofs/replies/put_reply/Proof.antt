@@ -1,4 +1,4 @@
--- `replies::put_reply` puts 46 bytes.
+-- `replies::put_reply` puts 50 bytes.
 use mathlib.Core.Path.{ap}
 use native.Mathlib.Omega.{arith}
 use Rattle.text.specs.Laws.Text.{put-then}
@@ -8,8 +8,8 @@ use borrow.Author.Needs.{needs}
 use Rattle.stream.proofs.replies.put_reply.Statement.{statement}
 use Rattle.stream.proofs.replies.put_reply.Tie as tie
 
-put-answer-requires : tie.Need-put-answer-requires
-put-answer-requires c κs = search needs
+put-outcome-requires : tie.Need-put-outcome-requires
+put-outcome-requires c κs = search needs
 
 image-digest-requires : tie.Need-image-digest-requires
 image-digest-requires c κs = search needs
@@ -37,7 +37,7 @@ same-length c = search needs
 
 returns : tie.Need-returns
 returns c =
-    let p = c .before .before .before .before .before .before .before .before .before .before .before .before .before .before .before .before .before .before .before .before .before .put-answer .ensures in
+    let p = c .before .before .before .before .before .before .before .before .before .before .before .before .before .before .before .before .before .before .before .before .before .put-outcome .ensures in
     let q = c .before .before .before .before .before .before .before .before .before .before .before .before .before .before .before .before .put-u64 .ensures in
     let r = c .before .before .before .before .before .before .before .before .before .before .before .put-u642 .ensures in
     let s = c .before .before .before .before .before .before .put-u643 .ensures in
@@ -51,7 +51,7 @@ pub put-reply-spec : {M : Type 1} → statement M
 put-reply-spec =
     tie.close
     (tie.spec
-    put-answer-requires
+    put-outcome-requires
     image-digest-requires
     put-u64-requires
     digest-requires
