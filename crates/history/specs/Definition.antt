@@ -1,6 +1,7 @@
--- The words of condition 3 and of order 13, and what is said of the definition.
+-- The words of condition 3 and of orders 8 and 13, and what is said of the definition.
 pub mod Runs
 pub mod NoMark
+pub mod Moved
 pub mod Loads
 pub mod Writes
 pub mod Users

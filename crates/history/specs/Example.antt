@@ -127,7 +127,7 @@ known-all k (c ∷ cs) (n, fs) = known-all (known-next k c n) cs fs
 -- the calls and answers of its history are known too
 abbrev plain : History → Tables → List Call → History
 plain h t [] = h
-plain h t (c ∷ cs) = plain (record { call = c; answer = answered t c .answer; output = [] } ∷ h) (answered t c .tables) cs
+plain h t (c ∷ cs) = plain (record { call = c; answer = answered t c .answer; output = []; moved = 0 } ∷ h) (answered t c .tables) cs
 
 data Alike : History → History → Type 0 where
   none : Alike [] []

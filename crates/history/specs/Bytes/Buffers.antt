@@ -33,9 +33,8 @@ use Rattle.kernel.specs.Definition.Segments.{freeing, mayReach, reachOf}
 use Rattle.kernel.specs.Definition.Reset.{bit4, bit5, bit6, emptying, restoring, releasing, resetting}
 use Rattle.kernel.specs.Definition.Bytes.{ramOpened, ramClosed, ramReset, segmentAt}
 use Rattle.kernel.specs.Definition.Good.{Good}
-use Rattle.kernel.specs.Laws.Chains.{good-chain, chain-shift}
+use Rattle.kernel.specs.Laws.Chains.{good-chain}
 use Rattle.kernel.specs.Laws.Changes.{Opened, opens-row, opens-old, opens-total, Closed, closes-row, Linked}
-use Rattle.kernel.specs.Laws.Facts.{room-small}
 use Rattle.kernel.specs.Laws.Records.{record-before, record-within}
 use Rattle.kernel.specs.Laws.KeptReset.{emptying-opened}
 use Rattle.kernel.specs.Laws.Ready.{Ready}
@@ -43,7 +42,7 @@ use Rattle.kernel.specs.declared.Tables.{Tables}
 use Rattle.history.specs.Answers.Found.{open-at}
 use Rattle.history.specs.Bytes.Patched.{patched, patched-not, patched-by, put-at-is}
 use Rattle.history.specs.Bytes.Steps.{store-fits, byte-ready}
-use Rattle.history.specs.Bytes.Places.{grown-place, closed-place, reach-users, off-line}
+use Rattle.history.specs.Bytes.Places.{grown-place, closed-place, linked-chain, reach-users, off-line}
 
 -- the number of the channel in row i, and byte k of its buffer where it lies
 abbrev pub channelIn : Tables → ℕ → ℕ
@@ -256,8 +255,7 @@ module _ (t : Tables) (ram : List ℕ) (r : Ready t (length ram)) (f : ℕ → �
       let buffer : bufferAt u i ≡ bufferAt t i = rw (o .channels) in
       let p = bufferAt t i + k in
       let within : p < totalOf t = inside i k few (omega arith) in
-      let chain : Chain (u .chain) (t .room) (totalOf t + m) (length ram) =
-      chain-shift (u .chain) (t .room) m (totalOf t) (length ram) le (room-small t (r .good)) (rw (total, o .room) at (good-chain u (length ram) (s .good) (s .size))) in
+      let chain = linked-chain t u m (length ram) o (r .good) le s in
       rw (number, buffer, o .room)
       (linked-points (u .chain) (t .room) m ram (totalOf t) chain le .moved p within
       ∙ ap (λ (x : ℕ). getD ram x 0) (grown-place t u (r .good) (o .chain) p within)

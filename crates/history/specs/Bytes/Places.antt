@@ -13,13 +13,16 @@ use Rattle.rows.specs.Definition.Classes.{USER, SHARED, timesHeld}
 use Rattle.rows.specs.Definition.Sizes.{chainLength, boundaryAt}
 use Rattle.rows.specs.Laws.Sizes.{Ends, ends, length-high, length-some, edge-low}
 use Rattle.line.specs.Definition.Line.{chainIndexOf, offsetOf, placeOf}
+use Rattle.line.specs.Within.Chains.{Chain}
 use Rattle.line.specs.Laws.Places.{index-low, index-high, offset-low, offset-high, offset-lt}
 use Rattle.kernel.specs.Definition.Tables.{SEGMENT, classAt, sharing}
 use Rattle.kernel.specs.Definition.Line.{totalOf}
 use Rattle.kernel.specs.Definition.Segments.{mayReach, reachOf}
 use Rattle.kernel.specs.Definition.Good.{Good}
 use Rattle.kernel.specs.Definition.Bytes.{segmentAt}
-use Rattle.kernel.specs.Laws.Changes.{Closed}
+use Rattle.kernel.specs.Laws.Changes.{Closed, Linked}
+use Rattle.kernel.specs.Laws.Chains.{good-chain, chain-shift}
+use Rattle.kernel.specs.Laws.Ready.{Ready}
 use Rattle.kernel.specs.Laws.Facts.{chain-exactly, chain-once, room-small, user-small}
 use Rattle.kernel.specs.declared.Tables.{Tables}
 use Rattle.history.specs.Definition.Layout.{Place}
@@ -51,6 +54,12 @@ grown-place t u g same p h = place-same (u .chain) (t .chain) (t .room) p (same 
 pub closed-place : (t u : Tables) (j : ℕ) → Closed t u j → Good u → (p : ℕ) → p < totalOf u → placeOf (u .chain) (u .room) p ≡ placeOf (t .chain) (t .room) p
 closed-place t u j o g p h =
     place-same (u .chain) (t .chain) (u .room) p (o .chain (chainIndexOf (u .room) p) (index-held u g p h)) ∙ ap (λ (x : ℕ). placeOf (t .chain) x p) (o .room)
+
+-- after a link the chain holds the line, which lies m positions further on under the old R
+pub linked-chain : (t u : Tables) (m size : ℕ) → Linked t u m → Good t → m ≤ t .room → Ready u size → Chain (u .chain) (t .room) (totalOf t + m) size
+linked-chain t u m size o g le s =
+    let total : totalOf u ≡ totalOf t = rw (o .opened, o .channels) in
+    chain-shift (u .chain) (t .room) m (totalOf t) size le (room-small t g) (rw (total, o .room) at (good-chain u size (s .good) (s .size)))
 
 -- in the last of the line's segments a position is no lower than the EXOS boundary
 edge-under : (room total p : ℕ) → p < total → chainIndexOf room p + 1 ≡ chainLength room total → boundaryAt room total ≤ offsetOf room p

@@ -11,7 +11,6 @@ use lib.ListN.{length, getD, replicate, length-append, length-replicate}
 use Rattle.rows.specs.Definition.Lists.{at}
 use Rattle.rows.specs.Laws.Lists.{and-left}
 use Rattle.rows.specs.declared.Channel.{Channel}
-use Rattle.line.specs.Within.Chains.{Chain}
 use Rattle.line.specs.Definition.Line.{placeOf, putLine, headingOf, afterOpen, afterLink}
 use Rattle.line.specs.Definition.Ram.{putAt}
 use Rattle.line.specs.Laws.Walks.{put-elsewhere}
@@ -31,7 +30,7 @@ use Rattle.kernel.specs.Definition.Good.{Good}
 use Rattle.kernel.specs.Definition.Answers.{Decision}
 use Rattle.kernel.specs.Definition.Calls.{Call}
 use Rattle.kernel.specs.Definition.Bytes.{ramOpened, ramClosed, segmentAt, ramAfter}
-use Rattle.kernel.specs.Laws.Chains.{good-chain, chain-shift}
+use Rattle.kernel.specs.Laws.Chains.{good-chain}
 use Rattle.kernel.specs.Laws.Effects.{Effect, resets, opens, closes, reads, writes, names, counts, links, tells, bounds, grants, shares, frees, stores, loads, loads-module}
 use Rattle.kernel.specs.Laws.Changes.{Opened, opens-total, opening-opens, Linked, linking-links}
 use Rattle.kernel.specs.Laws.Facts.{reach-small}
@@ -41,7 +40,7 @@ use Rattle.kernel.specs.declared.Tables.{Tables}
 use Rattle.history.specs.Bytes.Words.{stored}
 use Rattle.history.specs.Definition.Users.{Users}
 use Rattle.history.specs.Answers.Found.{in-list}
-use Rattle.history.specs.Bytes.Places.{off-line, off-room, users-small}
+use Rattle.history.specs.Bytes.Places.{linked-chain, off-line, off-room, users-small}
 use Rattle.history.specs.Bytes.Patched.{patched, patched-in, patched-not, patched-by, put-at-is}
 use Rattle.history.specs.Bytes.Each.{patchedEach}
 use Rattle.history.specs.Bytes.Steps.{store-fits, byte-ready}
@@ -89,9 +88,7 @@ module _ (t u : Tables) (ram : List ℕ) (r : Ready t (length ram)) (s : Ready u
   link-user : (m : ℕ) → Linked t u m → m ≤ t .room → getD (afterLink (u .chain) (t .room) m ram (totalOf t)) x 0 ≡ old
   link-user m o h =
       let total : totalOf u ≡ totalOf t = rw (o .opened, o .channels) in
-      let small : t .room ≤ 16384 = omega (arith, r .good .room .most, r .good .room .top) in
-      let chain : Chain (u .chain) (t .room) (totalOf t + m) (length ram) =
-      chain-shift (u .chain) (t .room) m (totalOf t) (length ram) h small (rw (total, o .room) at (good-chain u (length ram) (s .good) (s .size))) in
+      let chain = linked-chain t u m (length ram) o (r .good) h s in
       linked-points (u .chain) (t .room) m ram (totalOf t) chain h .kept x
       (λ p l e. off-line u (s .good) row offset later p (omega arith) (e ∙ ap (λ (y : ℕ). placeOf (u .chain) y p) (sym (o .room))))
       (λ p l k e. off-room u (s .good) row offset later p (omega (arith, o .room)) (omega arith) e)

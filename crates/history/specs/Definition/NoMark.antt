@@ -27,8 +27,8 @@ pub record InRecord (t : Tables) (channel i : ℕ) : Type 0 where
 
 -- s is the state before the open, `opened` the one that it left; the close is lent `output₁`
 pub record NoMark (s opened : State) (channel n : ℕ) (output₁ : List ℕ) : Type 0 where
-  -- the close is done, and leaves its output as it was
-  pub done : event opened (close channel) output₁ ≡ record { call = close channel; answer = Done 0 0; output = output₁ }
+  -- the close is done, leaves its output as it was and moves nothing
+  pub done : event opened (close channel) output₁ ≡ record { call = close channel; answer = Done 0 0; output = output₁; moved = 0 }
   -- it "gives back the same tables"
   pub tables : after opened (close channel) output₁ .tables ≡ s .tables
   -- "and every RAM byte outside that record's positions"; the RAM is as long as it was
@@ -85,13 +85,14 @@ pub record LoadsLost (P : ℕ → Type 0) (was : List ℕ) (s u : State) (c : Ca
   pub within : j < size
   pub lost : Lost P was (segmentAt (rowOf (s .tables) segment) + offset + j) (getD (event u c output .output) j 0) (getD (event s c output .output) j 0)
 
--- two states with the same tables and the same RAM, but for bytes that were lost at places of P; any call has the same answer and the same output, but for
--- such bytes that it loads, and what is lent of a buffer is the same
+-- two states with the same tables and the same RAM, but for bytes that were lost at places of P; any call has the same answer, moves as many bytes and has the same
+-- output, but for such bytes that it loads, and what is lent of a buffer is the same
 pub record AlikeBut (P : ℕ → Type 0) (was : List ℕ) (s u : State) : Type 0 where
   pub tables : u .tables ≡ s .tables
   pub size : length (u .ram) ≡ length (s .ram)
   pub each : (i : ℕ) → (getD (u .ram) i 0 ≡ getD (s .ram) i 0) ⊎ Lost P was i (getD (u .ram) i 0) (getD (s .ram) i 0)
   pub answer : (c : Call) (output : List ℕ) → event u c output .answer ≡ event s c output .answer
+  pub moved : (c : Call) (output : List ℕ) → event u c output .moved ≡ event s c output .moved
   pub lengths : (c : Call) (output : List ℕ) → length (event u c output .output) ≡ length (event s c output .output)
   pub bytes : (c : Call) (output : List ℕ) (j : ℕ) → (getD (event u c output .output) j 0 ≡ getD (event s c output .output) j 0) ⊎ LoadsLost P was s u c output j
   pub lent : (channel : ℕ) → partOn (u .tables) (u .ram) channel ≡ partOn (s .tables) (s .ram) channel

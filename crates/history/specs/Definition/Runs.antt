@@ -21,11 +21,12 @@ pub record State : Type 0 where
   pub tables : Tables
   pub ram : List ℕ
 
--- a call and its reply: the answer, and the lent output as the call left it
+-- a call and its reply: the answer, the lent output as the call left it, and how many bytes it moved
 pub record Event : Type 0 where
   pub call : Call
   pub answer : Answer
   pub output : List ℕ
+  pub moved : ℕ
 
 -- the last event first
 abbrev pub History : Type 0
@@ -40,7 +41,7 @@ after s c output =
 abbrev pub event : State → Call → (output : List ℕ) → Event
 event s c output =
     let r = step (s .tables) (s .ram) c output in
-    record { call = c; answer = r .answer; output = r .output }
+    record { call = c; answer = r .answer; output = r .output; moved = r .moved }
 
 -- s is what an accepted start leaves, whatever the tables and RAM before
 pub record Started (s : State) : Type 0 where

@@ -10,15 +10,16 @@ use Rattle.rows.specs.Definition.Lists.{at}
 use Rattle.rows.specs.declared.Channel.{Channel}
 use Rattle.line.specs.Within.Chains.{Chain}
 use Rattle.line.specs.Definition.Line.{chainIndexOf, offsetOf, placeOf}
+use Rattle.line.specs.Laws.Moves.{length-close}
 use Rattle.line.specs.Laws.Places.{place-apart}
 use Rattle.line.specs.Laws.Points as points
 use Rattle.line.specs.Laws.PointsOpened.{opened-points}
 use Rattle.line.specs.Laws.PointsClosed.{closed-points}
 use Rattle.kernel.specs.Definition.Tables.{channelAt}
 use Rattle.kernel.specs.Definition.Line.{recordAt, totalOf, sizeAt, roomFor, opening, closing}
-use Rattle.kernel.specs.Definition.Answers.{granted, gives, Decision}
+use Rattle.kernel.specs.Definition.Answers.{granted, Decision}
 use Rattle.kernel.specs.Definition.Calls.{«open», close, onClose}
-use Rattle.kernel.specs.Definition.Bytes.{ramOpened, ramClosed, segmentAt, ramAfter, outputAfter}
+use Rattle.kernel.specs.Definition.Bytes.{ramOpened, ramClosed, movesClosed, segmentAt, ramAfter, outputAfter, movesOf}
 use Rattle.kernel.specs.Definition.Step.{Result, result, heard, decided, completed, step}
 use Rattle.kernel.specs.Laws.Changes.{Opened, opening-opens, opens-row, opens-total}
 use Rattle.kernel.specs.Laws.Effects.{Effect, opens}
@@ -38,8 +39,8 @@ use Rattle.history.specs.NoMark.Spare.{opened-outside}
 
 -- a close of a channel that is open
 close-is : (s : State) → Sound s → (channel row : ℕ) → channelAt (s .tables) channel ≡ row → row < s .tables .opened → (output : List ℕ)
-    → step (s .tables) (s .ram) (close channel) output ≡ result (gives (Done 0 0) (closing (s .tables) row)) (ramClosed (s .tables) (s .ram) row) output
-unfolding step decided heard completed onClose ramAfter outputAfter
+    → step (s .tables) (s .ram) (close channel) output ≡ result (record { answer = Done 0 0; tables = closing (s .tables) row; moved = length (movesClosed (s .tables) row) }) (ramClosed (s .tables) (s .ram) row) output
+unfolding step decided heard completed onClose ramAfter outputAfter movesOf
 close-is s r channel row here known output = rw (ready-test r, here, lt-leb (s .tables .opened) row known)
 
 module _ (t : Tables) (ram : List ℕ) (r : Ready t (length ram)) (c : Channel) (few : t .opened < 32) (fits : roomFor t (t .room) (totalOf t + (16 + c .n)) ≡ true)
@@ -113,12 +114,17 @@ module _ (t : Tables) (ram : List ℕ) (r : Ready t (length ram)) (c : Channel) 
       place-apart (u .chain) (t .room) (totalOf t + 16 + c .n) (length ram) chain (totalOf t + in-it .k) p (omega arith) (omega arith) (sym (place i in-it) ∙ there) in
       omega arith
 
+  -- no record stands after the last one
+  none-moved : length (movesClosed u (t .opened)) ≡ 0
+  none-moved =
+      omega (arith, length-close (u .chain) (u .room) (recordAt u (t .opened)) (16 + sizeAt u (t .opened)) (totalOf u), first, buffer, opens-total (r .good) o few)
+
   no-mark : (output₁ : List ℕ) → NoMark (record { tables = t; ram = ram }) (record { tables = u; ram = held }) (c .number) (c .n) output₁
   no-mark output₁ =
       let sound : Ready u (length held) = rw (opened .size) s in
-      let is = close-is (record { tables = u; ram = held }) sound (c .number) (t .opened) last (omega (arith, o .opened)) output₁ in
+      let is = rw none-moved at (close-is (record { tables = u; ram = held }) sound (c .number) (t .opened) last (omega (arith, o .opened)) output₁) in
       record {
-        done = ap (λ (x : Result). record { call = close (c .number); answer = x .answer; output = x .output }) is;
+        done = ap (λ (x : Result). record { call = close (c .number); answer = x .answer; output = x .output; moved = x .moved }) is;
         tables = ap (λ (x : Result). x .tables) is ∙ open-close t c (r .good) few fits;
         size = ap (λ (x : Result). length (x .ram)) is ∙ closed .size ∙ opened .size;
         kept = λ i off. ap (λ (x : Result). getD (x .ram) i 0) is ∙ kept-bytes i off;

@@ -207,6 +207,7 @@ module _ (P : ℕ → Type 0) (was : List ℕ) where
     size = l .size;
     each = l .each;
     answer = λ c output. rw (e, l .size);
+    moved = λ c output. rw (e, l .size);
     lengths = λ c output. ap length (shown s u e l c output) ∙ so s u e l c output .size;
     bytes = bytes-but s u e l;
     lent = λ channel. rw e (part-same P was (s .tables) (u .ram) (s .ram) l channel);

@@ -39,4 +39,4 @@ leaves-no-mark-next s good size channel driver n name output output₁ e c outpu
       | inl f ↦ f
       | inr l ↦ absurd (none-loaded s opened u channel n output₁ (record { good = good; size = size }) m c output₂ j l)
     ]) in
-    rw (a .answer c output₂, same)
+    rw (a .answer c output₂, same, a .moved c output₂)

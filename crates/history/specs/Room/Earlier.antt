@@ -20,7 +20,7 @@ use Rattle.kernel.specs.Definition.Line.{totalOf, roomFor}
 use Rattle.kernel.specs.Definition.Devices.{linking, deviceNamed}
 use Rattle.kernel.specs.Definition.Names.{wanted, deviceFor}
 use Rattle.kernel.specs.declared.Wanted.{Wanted}
-use Rattle.kernel.specs.Definition.Bytes.{Change, nothing, moved}
+use Rattle.kernel.specs.Definition.Bytes.{Change, nothing, lowered}
 use Rattle.kernel.specs.Definition.Answers.{numberOf, gives, _changing_}
 use Rattle.kernel.specs.Definition.Good.{Sized, Good, goodTest}
 use Rattle.kernel.specs.Definition.Calls.{Call, «open», link, onOpen, onOpenNamed, onOpenTo, onLink}
@@ -103,12 +103,12 @@ module _ (t : Tables) (ram output m : ℕ) (name : List ℕ) (s : Sized t) (p : 
       (both-by (ltb (t .room) (256 + m)) (roomFor t (t .room - m) (totalOf t)) refl)
     where
       both-by : (low fits : Bool) → ltb (t .room) (256 + m) ≡ low
-          → OnlyRoom (cond (low || not fits) (gives NoRoom t changing nothing) (gives (Done (t .known) (t .room - m)) (linking t m (deviceNamed name)) changing moved m) .answer)
+          → OnlyRoom (cond (low || not fits) (gives NoRoom t changing nothing) (gives (Done (t .known) (t .room - m)) (linking t m (deviceNamed name)) changing lowered m) .answer)
           ((256 + m ≤ t .room) × (fits ≡ true))
       both-by true fits e =
           let h : t .room < 256 + m = ltb-true _ _ e in
           record { refused = (λ _ b. omega (arith, b .0), λ _. refl); done = λ b. absurd (omega (arith, b .0)) }
       both-by false fits e =
-          let x = left-by fits (t .known) (t .room - m) t (linking t m (deviceNamed name)) (moved m) in
+          let x = left-by fits (t .known) (t .room - m) t (linking t m (deviceNamed name)) (lowered m) in
           let h : 256 + m ≤ t .room = ltb-false _ _ e in
           record { refused = (λ a b. x .refused .0 a (b .1), λ a. x .refused .1 (λ b. a (h, b))); done = λ b. x .done (b .1) }
