@@ -179,11 +179,7 @@ fn events(log: &[u8]) -> impl Iterator<Item = (u16, &[u8])> {
 pub fn run(ram: &mut [u8], out: &mut [u8], log: &[u8]) -> Ran {
     let mut tables = Tables::default();
     let mut ran = Ran {
-        last: Reply {
-            number: 0,
-            a: 0,
-            b: 0,
-        },
+        last: Reply::new(0, 0, 0),
         answers: [0; 21],
     };
     for (kind, body) in events(log) {

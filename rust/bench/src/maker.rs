@@ -12,7 +12,7 @@ pub fn maker(log: &Log) -> Log {
     let mut machine = Machine::lending(OUTPUT);
     let mut made = Log::default();
     for (kind, body) in events(&log.bytes) {
-        let Reply { number, a, b } = machine.answer(decode(kind, body));
+        let Reply { number, a, b, .. } = machine.answer(decode(kind, body));
         let printed = match (kind, number) {
             (6 | 20 | 258, 0) => b,
             _ => 0,

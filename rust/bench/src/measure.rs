@@ -49,7 +49,7 @@ impl Side {
         })
     }
 
-    /// All sides, once they have left the same last answer and the same RAM of a log.
+    /// All sides, once they have left the same last answer, bytes moved too, and the same RAM of a log.
     fn agreeing(segments: usize, log: &Log) -> [Side; 3] {
         let mut sides = Side::all(segments);
         let last = sides.each_mut().map(|side| side.replay(log));

@@ -2,8 +2,8 @@
 
 use exos_kernel::Reply;
 
-/// A function that replays a buffer of event records from no tables: RAM, output, records, and six bytes for the last
-/// answer (number, a, b); it gives how many bytes of records it took.
+/// A function that replays a buffer of event records from no tables: RAM, output, records, and ten bytes for the last
+/// answer (number, a and b in two bytes each, the bytes moved in four); it gives how many bytes of records it took.
 type Entry =
     unsafe extern "C" fn(*mut u8, usize, *mut u8, usize, *const u8, usize, *mut u8, usize) -> usize;
 
@@ -41,7 +41,7 @@ pub fn tested(ram: &mut [u8], out: &mut [u8], log: &[u8]) -> Reply {
 }
 
 fn replay(entry: Entry, ram: &mut [u8], out: &mut [u8], log: &[u8]) -> Reply {
-    let mut reply = [0u8; 6];
+    let mut reply = [0u8; 10];
     // SAFETY: each pointer comes with the length of the slice that it is from, and the slices do not overlap.
     let taken = unsafe {
         entry(
@@ -56,9 +56,11 @@ fn replay(entry: Entry, ram: &mut [u8], out: &mut [u8], log: &[u8]) -> Reply {
         )
     };
     assert_eq!(taken, log.len(), "a whole log");
+    let [number, _, a, _, b @ .., m0, m1, m2, m3] = reply;
     Reply {
-        number: reply[0],
-        a: reply[2],
-        b: u16::from_le_bytes([reply[4], reply[5]]),
+        number,
+        a,
+        b: u16::from_le_bytes(b),
+        moved: u32::from_le_bytes([m0, m1, m2, m3]),
     }
 }

@@ -20,7 +20,7 @@ fn a_close_before_a_long_record_is_done() {
     log.open(2, 60_000 - 16, b"VIDEO:");
     log.close(1);
     let ran = run(&mut vec![0; 8 * 16_384], &mut [], &log.bytes);
-    assert_eq!(ran.answers[0], 4);
+    assert_eq!((ran.answers[0], ran.last.moved), (4, 60_000));
 }
 
 #[test]

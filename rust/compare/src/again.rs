@@ -2,7 +2,11 @@
 //! with lines up to each edge, on bytes that were not zero, with a segment shared,
 //! with every device and name, in the last row, and on the longest line.
 
-use crate::protocol::{Case, Request, IMAGE};
+use crate::planned::{
+    allocate, case_of, close, filled, free, link, open, open_named, reset, set_user_boundary,
+    store, DEVICE, USER,
+};
+use crate::protocol::{Case, Request};
 use exos_kernel::{HEADING, SEGMENT};
 use std::iter;
 use std::ops::RangeInclusive;
@@ -14,9 +18,6 @@ pub const AGAIN: [fn() -> Case; 7] = [lines, devices, stored, not_falling, share
 const R: usize = 256;
 /// The channel that is opened and closed again.
 const CHANNEL: u8 = 200;
-/// The callers of allocate and free.
-const USER: u8 = 0;
-const DEVICE: u8 = 1;
 
 /// With no channel before, with one that ends just above 255's edge, and with
 /// another behind it in the next segment.
@@ -83,7 +84,7 @@ fn not_falling() -> Case {
 fn shared() -> Case {
     let taken = [allocate(USER), allocate(USER), allocate(USER)];
     let of_255 = [store(255, 0, R), set_user_boundary(100)];
-    let reset = [Request::new(0, 0, &[0x70])];
+    let reset = [reset(0x70)];
     let of_254 = [
         allocate(USER),
         allocate(USER),
@@ -139,72 +140,12 @@ fn agains(t: usize, ends: impl IntoIterator<Item = usize>) -> impl Iterator<Item
 
 /// An open that brings a line of T bytes to an end, with its buffer written.
 fn kept(channel: u8, t: usize, end: usize) -> impl Iterator<Item = Request> {
-    let n = end - t - HEADING;
-    let written = [&[channel, 0, 0], &bytes(n)[..]].concat();
-    [open(channel, end - t), Request::new(0, 8, &written)].into_iter()
+    filled(channel, end - t)
 }
 
 /// A start and the calls that follow.
 fn case(list: RangeInclusive<u8>, calls: impl Iterator<Item = Request>) -> Case {
     case_of(R, list, calls)
-}
-
-fn case_of(cold_r: usize, list: RangeInclusive<u8>, calls: impl Iterator<Item = Request>) -> Case {
-    let ram_length = (SEGMENT * list.len()) as u32;
-    let r = (cold_r as u16).to_le_bytes();
-    let body: Vec<u8> = r.into_iter().chain(list).collect();
-    let start = Request::new(0, 256, &body);
-    Case {
-        image: [0; IMAGE],
-        ram_length,
-        seed: 1,
-        requests: iter::once(start).chain(calls).collect(),
-    }
-}
-
-/// An open whose record has so many bytes.
-fn open(channel: u8, length: usize) -> Request {
-    open_named(channel, length, b"VIDEO:")
-}
-
-fn open_named(channel: u8, length: usize, name: &[u8]) -> Request {
-    let [low, high] = ((length - HEADING) as u16).to_le_bytes();
-    Request::new(0, 1, &[&[channel, 0, low, high], name].concat())
-}
-
-fn close(channel: u8) -> Request {
-    Request::new(0, 3, &[channel])
-}
-
-fn link(m: u16, name: &[u8]) -> Request {
-    Request::new(0, 21, &[&m.to_le_bytes(), name].concat())
-}
-
-fn allocate(caller: u8) -> Request {
-    Request::new(0, 24, &[caller])
-}
-
-fn free(caller: u8, segment: u8) -> Request {
-    Request::new(0, 25, &[caller, segment])
-}
-
-fn set_user_boundary(value: u16) -> Request {
-    Request::new(0, 23, &value.to_le_bytes())
-}
-
-/// A store of so many bytes.
-fn store(segment: u8, offset: u16, length: usize) -> Request {
-    let [low, high] = offset.to_le_bytes();
-    Request::new(
-        0,
-        257,
-        &[&[segment, low, high], &bytes(length)[..]].concat(),
-    )
-}
-
-/// Bytes that differ from place to place, none of them zero.
-fn bytes(length: usize) -> Vec<u8> {
-    (0..length).map(|at| (at % 239) as u8 + 1).collect()
 }
 
 #[cfg(test)]

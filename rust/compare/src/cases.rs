@@ -1,6 +1,6 @@
 //! The cases of a seed: tables by sentences, modules, the writer, reads, opens
-//! that are closed again, logs steered to the edges, damaged logs, damaged tables,
-//! RAM of a wrong length.
+//! that are closed again, closes and links, logs steered to the edges, damaged logs,
+//! damaged tables, RAM of a wrong length.
 
 use crate::damage::damage;
 use crate::edges::ram_length_for;
@@ -24,7 +24,7 @@ pub fn played(seed: u64, number: u64) -> Played {
         Plan::Writers => Player::of(writers()).played,
         Plan::Reads => Player::of(reads()).played,
         Plan::FarReads => Player::of(far_reads()).played,
-        Plan::Again(case) => Player::of(case()).played,
+        Plan::Again(case) | Plan::Moves(case) => Player::of(case()).played,
         Plan::Lists => lists(&mut Random::new(seed, number)),
         Plan::ThereAndBack => there_and_back(&mut Random::new(seed, number)),
         plan => steered(&mut Random::new(seed, number), plan),

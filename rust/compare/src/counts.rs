@@ -202,6 +202,7 @@ mod tests {
             number,
             a: 0,
             b: 0,
+            moved: 0,
             image: 0,
             ram: 0,
             output: 0,

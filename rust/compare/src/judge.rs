@@ -47,10 +47,15 @@ impl Difference {
             Ok(program) => program,
             Err(stop) => return vec![stop.to_string()],
         };
+        let moved = format!(
+            "moved (the kernel {}, the program {})",
+            kernel.moved, program.moved
+        );
         [
             (kernel.number == program.number, "answer"),
             (kernel.a == program.a, "a"),
             (kernel.b == program.b, "b"),
+            (kernel.moved == program.moved, &moved),
             (kernel.image == program.image, "tables"),
             (kernel.ram == program.ram, "RAM"),
             (kernel.output == program.output, "output"),
@@ -73,6 +78,7 @@ mod tests {
         number: 0,
         a: 1,
         b: 2,
+        moved: 8,
         image: 3,
         ram: 4,
         output: 5,
@@ -103,6 +109,10 @@ mod tests {
         let each = [
             (Reply { a: 7, ..REPLY }, "a"),
             (Reply { b: 7, ..REPLY }, "b"),
+            (
+                Reply { moved: 0, ..REPLY },
+                "moved (the kernel 8, the program 0)",
+            ),
             (Reply { image: 7, ..REPLY }, "tables"),
             (Reply { output: 7, ..REPLY }, "output"),
             (Reply { part: 0, ..REPLY }, "part lent"),
@@ -143,6 +153,17 @@ mod tests {
             (
                 Fault::RamMarked,
                 "the kernel's open and close leave a mark in the RAM",
+            ),
+            (
+                Fault::Moved {
+                    reported: 8,
+                    due: 9,
+                },
+                "the kernel reports 8 bytes moved, 9 are due",
+            ),
+            (
+                Fault::MovedPastT { reported: 8, t: 7 },
+                "the kernel reports 8 bytes moved, T was 7",
             ),
         ];
         for (fault, words) in faults {

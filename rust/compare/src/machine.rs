@@ -1,5 +1,6 @@
 //! The independent kernel's side: its tables, its RAM and their digests.
 
+use crate::moved::Moves;
 use crate::no_mark::{Before, Opened};
 use crate::protocol::{
     digest, image_of, joined, power, ram_of, tables_of, Case, Reply, Request, Writing, UNTOUCHED,
@@ -35,6 +36,7 @@ impl Machine {
         let opened = self.opened.take();
         self.again = opened.filter(|opened| opened.is_closed_by(request));
         let before = Before::of(request, &self.tables, &self.ram.bytes);
+        let moves = Moves::of(request, &self.tables);
         let reply = self.made(request);
         let before = before.filter(|_| reply.number == 0);
         self.opened = before.map(|before| before.opened(&self.tables));
@@ -42,7 +44,7 @@ impl Machine {
             .again()
             .and_then(|opened| opened.fault(&reply, &self.tables, &self.ram.bytes));
         Reply {
-            fault: reply.fault.or(mark),
+            fault: reply.fault.or(mark).or(moves.fault(&reply)),
             ..reply
         }
     }
@@ -72,6 +74,7 @@ impl Machine {
             number: u16::from(reply.number),
             a: u16::from(reply.a),
             b: reply.b,
+            moved: reply.moved,
             image: digest(&image_of(&self.tables)),
             ram: self.ram.digest(),
             output: digest(&output),
@@ -106,11 +109,7 @@ fn written(record: &[u8], buffer: &mut [u8]) -> exos_kernel::Reply {
         return Refusal::Call.into();
     };
     match write_module(page, offset, &items, buffer) {
-        Ok(length) => exos_kernel::Reply {
-            number: 0,
-            a: 0,
-            b: length as u16,
-        },
+        Ok(length) => exos_kernel::Reply::new(0, 0, length as u16),
         Err(refusal) => refusal.into(),
     }
 }

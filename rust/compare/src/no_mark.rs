@@ -127,6 +127,7 @@ mod tests {
         number: 0,
         a: 0,
         b: 0,
+        moved: 0,
         image: 0,
         ram: 0,
         output: 0,

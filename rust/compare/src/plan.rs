@@ -1,6 +1,7 @@
 //! What a case is about, by its number.
 
 use crate::again::AGAIN;
+use crate::moves::MOVES;
 use crate::protocol::Case;
 use crate::steer::{Mood, MOODS};
 use exos_kernel::ROWS_OF_SEGMENTS;
@@ -20,6 +21,8 @@ pub enum Plan {
     FarReads,
     /// Opens that are closed again at once, which leave nothing to chance.
     Again(fn() -> Case),
+    /// Closes and links that leave nothing to chance.
+    Moves(fn() -> Case),
     /// Requests to the writer that leave nothing to chance.
     Writers,
     /// A log of so many segments, whose line comes to fill them.
@@ -46,8 +49,8 @@ const FIRST_SENTENCE: u64 = 100;
 
 /// What the case of a number is about. Of a hundred cases most are damaged
 /// tables, which take few calls each, so that most calls are those of logs;
-/// after the first hundred come the sentences, the modules, the writer, the reads
-/// and the opens that are closed again.
+/// after the first hundred come the sentences, the modules, the writer, the reads,
+/// the opens that are closed again, and the closes and links.
 pub fn plan(number: u64) -> Plan {
     planned(number).unwrap_or_else(|| plan_in_hundred(number))
 }
@@ -58,7 +61,9 @@ fn planned(number: u64) -> Option<Plan> {
     let sentences = BROKEN.iter().chain(KEPT).map(Plan::Sentence);
     let fixed = [Plan::Modules, Plan::Writers, Plan::Reads, Plan::FarReads];
     let again = AGAIN.into_iter().map(Plan::Again);
-    sentences.chain(fixed).chain(again).nth(row as usize)
+    let moves = MOVES.into_iter().map(Plan::Moves);
+    let mut planned = sentences.chain(fixed).chain(again).chain(moves);
+    planned.nth(row as usize)
 }
 
 fn plan_in_hundred(number: u64) -> Plan {
@@ -150,6 +155,7 @@ mod tests {
     #[test]
     fn every_sentence_comes() {
         let count = (0..5_000).filter_map(planned).count();
-        assert_eq!(count, BROKEN.len() + KEPT.len() + 4 + AGAIN.len());
+        let fixed = 4 + AGAIN.len() + MOVES.len();
+        assert_eq!(count, BROKEN.len() + KEPT.len() + fixed);
     }
 }

@@ -235,11 +235,12 @@ mod tests {
 
     #[test]
     fn replies_are_read_in_order() {
+        // a request is longer than a reply, so that its echo is enough for one
         let case = Case {
             image: [7; IMAGE],
             ram_length: 1,
             seed: 2,
-            requests: vec![Request::new(3, 22, &[4]); 20],
+            requests: vec![Request::new(3, 22, &[4; REPLY]); 20],
         };
         let mut echo = Running::start(&mut Command::new("cat"), LIMIT).unwrap();
         let replies = echo.replies(&case).given;
@@ -248,7 +249,7 @@ mod tests {
         let expected: Vec<_> = parts
             .map(|part| Reply::from_bytes(part.try_into().unwrap()))
             .collect();
-        assert_eq!(replies, expected);
+        assert_eq!((replies.len(), replies), (20, expected));
     }
 
     /// What a command replies to a case within a fifth of a second.

@@ -95,7 +95,11 @@ fn answer(reply: &Reply) -> String {
     if reply.panicked() {
         return Fault::Panicked.to_string();
     }
-    format!("{} {} {}", reply.number, reply.a, reply.b)
+    let moved = match reply.moved {
+        0 => String::new(),
+        moved => format!(", {moved} moved"),
+    };
+    format!("{} {} {}{moved}", reply.number, reply.a, reply.b)
 }
 
 fn tables_in_words(title: &str, tables: &Tables) -> String {
@@ -210,6 +214,21 @@ mod tests {
                 "#   segments: 2: 8 page zero, 255 system\n",
                 "#   channels: 0: \n",
                 "#   channels: 1: 5 (device 1, unit 7, n 100)\n",
+            ],
+        );
+    }
+
+    #[test]
+    fn bytes_moved_in_words() {
+        let open = |channel: u8| Request::new(0, 1, &[channel, 0, 4, 0, b'N', b'E', b'T', b':']);
+        let start = Request::new(0, 256, &[0, 1, 8, 255]);
+        let requests = vec![start, open(5), open(6), Request::new(0, 3, &[5])];
+        check(
+            &told([0; IMAGE], requests),
+            &[
+                "\nopen 6 0 4 \"NET:\" # 3, output of 0: 0 1 0\n",
+                "\nclose 5 # 4, output of 0: 0 0 0, 20 moved\n",
+                "# the program: 9 0 0, 20 moved\n",
             ],
         );
     }

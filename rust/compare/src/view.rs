@@ -69,6 +69,11 @@ impl<'a> View<'a> {
         lengths(&channels[..row])..lengths(&channels[..=row])
     }
 
+    /// The lengths of the records after a row's.
+    pub fn after(self, row: usize) -> usize {
+        lengths(&self.channels()[row + 1..])
+    }
+
     /// The position of the first byte of a row's buffer.
     fn first(self, row: usize) -> usize {
         self.record(row).start + HEADING
@@ -194,6 +199,7 @@ mod tests {
         let tables = tables();
         let view = View(&tables);
         assert_eq!((view.record(0), view.record(1)), (0..516, 516..1_532));
+        assert_eq!((view.after(0), view.after(1)), (1_016, 0));
         assert_eq!(view.place(0), 5 * 16_384 + 899);
         assert_eq!(view.place(899), 5 * 16_384);
         assert_eq!(view.place(900), 4 * 16_384 + 16_383);

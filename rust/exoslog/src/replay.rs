@@ -35,7 +35,7 @@ mod tests {
         let mut machine = Machine::default();
         let replies: Vec<String> = records(&log)
             .map(|record| match answer_to(&mut machine, record) {
-                Some(Reply { number, a, b }) => format!("{number} {a} {b}"),
+                Some(Reply { number, a, b, .. }) => format!("{number} {a} {b}"),
                 None => "bad".to_string(),
             })
             .collect();

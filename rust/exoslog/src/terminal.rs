@@ -184,6 +184,7 @@ mod tests {
 RAM after record 6 of 6
   set user boundary 4096
   0 done, a 0, b 0
+  0 bytes moved in all
 
 R 11000, cold R 11074, T 4116, chain 255
 EXOS boundary 6884 of 255, user boundary 4096 of 255
@@ -224,10 +225,14 @@ l linked devices' RAM, = above the cold R
         for channel in 223..=254 {
             text.push_str(&format!("open {channel} 0 1500 \"{name}-255:\"\n"));
         }
+        text.push_str(&format!("link 9 \"{name}\"\n"));
         text.push_str(&format!("write 254 0 {}\n", "ab".repeat(1000)));
         let picture = picture(&text);
         assert!(picture.contains("\n  6     254  1500  1516  46996 to 48511    255 3 WWWW"));
         assert!(picture.contains("...\n  0 done, a 0, b 1000\n"));
+        assert!(
+            picture.contains("\n  48512 bytes moved in all, most 48512: record 35, link 9 \"WW")
+        );
         assert!(picture.lines().all(|line| line.len() <= WIDTH));
     }
 

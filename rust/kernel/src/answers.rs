@@ -9,6 +9,8 @@ pub struct Reply {
     pub a: u8,
     /// The second value.
     pub b: u16,
+    /// Order 8: "how many record bytes changed position or place".
+    pub moved: u32,
 }
 
 /// "17 SHARED is a grant: allocate gave a shared segment, b the user
@@ -16,9 +18,28 @@ pub struct Reply {
 pub const SHARED_GRANT: u8 = 17;
 
 impl Reply {
+    /// An answer and its values. Order 8: "Other and refused calls report 0."
+    pub const fn new(number: u8, a: u8, b: u16) -> Reply {
+        Reply {
+            number,
+            a,
+            b,
+            moved: 0,
+        }
+    }
+
     /// "0 is done."
     pub(crate) fn done(a: u8, b: u16) -> Reply {
-        Reply { number: 0, a, b }
+        Reply::new(0, a, b)
+    }
+
+    /// The same with so many bytes moved: "Close and links of any sort report in a
+    /// further value".
+    pub(crate) fn having_moved(self, bytes: usize) -> Reply {
+        Reply {
+            moved: bytes as u32,
+            ..self
+        }
     }
 }
 
@@ -99,10 +120,6 @@ impl From<Refusal> for Reply {
             Refusal::Driver(status) => status,
             _ => 0,
         };
-        Reply {
-            number: refusal.number(),
-            a,
-            b: 0,
-        }
+        Reply::new(refusal.number(), a, 0)
     }
 }

@@ -146,6 +146,6 @@ fn given(kind: u16, record: Record<'_>) -> Option<(Reply, &[u8])> {
         return None;
     };
     let b = u16::from_le_bytes([b0, b1]);
-    let reply = Reply { number, a, b };
+    let reply = Reply::new(number, a, b);
     (bytes.len() == bytes_printed(kind, reply)).then_some((reply, bytes))
 }

@@ -104,18 +104,19 @@ fn heading(channel: &Channel) -> [u8; HEADING] {
 }
 
 /// "Close removes one; later records move up and keep all their bytes;
-/// positions that leave the line become zero."
+/// positions that leave the line become zero." Only the later records' bytes are
+/// moved bytes.
 pub(crate) fn close(tables: &mut Tables, ram: &mut [u8], number: u8) -> Result<Reply, Refusal> {
     let found = find(tables, number)?;
     let end = found.start + HEADING + found.n;
     let t = tables.line_length();
     let left = t - (end - found.start);
     let line = Line::of(tables);
-    line.move_up(ram, end..t, found.start);
+    let moved = line.move_up(ram, end..t, found.start);
     line.clear(ram, left..t);
     remove(tables, found.row);
     segments::shorten_chain(tables, chain_length(tables.r, left));
-    Ok(Reply::done(0, 0))
+    Ok(Reply::done(0, 0).having_moved(moved))
 }
 
 fn remove(tables: &mut Tables, row: usize) {

@@ -79,9 +79,9 @@ pub(crate) fn link(
         return Err(Refusal::Full);
     }
     let r = lowered_room(tables, m)?;
-    lower_line(tables, ram, r);
+    let moved = lower_line(tables, ram, r);
     let device = add_device(tables, &name);
-    Ok(Reply::done(device, r))
+    Ok(Reply::done(device, r).having_moved(moved))
 }
 
 /// "ROOM: room rule broken; link: also R-m < 256."
@@ -94,18 +94,21 @@ fn lowered_room(tables: &Tables, m: u16) -> Result<u16, Refusal> {
         .ok_or(Refusal::Room)
 }
 
-/// Moves the line down to the new R. Counted from the old R, each byte goes m
-/// positions further on and the first m positions leave the line.
-fn lower_line(tables: &mut Tables, ram: &mut [u8], r: u16) {
+/// Moves the line down to the new R; how many bytes were moved. Counted from the
+/// old R, each byte goes m positions further on and the first m positions leave the
+/// line.
+fn lower_line(tables: &mut Tables, ram: &mut [u8], r: u16) -> usize {
     let t = tables.line_length();
     let m = usize::from(tables.r - r);
     segments::lengthen_chain(tables, chain_length(r, t));
-    if m > 0 {
-        let line = Line::of(tables);
-        line.move_down(ram, t, m);
-        line.clear(ram, 0..m);
+    if m == 0 {
+        return 0;
     }
+    let line = Line::of(tables);
+    let moved = line.move_down(ram, t, m);
+    line.clear(ram, 0..m);
     tables.r = r;
+    moved
 }
 
 /// "An older device of the same name is disabled; its channels stay."

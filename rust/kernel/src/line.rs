@@ -92,30 +92,42 @@ impl<'a> Line<'a> {
     }
 
     /// Moves the bytes of some positions to lower positions, the lowest first,
-    /// so that none is moved over one not yet moved.
-    pub(crate) fn move_up(&self, ram: &mut [u8], positions: Range<usize>, to: usize) {
+    /// so that none is moved over one not yet moved; how many were moved.
+    pub(crate) fn move_up(&self, ram: &mut [u8], positions: Range<usize>, to: usize) -> usize {
         let (mut from, mut to) = (positions.start, to);
+        let mut moved = 0;
         while from < positions.end {
             let length = self
                 .ahead(from)
                 .min(self.ahead(to))
                 .min(positions.end - from);
-            ram.copy_within(self.run(from, length), self.run(to, length).start);
+            moved += move_run(ram, self.run(from, length), self.run(to, length));
             from += length;
             to += length;
         }
+        moved
     }
 
     /// Moves the bytes of the first `end` positions `by` positions further on,
-    /// the highest first, so that none is moved over one not yet moved.
-    pub(crate) fn move_down(&self, ram: &mut [u8], end: usize, by: usize) {
+    /// the highest first, so that none is moved over one not yet moved; how many
+    /// were moved.
+    pub(crate) fn move_down(&self, ram: &mut [u8], end: usize, by: usize) -> usize {
         let mut end = end;
+        let mut moved = 0;
         while end > 0 {
             let length = self.behind(end).min(self.behind(end + by));
             end -= length;
-            ram.copy_within(self.run(end, length), self.run(end + by, length).start);
+            moved += move_run(ram, self.run(end, length), self.run(end + by, length));
         }
+        moved
     }
+}
+
+/// Moves the bytes of a run, each of them to another place; how many those are.
+fn move_run(ram: &mut [u8], from: Range<usize>, to: Range<usize>) -> usize {
+    let moved = from.len();
+    ram.copy_within(from, to.start);
+    moved
 }
 
 /// The line rises where the RAM falls.

@@ -7,7 +7,7 @@ use std::io::{self, Read, Write};
 
 /// "It reads event records from standard input [...] and prints a line a
 /// record: kind, answer number, a, b, in decimal, one space between." "A bad
-/// length or cut record prints `bad` and ends."
+/// length or cut record prints `bad` and ends." The bytes moved are not printed.
 pub fn listing(input: impl Read, mut output: impl Write) -> io::Result<()> {
     let mut machine = Machine::default();
     let mut records = Records::new(input);
@@ -24,7 +24,7 @@ pub fn listing(input: impl Read, mut output: impl Write) -> io::Result<()> {
 }
 
 fn print(output: &mut impl Write, kind: u16, reply: Reply, lent: &[u8]) -> io::Result<()> {
-    let Reply { number, a, b } = reply;
+    let Reply { number, a, b, .. } = reply;
     write!(output, "{kind} {number} {a} {b}")?;
     let bytes = &lent[..bytes_printed(kind, reply)];
     if !bytes.is_empty() {

@@ -119,11 +119,7 @@ fn share(tables: &mut Tables) -> Result<Reply, Refusal> {
     let row = last_of_chain(tables);
     tables.classes[row] = class::SHARED;
     tables.user_boundary = boundary;
-    Ok(Reply {
-        number: SHARED_GRANT,
-        a: tables.list[row],
-        b: boundary,
-    })
+    Ok(Reply::new(SHARED_GRANT, tables.list[row], boundary))
 }
 
 fn last_of_chain(tables: &Tables) -> usize {

@@ -88,7 +88,7 @@ pub fn pairs<'a>(events: impl Iterator<Item = &'a Event>) -> Vec<Pair<'a>> {
 }
 
 fn pair<'a>(machine: &mut Machine, event: &'a Event) -> Pair<'a> {
-    let Reply { number, a, b } = machine.answer(decode(event.kind, &event.body));
+    let Reply { number, a, b, .. } = machine.answer(decode(event.kind, &event.body));
     let mut reply = Given {
         number,
         a,

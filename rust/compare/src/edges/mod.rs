@@ -6,6 +6,7 @@ mod channels;
 mod devices;
 mod lent;
 mod modules;
+mod moved;
 mod names;
 mod naming;
 mod reads;
@@ -27,6 +28,8 @@ pub use again::all_again_edges;
 #[cfg(test)]
 pub use modules::ModuleEdge;
 #[cfg(test)]
+pub use moved::all_moved_edges;
+#[cfg(test)]
 pub use reads::ReadEdge;
 pub use sentences::ram_length_for;
 pub use words::{all_edges, Edge};
@@ -42,6 +45,8 @@ struct Meeting<'a, Met> {
     output: usize,
     /// The answer's number.
     number: u16,
+    /// How many bytes it moved.
+    moved: usize,
     met: Met,
 }
 
@@ -70,6 +75,7 @@ pub fn edges(made: &Made, request: &Request, reply: &Reply, met: impl FnMut(Edge
         view: View(before),
         output: usize::from(request.output),
         number: reply.number,
+        moved: reply.moved as usize,
         met,
     };
     meeting.at(request.record.len() == 65_535, Edge::LongestRecord);
@@ -82,6 +88,7 @@ pub fn edges(made: &Made, request: &Request, reply: &Reply, met: impl FnMut(Edge
     let call = decode(kind, body);
     let right_length = ram_length == SEGMENT * usize::from(before.segments);
     let usable = is_good(before);
+    meeting.moved(kind, call, usable, right_length);
     if let Call::Start { r, list } = call {
         meeting.done(!usable, Edge::StartOnBad);
         meeting.start(r, list, ram_length);

@@ -3,6 +3,7 @@
 use super::again::{all_again_edges, AgainEdge};
 use super::both::BOTH;
 use super::modules::{all_module_edges, ModuleEdge};
+use super::moved::{all_moved_edges, MovedEdge};
 use super::naming::name_edges;
 use super::reads::{all_read_edges, ReadEdge};
 use super::writer::{all_writer_edges, WriterEdge};
@@ -22,6 +23,7 @@ pub fn all_edges() -> impl Iterator<Item = Edge> {
         .chain(segments.map(Edge::CallOn))
         .chain(both.map(|&(kind, given, other)| Edge::Both(kind, given, other)))
         .chain(all_again_edges().map(Edge::Again))
+        .chain(all_moved_edges().map(Edge::Moved))
         .chain(all_read_edges().map(Edge::Read))
         .chain(all_module_edges().map(Edge::Module))
         .chain(all_writer_edges().map(Edge::Writer))
@@ -43,6 +45,8 @@ name_edges! {
         };
         /// An edge of open and close again.
         Again(edge: AgainEdge) format!("open and close again: {edge}");
+        /// An edge of what calls move.
+        Moved(edge: MovedEdge) format!("moved: {edge}");
         /// An edge of read.
         Read(edge: ReadEdge) format!("read: {edge}");
         /// An edge of load module.

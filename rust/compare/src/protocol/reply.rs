@@ -3,7 +3,7 @@
 use std::fmt::{self, Display, Formatter};
 
 /// The length of a reply.
-pub const REPLY: usize = 46;
+pub const REPLY: usize = 50;
 
 /// The reply to a request.
 #[derive(Clone, Copy, Debug, PartialEq, Eq)]
@@ -14,6 +14,8 @@ pub struct Reply {
     pub a: u16,
     /// The second value.
     pub b: u16,
+    /// The record bytes that the call moved.
+    pub moved: u32,
     /// The digest of the tables' image after the call.
     pub image: u64,
     /// The digest of the RAM after the call.
@@ -44,17 +46,40 @@ pub enum Fault {
     TablesMarked,
     /// It did, and the RAM is not that before the open with the record zero.
     RamMarked,
+    /// It reported another number of bytes moved than is due by order 8.
+    Moved {
+        /// What it reported.
+        reported: u32,
+        /// What is due.
+        due: u32,
+    },
+    /// It reported more than T before the call.
+    MovedPastT {
+        /// What it reported.
+        reported: u32,
+        /// T before the call.
+        t: u32,
+    },
 }
 
 impl Display for Fault {
     fn fmt(&self, to: &mut Formatter<'_>) -> fmt::Result {
-        to.write_str(match self {
+        to.write_str(match *self {
             Fault::Panicked => "the kernel panicked",
             Fault::NotReadBack => "the kernel's module does not read back as the list",
             Fault::NotOfItems => "the kernel loads a module that its items do not make",
             Fault::NotClosedAgain => "the kernel does not close again what it opened",
             Fault::TablesMarked => "the kernel's open and close leave a mark in the tables",
             Fault::RamMarked => "the kernel's open and close leave a mark in the RAM",
+            Fault::Moved { reported, due } => {
+                return write!(
+                    to,
+                    "the kernel reports {reported} bytes moved, {due} are due"
+                );
+            }
+            Fault::MovedPastT { reported, t } => {
+                return write!(to, "the kernel reports {reported} bytes moved, T was {t}");
+            }
         })
     }
 }
@@ -69,6 +94,7 @@ impl Reply {
             number: PANICKED,
             a: 0,
             b: 0,
+            moved: 0,
             image: 0,
             ram: 0,
             output: 0,
@@ -93,11 +119,12 @@ impl Reply {
             number: number(0, 2) as u16,
             a: number(2, 2) as u16,
             b: number(4, 2) as u16,
-            image: number(6, 8),
-            ram: number(14, 8),
-            output: number(22, 8),
-            part: number(30, 8),
-            part_bytes: number(38, 8),
+            moved: number(6, 4) as u32,
+            image: number(10, 8),
+            ram: number(18, 8),
+            output: number(26, 8),
+            part: number(34, 8),
+            part_bytes: number(42, 8),
             fault: None,
         }
     }
@@ -115,10 +142,12 @@ mod tests {
         }
         let reply = Reply::from_bytes(&bytes);
         assert_eq!((reply.number, reply.a, reply.b), (0x0100, 0x0302, 0x0504));
-        assert_eq!(reply.image, 0x0D0C_0B0A_0908_0706);
-        assert_eq!(reply.output, 0x1D1C_1B1A_1918_1716);
-        assert_eq!(reply.part, 0x2524_2322_2120_1F1E);
-        assert_eq!(reply.part_bytes, 0x2D2C_2B2A_2928_2726);
+        assert_eq!(reply.moved, 0x0908_0706);
+        assert_eq!(reply.image, 0x1110_0F0E_0D0C_0B0A);
+        assert_eq!(reply.ram, 0x1918_1716_1514_1312);
+        assert_eq!(reply.output, 0x2120_1F1E_1D1C_1B1A);
+        assert_eq!(reply.part, 0x2928_2726_2524_2322);
+        assert_eq!(reply.part_bytes, 0x3130_2F2E_2D2C_2B2A);
         assert_eq!(reply.fault, None);
     }
 }

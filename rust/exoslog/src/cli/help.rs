@@ -104,6 +104,10 @@ the line's records by channel, exact to the byte. The replay is by the Rust
 kernel, of which nothing is proved: what the proved kernel answers is listed by
 exos-list.
 
+Behind the answer to a close or a link that is done stands how many bytes of
+records it moved. Without --at and --reply a line more tells how many the log's
+closes and links moved in all, the most that one moved, and the first that did.
+
 In a maker's log a record is an event and its reply, so K is still a line of the
 listing. Its events are replayed, up to the first record that is cut, ill-sized,
 missing or misplaced; below the answer stands the log's reply and, where only

@@ -1,5 +1,6 @@
 //! The RAM at a record of a log, and its regions.
 
+use super::moved::moved_in_all;
 use super::record::ask;
 use super::{Boundary, Class, LineRecord, Map, Ram, Region, Segment, What};
 use crate::log::{record_with, Log, NoRecord};
@@ -40,12 +41,15 @@ pub fn map(bytes: &[u8], at: At) -> Result<Map, NoRecord> {
         });
     };
     let last = log.record(record)?;
-    let mut machine = machine(log);
+    let mut machine = before_any(log);
     for asked in log.asked().take(before) {
         answer_to(&mut machine, asked.event);
     }
     let asked_in = machine.clone();
-    let lines = ask(&mut machine, log, &last);
+    let mut lines = ask(&mut machine, log, &last);
+    if at == At::End {
+        lines.extend(moved_in_all(before_any(log), log));
+    }
     let (when, mut machine) = match at {
         At::Reply(_) => ("before", asked_in),
         At::End | At::After(_) => ("after", machine),
@@ -58,9 +62,9 @@ pub fn map(bytes: &[u8], at: At) -> Result<Map, NoRecord> {
     })
 }
 
-/// A machine that lends what the listing program does or, to a maker's log, what
-/// an audit does.
-fn machine(log: Log) -> Machine {
+/// The machine before any record: it lends what the listing program does or, to a
+/// maker's log, what an audit does.
+fn before_any(log: Log) -> Machine {
     if log.is_makers {
         Machine::lending(MOST_BYTES)
     } else {

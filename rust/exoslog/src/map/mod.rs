@@ -1,6 +1,7 @@
 //! The RAM after a record as regions: what a picture shows, exact to the byte.
 
 mod build;
+mod moved;
 mod record;
 
 use exos_kernel::class;
@@ -14,7 +15,8 @@ pub use build::{map, At};
 pub struct Map {
     /// Which RAM it is: "RAM after record 4 of 8".
     pub title: String,
-    /// The record in words, its answer and, in a maker's log, its reply.
+    /// The record in words, its answer and, in a maker's log, its reply; after the
+    /// last record what the log's closes and links moved.
     pub lines: Vec<String>,
     /// The RAM, after an accepted start.
     pub ram: Option<Ram>,

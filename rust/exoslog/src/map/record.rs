@@ -1,5 +1,6 @@
 //! What a picture says of the record at which it is drawn.
 
+use super::moved::moved_words;
 use crate::listing::first_difference;
 use crate::log::{Asked, Log};
 use crate::records::Record;
@@ -18,17 +19,22 @@ pub(super) fn ask(machine: &mut Machine, log: Log, asked: &Asked) -> Vec<String>
     }
     match (asked.event, answer_to(machine, asked.event)) {
         (Record::Whole { kind, .. }, Some(answer)) if log.is_makers => {
-            lines.extend(audited(&due(machine, kind, answer), asked));
+            let due = due(machine, kind, answer);
+            let said = due.said() + &moved_words(asked.event, answer);
+            lines.push(format!("the Rust kernel's answer: {said}"));
+            lines.extend(replied(&due, asked));
         }
-        (_, Some(answer)) => lines.push(numbers(answer).said()),
+        (event, Some(answer)) => {
+            lines.push(numbers(answer).said() + &moved_words(event, answer));
+        }
         (_, None) => lines.push("bad: the listing ends here".to_string()),
     }
     lines
 }
 
-/// The reply that is due to an event, and what stands in its place.
-fn audited(due: &ReplyRecord, asked: &Asked) -> Vec<String> {
-    let mut lines = vec![format!("the Rust kernel's answer: {}", due.said())];
+/// What stands in the place of the reply that is due to an event.
+fn replied(due: &ReplyRecord, asked: &Asked) -> Vec<String> {
+    let mut lines = Vec::new();
     match (&asked.cut, asked.reply) {
         (Some(cut), _) => lines.push(cut.to_string()),
         (None, Some(Record::Whole { kind: REPLY, body })) => {
@@ -52,7 +58,8 @@ fn other_bytes(due: &ReplyRecord, reply: &ReplyRecord) -> Option<String> {
 }
 
 /// An answer without bytes.
-fn numbers(Reply { number, a, b }: Reply) -> ReplyRecord<'static> {
+fn numbers(answer: Reply) -> ReplyRecord<'static> {
+    let Reply { number, a, b, .. } = answer;
     ReplyRecord {
         answer: number,
         a,

@@ -169,6 +169,17 @@ mod tests {
     }
 
     #[test]
+    fn bytes_moved() {
+        let picture = picture("start 256 254 255\nopen 5 0 0 \"NET:\"\nlink 0 \"A\"");
+        for words in [
+            ">0 done, a 3, b 256; 0 bytes moved</text>",
+            ">0 bytes moved in all</text>",
+        ] {
+            assert!(picture.contains(words), "{words}");
+        }
+    }
+
+    #[test]
     fn long_words_are_cut() {
         let picture = picture(&format!("write 5 0 {}", "ab".repeat(100)));
         let words = format!(">write 5 0 {}...</text>", "ab".repeat(40));

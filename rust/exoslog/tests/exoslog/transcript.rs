@@ -124,6 +124,12 @@ fn the_example_of_a_makers_log() {
 }
 
 #[test]
+fn the_example_of_bytes_moved() {
+    let moved = transcript("docs/LOGS.md", "What closes and links move");
+    holds(&moved, "moved");
+}
+
+#[test]
 fn the_example_of_a_module() {
     holds(&transcript("docs/LOGS.md", "A module"), "module");
 }

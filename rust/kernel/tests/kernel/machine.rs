@@ -1,7 +1,7 @@
 //! A started machine for the tests. Each call is watched: a refusal must
-//! change nothing, and good tables must stay good.
+//! change nothing, good tables must stay good, and the bytes moved are order 8's.
 
-use exos_kernel::{call, good, Call, Reply, Tables, SEGMENT, SHARED_GRANT};
+use exos_kernel::{call, good, Call, Channel, Reply, Tables, HEADING, SEGMENT, SHARED_GRANT};
 
 /// The three numbers of an answer.
 pub type Answer = (u8, u8, u16);
@@ -11,6 +11,8 @@ pub struct Machine {
     pub tables: Tables,
     pub ram: Vec<u8>,
     pub output: Vec<u8>,
+    /// How many bytes the last call moved.
+    pub moved: u32,
 }
 
 impl Machine {
@@ -19,6 +21,7 @@ impl Machine {
             tables: Tables::default(),
             ram: vec![0xEE; list.len() * SEGMENT],
             output: vec![0xDD; 65_536],
+            moved: 0,
         };
         let answer = machine.call(Call::Start { r, list });
         assert_eq!(answer, (0, list.len() as u8, r));
@@ -33,8 +36,15 @@ impl Machine {
 
     pub fn call(&mut self, request: Call) -> Answer {
         let before = self.clone();
-        let Reply { number, a, b } =
-            call(&mut self.tables, &mut self.ram, request, &mut self.output);
+        let reply = call(&mut self.tables, &mut self.ram, request, &mut self.output);
+        let Reply {
+            number,
+            a,
+            b,
+            moved,
+        } = reply;
+        self.moved = moved;
+        before.check_moved(request, reply);
         if !matches!(number, 0 | SHARED_GRANT) {
             assert_eq!(self.tables, before.tables, "{request:?}");
             assert!(self.ram == before.ram, "{request:?}");
@@ -54,6 +64,37 @@ impl Machine {
             _ => 0,
         };
         assert!(self.output[filled..] == before.output[filled..]);
+    }
+
+    /// Holds what a call on this machine moved against order 8: "for close the
+    /// lengths of the records after the closed one, for a link T if R falls, else 0.
+    /// The number [...] never exceeds T before the call. Other and refused calls
+    /// report 0".
+    fn check_moved(&self, request: Call, reply: Reply) {
+        let expected = match request {
+            _ if reply.number != 0 => 0,
+            Call::Close { channel } => self.after(channel),
+            Call::Link { m, .. } if m > 0 => self.t(),
+            _ => 0,
+        };
+        assert_eq!(reply.moved as usize, expected, "{request:?}");
+        assert!(expected == 0 || expected <= self.t(), "{request:?}");
+    }
+
+    /// The lengths of the records after a channel's.
+    fn after(&self, channel: u8) -> usize {
+        let mut open = self.channels().iter();
+        open.find(|open| open.number == channel);
+        open.map(length).sum()
+    }
+
+    /// T.
+    pub fn t(&self) -> usize {
+        self.channels().iter().map(length).sum()
+    }
+
+    fn channels(&self) -> &[Channel] {
+        &self.tables.channels[..usize::from(self.tables.channel_count)]
     }
 
     pub fn open(&mut self, channel: u8, n: u16) -> Answer {
@@ -171,4 +212,9 @@ impl Machine {
         let list = &self.tables.list[..usize::from(self.tables.segments)];
         list.iter().position(|&other| other == number).unwrap()
     }
+}
+
+/// "Length L = 16 + n."
+fn length(channel: &Channel) -> usize {
+    HEADING + usize::from(channel.n)
 }

@@ -13,6 +13,7 @@ mod model;
 mod module_refusals;
 mod module_streams;
 mod modules;
+mod moved;
 mod moves;
 mod names;
 mod plain_good;

@@ -4,8 +4,9 @@
 //! byte, after each change. With it: "A byte read from an open channel is the
 //! one last written there", which by order 2 "speaks of the bytes given", "a
 //! user's byte changes only by the user's store while that place stays the
-//! user's", "the system holds the fewest segments" and an open "is refused for
-//! room exactly when no such layout fits".
+//! user's", "the system holds the fewest segments", an open "is refused for
+//! room exactly when no such layout fits", and order 8's "how many record bytes
+//! changed position or place".
 
 use crate::machine::{Answer, Machine};
 use std::collections::HashMap;
@@ -25,6 +26,12 @@ pub struct Open {
     unit: u8,
     pub bytes: Vec<u8>,
 }
+
+/// Where a byte of a record is: its position, segment and offset.
+type Spot = (usize, usize, usize);
+
+/// A channel, and where each byte of its record is.
+pub type Spots = (u8, Vec<Spot>);
 
 /// A string for open, the device and the unit it gives.
 pub type Spelling = (&'static str, Option<&'static str>, Option<u8>);
@@ -91,6 +98,30 @@ impl Model {
             let end = if segment == 255 { self.r } else { SIZE };
             (0..end).rev().map(move |at| (usize::from(segment), at))
         })
+    }
+
+    /// Where each byte of each open record is.
+    pub fn spots(&self) -> Vec<Spots> {
+        let places = self.places().enumerate();
+        let mut spots = places.map(|(position, (segment, at))| (position, segment, at));
+        let opens = self.opens.iter();
+        opens
+            .map(|open| {
+                let length = 16 + open.bytes.len();
+                (open.number, spots.by_ref().take(length).collect())
+            })
+            .collect()
+    }
+
+    /// "How many record bytes changed position or place", of records that are still
+    /// open.
+    pub fn changed_since(&self, before: &[Spots]) -> usize {
+        let now = self.spots();
+        let of_both = before.iter().flat_map(|(number, before)| {
+            let now = now.iter().filter(move |now| now.0 == *number);
+            now.flat_map(move |now| before.iter().zip(&now.1))
+        });
+        of_both.filter(|(before, now)| before != now).count()
     }
 
     /// How many places a layout may use.

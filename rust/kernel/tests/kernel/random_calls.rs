@@ -93,7 +93,11 @@ fn step_channel(random: &mut Random, model: &mut Model, machine: &mut Machine) {
             let answer = machine.open_named(number, n as u16, spelling.0.as_bytes());
             assert_eq!(answer, model.open(number, n, spelling));
         }
-        3 | 4 => assert_eq!(machine.close(number), model.close(number)),
+        3 | 4 => {
+            let before = model.spots();
+            assert_eq!(machine.close(number), model.close(number));
+            assert_eq!(machine.moved as usize, model.changed_since(&before));
+        }
         5 | 6 => {
             let length = random.pick(&[0, 1, 2, 9, 300, 20_000]);
             let data = random.bytes(length.min(n));
@@ -162,7 +166,9 @@ fn step_device(random: &mut Random, model: &mut Model, machine: &mut Machine) {
     match random.below(12) {
         0 => {
             let flags = random.below(8) as u8 * 16;
+            let before = model.spots();
             assert_eq!(machine.reset(flags), model.reset(flags));
+            assert_eq!(machine.moved as usize, model.changed_since(&before));
         }
         1..=3 => {
             let unit = random.byte();
@@ -178,8 +184,10 @@ fn step_device(random: &mut Random, model: &mut Model, machine: &mut Machine) {
         _ => {
             let most = random.pick(&[1, 20, 20, 1_000, 9_000]);
             let m = random.below(most);
+            let before = model.spots();
             let answer = machine.link(m as u16, name.as_bytes());
             assert_eq!(answer, model.link(m, name));
+            assert_eq!(machine.moved as usize, model.changed_since(&before));
         }
     }
 }

@@ -135,6 +135,7 @@ fn wholly_random_tables() {
             tables: Tables::default(),
             ram: vec![1; 16_384 * random.below(4)],
             output: vec![2; random.below(100)],
+            moved: 0,
         };
         for _ in 0..random.below(200) {
             spoil(&mut random, &mut machine.tables);

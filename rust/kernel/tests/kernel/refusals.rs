@@ -322,6 +322,7 @@ fn started(r: u16, list: &[u8], ram: usize) -> u8 {
         tables: Tables::default(),
         ram: vec![0xEE; ram],
         output: vec![],
+        moved: 0,
     };
     machine.tables.r = 77;
     machine.call(Call::Start { r, list }).0
@@ -384,7 +385,7 @@ fn numbers_of_the_refusals() {
     let modules = [(19, Refusal::Module), (20, Refusal::Page)];
     for (number, refusal) in (1..).zip(in_order).chain(modules) {
         let a = if number == 7 { 9 } else { 0 };
-        assert_eq!(Reply::from(refusal), Reply { number, a, b: 0 });
+        assert_eq!(Reply::from(refusal), Reply::new(number, a, 0));
     }
 }
 
