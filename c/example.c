@@ -1,6 +1,6 @@
 /* The example of the listing, by exos_call: a line for each record, as in logs/example.txt. Then the same records in one
  * replay, which must leave the same RAM and the same last answer. Then a module, which the writer makes of its items, and
- * whose bytes must stand in the RAM. */
+ * whose bytes must stand in the RAM. Then how many bytes closes and links move. */
 #include "exos.h"
 
 #include <stdio.h>
@@ -19,6 +19,29 @@ static const uint8_t log_bytes[] = {
 };
 
 static unsigned u16(const uint8_t *at) { return at[0] + 256u * at[1]; }
+static unsigned long moved_in(const uint8_t *reply) { return u16(reply + 6) + 65536ul * u16(reply + 8); }
+
+/* Channels 1, 2 and 3, of 100, 65,535 and 10 bytes, and what closes and links of them move. */
+static const struct {
+  const uint8_t *record;
+  size_t length;
+  unsigned answer;
+  unsigned long moved;
+} moves[] = {
+#define RECORD(...) (const uint8_t[]){__VA_ARGS__}, sizeof((const uint8_t[]){__VA_ARGS__})
+    {RECORD(0, 1, 0x42, 0x2B, 248, 249, 250, 251, 252, 253, 254, 255), EXOS_DONE, 0}, /* start */
+    {RECORD(1, 0, 1, 0, 100, 0, 'V', 'I', 'D', 'E', 'O', ':'), EXOS_DONE, 0},         /* open 1: a record of 116 bytes */
+    {RECORD(1, 0, 2, 0, 255, 255, 'V', 'I', 'D', 'E', 'O', ':'), EXOS_DONE, 0},       /* open 2: of 65,551 */
+    {RECORD(1, 0, 3, 0, 10, 0, 'V', 'I', 'D', 'E', 'O', ':'), EXOS_DONE, 0},          /* open 3: of 26 */
+    {RECORD(21, 0, 0, 0, 'T', 'A', 'P', 'E'), EXOS_DONE, 0},                          /* link of no bytes: R stays */
+    {RECORD(21, 0, 1, 0, 'D', 'I', 'S', 'K'), EXOS_DONE, 116 + 65551 + 26},           /* link of 1: T */
+    {RECORD(21, 0, 1, 0, '1'), EXOS_NAME, 0},                                         /* refused */
+    {RECORD(3, 0, 1), EXOS_DONE, 65551 + 26},                                         /* close 1: those after it */
+    {RECORD(3, 0, 1), EXOS_CHANNEL, 0},                                               /* refused */
+    {RECORD(3, 0, 3), EXOS_DONE, 0},                                                  /* close 3: the last */
+    {RECORD(0, 0, 16), EXOS_DONE, 0},                                                 /* reset, closes all channels */
+#undef RECORD
+};
 
 /* What a record gives: its line. Read, status and user load show the bytes. */
 static void print_line(unsigned kind, const uint8_t *reply, const uint8_t *out) {
@@ -100,5 +123,12 @@ int main(void) {
   if (u16(written) != EXOS_PAGE || written[2] != 0) return 21;
   if (exos_write_module(1, 0, items, sizeof items - 1, buffer, sizeof buffer, written, sizeof written)) return 22;
   if (u16(written) != EXOS_PAGE || memcmp(before, buffer, sizeof buffer) != 0) return 23;
+
+  static uint8_t tables[EXOS_IMAGE_BYTES], eight[8 * EXOS_SEGMENT_BYTES];
+  for (size_t i = 0; i < sizeof moves / sizeof *moves; i++) {
+    if (!exos_call(tables, sizeof tables, eight, sizeof eight, moves[i].record, moves[i].length, out, sizeof out, reply, sizeof reply)) return 24;
+    if (u16(reply) != moves[i].answer) return 25;
+    if (moved_in(reply) != moves[i].moved) return 26;
+  }
   return 0;
 }

@@ -10,7 +10,7 @@
  * caller's frame over the logs of logs/ and 18,000 records drawn at random, and the writer of modules 160, over 20,000
  * lists. No theorem bounds it: leave it 16 KB.
  * A pointer is never null, even where its length is 0, and no two buffers of a call overlap. Nothing is asked of the bytes
- * in them: any image, any RAM, any record, any items. Numbers of two and of eight bytes are little-endian.
+ * in them: any image, any RAM, any record, any items. Numbers of two, four and eight bytes are little-endian.
  */
 #ifndef EXOS_H
 #define EXOS_H
@@ -46,8 +46,10 @@ extern "C" {
  */
 #define EXOS_IMAGE_BYTES 776
 
-/* A reply: the answer's number, a and b, two bytes each. */
-#define EXOS_REPLY_BYTES 6
+/* A reply: the answer's number, a and b, two bytes each; then, in four bytes, how many bytes of channels' records the call
+ * moved: a close that is done the lengths (16 + n) of all records after the closed one, a link that is done those of all
+ * records where m is above 0; any other call, and any refusal, 0. */
+#define EXOS_REPLY_BYTES 10
 
 /* A reply of the writer of modules: the answer's number, two bytes, and the bytes written, eight. */
 #define EXOS_WRITE_REPLY_BYTES 10
