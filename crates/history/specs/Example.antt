@@ -11,6 +11,7 @@ use lib.Dec.{ltb, eqb}
 use lib.ListN.{length, getD}
 use Rattle.names.specs.Definition.Tests.{lettersTest}
 use Rattle.line.specs.Definition.Line.{chainIndexOf, offsetOf, placeOf}
+use Rattle.line.specs.Definition.Moves.{movesUp, movesDown, closeMoves, linkMoves}
 use Rattle.line.specs.Definition.Ram.{putAt}
 use Rattle.line.specs.Definition.Given.{givenOf}
 use Rattle.line.specs.Definition.Lent.{lentAt}
@@ -27,7 +28,7 @@ use Rattle.kernel.specs.Definition.Line.{grown, shrunk}
 use Rattle.kernel.specs.Definition.Start.{noTables}
 use Rattle.kernel.specs.Definition.Answers.{numberOf, bOf, granted, Decision}
 use Rattle.kernel.specs.Definition.Calls.{Call, start, close, read, write, link, set-user-boundary, allocate, store, load-module, isStart}
-use Rattle.kernel.specs.Definition.Bytes.{nothing, in-segment, ramAfter}
+use Rattle.kernel.specs.Definition.Bytes.{nothing, in-segment, ramAfter, movesOf}
 use Rattle.kernel.specs.Definition.Step.{decided, completed, step}
 use Rattle.kernel.specs.Definition.Lend.{lentOnGood, lentOn, partOn}
 use Rattle.kernel.specs.Laws.Ready.{Ready, decided-ready, start-ready}
@@ -65,6 +66,14 @@ leaves t (c ∷ cs) = leaves (answered t c .tables) cs
 abbrev numbers : Tables → List Call → List ℕ
 numbers t [] = []
 numbers t (c ∷ cs) = numberOf (answered t c .answer) ∷ numbers (answered t c .tables) cs
+
+-- how many bytes a call moves, and each of them
+abbrev movedOn : Tables → Call → ℕ
+movedOn t c = length (movesOf t (answered t c .tables) (answered t c .ram))
+
+abbrev movedBy : Tables → List Call → List ℕ
+movedBy t [] = []
+movedBy t (c ∷ cs) = movedOn t c ∷ movedBy (answered t c .tables) cs
 
 -- the state that they leave, and their history after h
 abbrev leads : State → List Call → State
@@ -108,6 +117,10 @@ record Known (s : State) (t : Tables) : Type 0 where
 known-answer : {s : State} {t : Tables} → Known s t → (c : Call) → event s c lent .answer ≡ answered t c .answer
 unfolding step completed
 known-answer k c = rw (k .tables, k .size)
+
+known-moved : {s : State} {t : Tables} → Known s t → (c : Call) → event s c lent .moved ≡ movedOn t c
+unfolding step completed
+known-moved k c = rw (k .tables, k .size)
 
 known-lent : {s : State} {t : Tables} → Known s t → (channel : ℕ) → lentOn (s .tables) (length (s .ram)) channel ≡ lentOn t 65536 channel
 known-lent k channel = rw (k .tables, k .size)
@@ -230,6 +243,11 @@ pub answers-more : numbers t₁ more ≡ 0 ∷ 0 ∷ 0 ∷ 0 ∷ []
 unfolding decided noTables lettersTest upTo chainLength boundaryAt grown shrunk takenIn bitsIn
 answers-more = refl
 
+-- the close moves channel 2's record, of 16 + 4 bytes, and the link, under which R falls, all that the line then has
+pub moved-twice : movedBy t₀ calls ≡ 0 ∷ 0 ∷ 0 ∷ 20 ∷ 20 ∷ 0 ∷ 0 ∷ 0 ∷ 0 ∷ []
+unfolding movesOf closeMoves movesUp linkMoves movesDown decided noTables lettersTest upTo chainLength boundaryAt grown shrunk
+moved-twice = refl
+
 -- what order 13's cases are: the chain has grown to three segments; 31 channels are open; 255 is shared
 pub grows : answered t₀ (opens 99 43826) .tables .held ≡ 3
 unfolding decided noTables lettersTest upTo chainLength boundaryAt grown shrunk
@@ -328,6 +346,15 @@ module _ (ram : List ℕ) (four : length ram ≡ 65536) where
   pub byte-loaded : userByte (leads s₁ more) 255 7 ≡ 0x52
   unfolding lastStored stored patched decided noTables lettersTest upTo chainLength boundaryAt grown shrunk takenIn bitsIn
   byte-loaded = byte-last 7 refl refl
+
+  -- order 8: a link by which R falls moves channel 2's record once more, and one by which it stays does not
+  pub link-moves : event s₁ (link 1 (66 ∷ [])) lent .moved ≡ 20
+  unfolding movesOf linkMoves movesDown decided noTables lettersTest upTo chainLength boundaryAt grown shrunk
+  link-moves = known-moved k₁ (link 1 (66 ∷ []))
+
+  pub link-moves-none : event s₁ (link 0 (66 ∷ [])) lent .moved ≡ 0
+  unfolding movesOf linkMoves decided noTables lettersTest upTo chainLength boundaryAt grown shrunk
+  link-moves-none = known-moved k₁ (link 0 (66 ∷ []))
 
   -- 3: the one channel's record lies in one segment
   pub one-segment : countIn (s₁ .tables .segments) (inSystem (s₁ .tables)) ≡ 1
