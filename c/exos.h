@@ -139,7 +139,7 @@ enum exos_answer {
  *           a start's list), read and written; another length is answered with EXOS_TABLES (EXOS_START)
  *   record  the event record without its length: kind in 2 bytes, then the body; 2 to EXOS_RECORD_BYTES, read
  *   out     the output that is lent: any length, its first b bytes written by read, status and user load
- *   reply   the answer: EXOS_REPLY_BYTES, written
+ *   reply   the answer and the bytes moved: EXOS_REPLY_BYTES, written
  *
  * True where the call was made. False, and nothing changed, where the length of the image, the record or the reply is
  * none of the above.
@@ -177,7 +177,8 @@ bool exos_write_module(uint8_t page, uint16_t offset, const uint8_t *items, size
  *             before, with EXOS_TABLES
  *   out       as above
  *   log       records, each with its length: any length, read
- *   reply     the last answer (done, 0 and 0 where there is no record): EXOS_REPLY_BYTES, written
+ *   reply     the last record's (done, 0 and 0, and nothing moved, where there is no record): EXOS_REPLY_BYTES, written. What
+ *             is moved is what the last call moved, and no sum
  *
  * The bytes of the records. 0, and nothing changed, where the length of the reply is another.
  *

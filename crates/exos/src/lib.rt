@@ -73,8 +73,8 @@ pub extern "C" fn exos_call(
     true
 }
 
-// Every whole record at the front of a log, from no tables; with the last answer and the bytes that its call moved, the bytes that they take. Zero, and nothing changed, where the
-// reply's length is wrong.
+// Every whole record at the front of a log, from no tables. The reply is the last one's: its answer, and how many bytes its call moved. The bytes that
+// the records take; zero, and nothing changed, where the reply's length is wrong.
 fn replay_log(ram: &mut [u8], out: &mut [u8], log: &[u8], reply: &mut [u8], hold: bool) -> usize
     ensures { λ r. ⌜ Replays (now (ram .entry)) (now (out .entry)) (now (log .entry)) (now (reply .entry)) (now (ram .exit)) (now (out .exit)) (now (reply .exit)) r ⌝ }
 {

@@ -13,7 +13,6 @@ use Rattle.rows.specs.declared.Channel.{Channel}
 use Rattle.line.specs.Within.Chains.{Chain}
 use Rattle.line.specs.Definition.Line.{afterClose}
 use Rattle.line.specs.Definition.Moves.{closeMoves}
-use Rattle.line.specs.Laws.Moves.{close-most}
 use Rattle.kernel.specs.Definition.Tables.{channelAt, ramSize, withChannels}
 use Rattle.kernel.specs.Definition.Good.{Good}
 use Rattle.kernel.specs.Definition.Line.{recordAt, sizeAt, shrunk, closing}
@@ -51,13 +50,8 @@ module _ (t : Tables) (i start n opened line room : ℕ) (s : start ≡ recordAt
   pub record-closed : (ram after : List ℕ) → after ≡ afterClose (t .chain) room ram start (16 + n) line → after ≡ ramClosed t ram i
   record-closed ram after a = rw (a, s, p, l, o, r)
 
-  -- the bytes that it moved, which are no more than the line has
-  module _ (moved : ℕ) (e : moved ≡ length (closeMoves (t .chain) room start (16 + n) line)) where
-    pub record-moved : moved ≡ length (movesClosed t i)
-    record-moved = rw (e, s, p, l, o, r)
-
-    pub moved-most : moved ≤ line
-    moved-most = omega (arith, e, close-most (t .chain) room start (16 + n) line)
+  pub record-moved : (moved : ℕ) → moved ≡ length (closeMoves (t .chain) room start (16 + n) line) → moved ≡ length (movesClosed t i)
+  record-moved moved e = rw (e, s, p, l, o, r)
 
 -- the channel's row, as the code finds it
 

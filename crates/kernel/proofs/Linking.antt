@@ -18,7 +18,6 @@ use Rattle.names.specs.Definition.Words.{wordOf, LinkName}
 use Rattle.line.specs.Within.Chains.{Chain}
 use Rattle.line.specs.Definition.Line.{afterLink}
 use Rattle.line.specs.Definition.Moves.{linkMoves}
-use Rattle.line.specs.Laws.Moves.{link-most}
 use Rattle.kernel.specs.Definition.Tables.{ramSize, withDevices}
 use Rattle.kernel.specs.Definition.Good.{Good}
 use Rattle.kernel.specs.Definition.Line.{totalOf, grown, roomFor}
@@ -105,9 +104,6 @@ module _ (t : Tables) (m : ℕ) (d : Device) (g : Good t) (l : Links t m d) (nex
     (room size total : ℕ) (a : room ≡ t .room) (b : size ≡ m) (s : total ≡ totalOf t) where
   pub link-chain : (bytes : ℕ) → bytes ≡ ramSize t → (size ≤ room) × Chain (next .chain) room (total + size) bytes
   link-chain bytes h = (omega (arith, l .least), rw (a, b, s, e) (linking-chain t m d g l bytes h))
-
-  pub moved-most : (moved : ℕ) → moved ≡ length (linkMoves (next .chain) room size total) → moved ≤ total
-  moved-most moved k = omega (arith, k, link-most (next .chain) room size total)
 
   pub link-done : (name ram after out : List ℕ) (moved : ℕ) → after ≡ afterLink (next .chain) room size ram total → moved ≡ length (linkMoves (next .chain) room size total)
       → onLink t m name ≡ gives (Done (t .known) (t .room - m)) (linking t m d) changing lowered m

@@ -155,8 +155,7 @@ fn move_up(
         let s = place(chain, room, p + gap);
         let d = place(chain, room, p);
         let n = least(least(s % 16384 + 1, d % 16384 + 1), end - p);
-        runs::copy_fall(ram, d, s, n);
-        moved += n;
+        moved += runs::copy_fall(ram, d, s, n);
         p += n;
     }
     moved
@@ -175,8 +174,7 @@ fn move_down(ram: &mut [u8], chain: &[u8; 32], room: usize, m: usize, total: usi
         let s = place(chain, room, q);
         let d = place(chain, room, q + m);
         let n = least(least(reach(room, q), reach(room, q + m)), p);
-        runs::copy_rise(ram, d, s, n);
-        moved += n;
+        moved += runs::copy_rise(ram, d, s, n);
         p -= n;
     }
     moved
@@ -202,7 +200,7 @@ pub fn open_record(
     clear(ram, chain, room, at, at + n as usize);
 }
 
-// The gap bytes from position start leave a line of total bytes. How many bytes it moved.
+// The gap bytes from position start leave a line of total bytes. How many bytes are moved: no more than total.
 pub fn close_record(
     ram: &mut [u8],
     chain: &[u8; 32],
@@ -213,18 +211,18 @@ pub fn close_record(
 ) -> usize
     requires { ⌜ (start + gap ≤ total) × Chain (now chain) room total (length (now ram)) ⌝ }
     ensures bytes { λ _. ⌜ now (ram .exit) ≡ afterClose (now (chain .entry)) room (now (ram .entry)) start gap total ⌝ }
-    ensures moved { λ r. ⌜ r ≡ length (closeMoves (now (chain .entry)) room start gap total) ⌝ }
+    ensures moved { λ r. ⌜ (r ≡ length (closeMoves (now (chain .entry)) room start gap total)) × (r ≤ total) ⌝ }
 {
     let moved = move_up(ram, chain, room, start, gap, total);
     clear(ram, chain, room, total - gap, total);
     moved
 }
 
-// The room falls by m under a line of total bytes. How many bytes it moved.
+// The room falls by m under a line of total bytes. How many bytes are moved: no more than total.
 pub fn link_line(ram: &mut [u8], chain: &[u8; 32], room: usize, m: usize, total: usize) -> usize
     requires { ⌜ (m ≤ room) × Chain (now chain) room (total + m) (length (now ram)) ⌝ }
     ensures bytes { λ _. ⌜ now (ram .exit) ≡ afterLink (now (chain .entry)) room m (now (ram .entry)) total ⌝ }
-    ensures moved { λ r. ⌜ r ≡ length (linkMoves (now (chain .entry)) room m total) ⌝ }
+    ensures moved { λ r. ⌜ (r ≡ length (linkMoves (now (chain .entry)) room m total)) × (r ≤ total) ⌝ }
 {
     // R does not fall
     if m == 0 {

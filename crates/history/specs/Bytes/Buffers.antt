@@ -58,7 +58,7 @@ Holds f t ram = (i : ℕ) → i < t .opened → (k : ℕ) → k < sizeAt t i →
 -- ---- records end to end
 
 -- the rows before one that is taken out
-take-less : (xs : List Channel) (i j : ℕ) → i ≤ j → j ≤ length xs → take i (without j xs zeroChannel) ≡ take i xs
+pub take-less : (xs : List Channel) (i j : ℕ) → i ≤ j → j ≤ length xs → take i (without j xs zeroChannel) ≡ take i xs
 take-less xs i j h l =
     let n : length (take j xs) ≡ j = omega (arith, length-take j xs) in
     let m : length (take j xs ++ drop (suc j) xs) ≡ length (take j xs) + length (drop (suc j) xs) = length-append (take j xs) (drop (suc j) xs) in

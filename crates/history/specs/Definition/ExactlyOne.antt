@@ -62,7 +62,8 @@ pub record Input : Type 0 where
   pub call : Call
   pub output : List ℕ
 
--- the definition gives the result for the input: what every public call's `ensures` says of its answer, tables, RAM and output.
+-- the definition gives the result for the input: what every public call's `ensures` says of its answer, tables, RAM, output and
+-- bytes moved.
 -- It is a function, so it gives one; that each number comes exactly where 01 and 02 say is `RefusesLowest` and `GrantsRest`
 abbrev pub Defined : Input → Result → Type 0
 Defined i r = r ≡ step (i .tables) (i .ram) (i .call) (i .output)

@@ -108,6 +108,6 @@ tablesOf xs =
 abbrev pub answerBytes : Answer → List ℕ
 answerBytes a = u16Bytes (numberOf a) ++ u16Bytes (aOf a) ++ u16Bytes (bOf a)
 
--- an answer and how many bytes the call moved; the number is "wider than 16 bits" (READINGS 02)
+-- an answer and how many bytes the call moved, which may be more than two bytes hold
 abbrev pub outcomeBytes : Answer → (moved : ℕ) → List ℕ
 outcomeBytes a moved = answerBytes a ++ u32Bytes moved

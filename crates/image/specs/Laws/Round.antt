@@ -1,4 +1,4 @@
--- An image has SIZE bytes and tells the tables.
+-- An image has SIZE bytes and tells the tables; an outcome's bytes tell how many bytes were moved.
 use mathlib.Core.Path.{_≡_, refl, sym, ap, _∙_}
 use mathlib.Core.Bool.{Bool, true, false}
 use mathlib.Core.List.{List, [], _∷_, _++_, append-assoc}
@@ -12,10 +12,11 @@ use Rattle.rows.specs.declared.Channel.{Channel}
 use Rattle.rows.specs.declared.Device.{Device}
 use Rattle.kernel.specs.Definition.Good.{Sized}
 use Rattle.kernel.specs.declared.Tables.{Tables}
+use Rattle.kernel.specs.declared.Answer.{Answer}
 use Rattle.events.specs.Definition.Records.{u8At, u16At}
 use Rattle.image.specs.Definition.Offsets.{CHANNEL, DEVICE-LENGTH, DEVICE-ENABLED, DEVICE}
 use Rattle.image.specs.Definition.Offsets.{SEGMENTS, LIST, CLASSES, HELD, CHAIN, USER, ROOM, COLD, OPENED, CHANNELS, KNOWN, DEVICES, NAME, LENGTH, UNIT, SIZE}
-use Rattle.image.specs.Definition.Image.{u16Bytes, bitOf, flagOf, runAt, rowsBytes, rowsOf, channelBytes, channelFrom, deviceBytes, deviceFrom, segmentBytes, boundaryBytes, rowBytes, defaultBytes, imageOf, tablesOf}
+use Rattle.image.specs.Definition.Image.{u16Bytes, u32Bytes, bitOf, flagOf, runAt, rowsBytes, rowsOf, channelBytes, channelFrom, deviceBytes, deviceFrom, segmentBytes, boundaryBytes, rowBytes, defaultBytes, imageOf, tablesOf, outcomeBytes}
 
 -- the arrays have their types' lengths
 pub record FullSize (t : Tables) : Type 0 where
@@ -195,3 +196,8 @@ module _ (t : Tables) where
         ∙ rows-back deviceBytes deviceFrom DEVICE beyondDevices Named device-long device-back (t .devices) default named in
         tables-is t _ _ _ _ _ _ _ _ _ _ _ _ _ _ _ (u8-is p₀) (run-is p₁ 32 (w .sized .list)) (run-is p₂ 32 (w .sized .classes)) (u8-is p₃) (run-is p₄ 32 (w .sized .chain)) (u16-is (t .user) p₅)
         (u16-is (t .room) p₆) (u16-is (t .cold) p₇) (u8-is p₈) c (u8-is q₀) d (run-is q₂ 28 (w .name)) (u8-is q₃) (u8-is q₄)
+
+-- the four bytes behind an answer's six are the number moved, which they hold
+pub moved-told : (a : Answer) (moved : ℕ) → moved < 4294967296 → u16At (outcomeBytes a moved) 6 + 65536 * u16At (outcomeBytes a moved) 8 ≡ moved
+unfolding u32Bytes
+moved-told a moved h = omega arith

@@ -73,11 +73,12 @@ ramAfter t u ram (in-buffer i offset bytes) = putLine (t .chain) (t .room) ram (
 ramAfter t u ram (in-segment row offset bytes) = putAt ram (segmentAt row + offset) bytes
 ramAfter t u ram (one-by-one row puts) = putEach (segmentAt row) ram puts
 
--- order 8: "how many record bytes changed position or place". The moves of a close, which line's Moves.antt says step by step
+-- order 8: "how many record bytes changed position or place". The moves of a close of row i, which line's Moves.antt says step by step
 abbrev pub movesClosed : Tables → ℕ → List Move
 movesClosed t i = closeMoves (t .chain) (t .room) (recordAt t i) (16 + sizeAt t i) (totalOf t)
 
--- the moves of a change, as above; "Other and refused calls report 0"
+-- the moves of a change by a call on the tables t that gave the tables u; those of a link lie on the chain of u, which may have grown. "Other and refused
+-- calls report 0"
 unfoldable pub movesOf : (t u : Tables) → Change → List Move
 movesOf t u nothing = []
 movesOf t u zeroed = []

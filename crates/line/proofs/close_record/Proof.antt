@@ -5,6 +5,7 @@ use borrow.Author.Needs.{needs}
 use lib.ListN.{length}
 use Rattle.line.specs.Laws.Places.{chain-less}
 use Rattle.line.specs.Laws.Makes.{closed-of}
+use Rattle.line.specs.Laws.Moves.{close-most}
 use Rattle.line.proofs.close_record.Statement.{statement}
 use Rattle.line.proofs.close_record.Tie as tie
 
@@ -29,8 +30,10 @@ returns c =
     let s = c .before .before .before .before .before .before .before .before .before in
     let a = s .args in
     let moved = c .before .before .before .before .before .before .move-up in
-    let cleared = c .before .before .clear in
-    (closed-of (now (a .chain)) (a .room) (now (a .ram)) (moved .last .0) (cleared .last .0) (a .start) (a .gap) (a .total) (s .pre .0) (moved .ensures .0) (cleared .ensures), moved .ensures .1)
+    let cleared = c .before .before .clear in (
+      closed-of (now (a .chain)) (a .room) (now (a .ram)) (moved .last .0) (cleared .last .0) (a .start) (a .gap) (a .total) (s .pre .0) (moved .ensures .0) (cleared .ensures),
+      (moved .ensures .1, omega (arith, moved .ensures .1, close-most (now (a .chain)) (a .room) (a .start) (a .gap) (a .total))),
+    )
 
 pub close-record-spec : {M : Type 1} → statement M
 close-record-spec =

@@ -74,7 +74,7 @@ copy-fall-requires c κs =
     (inside .0, omega (arith, l .inv .3), inside .2, omega (arith, l .inv .3), up-ahead (run (c .before)))
 
 add-moved : tie.Need-add-moved Inv-loop μ-loop
-add-moved c = omega (arith, run (c .before .before .before .before) .fits, c .before .before .before .before .before .before .before .before .before)
+add-moved c = omega (arith, c .before .before .copy-fall .ensures .1, run (c .before .before .before .before) .fits, c .before .before .before .before .before .before .before .before .before)
 
 add-p : tie.Need-add-p Inv-loop μ-loop
 add-p c = omega (arith, run (c .before .before .before .before) .fits, c .before .before .before .before .before .before .before .before .before)
@@ -89,11 +89,11 @@ loop-again c =
     let l = c .before .before .before .before .before .before .before .before .before .loop in
     let a = c .before .before .before .before .before .before .before .before .before .before .before .args in
     let moved = c .before .before .copy-fall in (
-      up-turn (run (c .before .before .before .before)) (now (a .ram)) (l .ram) (moved .last .0) (a .start) (l .inv .0) (moved .ensures) (l .inv .1),
+      up-turn (run (c .before .before .before .before)) (now (a .ram)) (l .ram) (moved .last .0) (a .start) (l .inv .0) (moved .ensures .0) (l .inv .1),
       omega arith,
       omega (arith, run (c .before .before .before .before) .fits),
       moved .kept .0 ∙ l .inv .3,
-      omega (arith, l .inv .4, l .inv .1),
+      omega (arith, l .inv .4, l .inv .1, moved .ensures .1),
     )
 
 same-length : tie.Need-same-length Inv-loop μ-loop

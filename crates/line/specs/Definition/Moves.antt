@@ -27,7 +27,7 @@ unfoldable pub movesDown : List ℕ → (room m n : ℕ) → List Move
 movesDown chain room m zero = []
 movesDown chain room m (suc n) = record { from = placeOf chain room n; to = placeOf chain (room - m) n } ∷ movesDown chain room m n
 
--- "for close the lengths of the records after the closed one", which is the gap bytes from position start of a line of total bytes
+-- "for close the lengths of the records after the closed one": of a line of total bytes the closed record is the gap bytes from position start
 unfoldable pub closeMoves : List ℕ → (room start gap total : ℕ) → List Move
 unfolding movesUp
 closeMoves chain room start gap total = movesUp chain room gap start (total - gap - start)
@@ -54,7 +54,7 @@ pub record EachOnce (ms : List Move) : Type 0 where
   -- no byte is taken from one place twice, and none goes where another went
   pub sources : (i j : ℕ) → i < length ms → j < length ms → moveAt ms i .from ≡ moveAt ms j .from → i ≡ j
   pub goals : (i j : ℕ) → i < length ms → j < length ms → moveAt ms i .to ≡ moveAt ms j .to → i ≡ j
-  -- none is written over before it is moved
+  -- none is written over before it is moved, nor moved on from where it went
   pub in-time : (i j : ℕ) → j < i → i < length ms → ¬ (moveAt ms i .from ≡ moveAt ms j .to)
   -- "changed position or place": each goes to another place
   pub elsewhere : (i : ℕ) → i < length ms → ¬ (moveAt ms i .from ≡ moveAt ms i .to)

@@ -46,7 +46,8 @@ module _ (chain : List ℕ) (room start gap total : ℕ) where
   pub close-most : length (closeMoves chain room start gap total) ≤ total
   close-most = omega (arith, length-close)
 
-  close-at : (k : ℕ) → k < length (closeMoves chain room start gap total)
+  -- the k-th: from behind the record to where it stood
+  pub close-at : (k : ℕ) → k < length (closeMoves chain room start gap total)
       → moveAt (closeMoves chain room start gap total) k ≡ record { from = placeOf chain room (start + k + gap); to = placeOf chain room (start + k) }
   unfolding closeMoves
   close-at k h = up-at chain room gap start (total - gap - start) k (omega (arith, length-close))
@@ -150,6 +151,12 @@ module _ (chain : List ℕ) (room m total : ℕ) where
       by-cases (decLt 0 m)
       (λ h. rw (moves-falling h, length-down chain room m total, lt-ltb 0 m h))
       (λ h. let z : m ≡ 0 = omega arith in rw (moves-none z, le-ltb 0 m (omega arith)))
+
+  -- the one of position p: the last of the line is moved first
+  pub link-at : 0 < m → (p : ℕ) → p < total → moveAt (linkMoves chain room m total) (total - 1 - p) ≡ record { from = placeOf chain room p; to = placeOf chain (room - m) p }
+  link-at some p h =
+      let back : total - 1 - (total - 1 - p) ≡ p = omega arith in
+      rw (moves-falling some) (rw back at (down-at chain room m total (total - 1 - p) (omega arith)))
 
   -- "never exceeds T before the call"
   pub link-most : length (linkMoves chain room m total) ≤ total

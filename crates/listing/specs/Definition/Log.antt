@@ -22,6 +22,7 @@ showsOf kind answer b = eqb answer 0 && ltb 0 b && (eqb kind 6 || eqb kind 20 ||
 unfoldable pub lineOf : (kind answer a b : ℕ) (out : List ℕ) → List ℕ
 lineOf kind answer a b out = fieldsOf kind answer a b ++ cond (showsOf kind answer b) (32 ∷ hexOf (take b out)) [] ++ (10 ∷ [])
 
+-- how much was moved "the listing doesn't print" (order 8)
 abbrev pub lineAfter : ℕ → Result → List ℕ
 lineAfter kind r = lineOf kind (numberOf (r .answer)) (aOf (r .answer)) (bOf (r .answer)) (r .output)
 

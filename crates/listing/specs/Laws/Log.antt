@@ -6,7 +6,7 @@ use native.Mathlib.Omega.{arith}
 use borrow.Author.Tests.{eq-eqb}
 use lib.ListN.{length, drop}
 use lib.Seq.{take-all}
-use Rattle.kernel.specs.Definition.Step.{decided, completed, step}
+use Rattle.kernel.specs.Definition.Step.{Result, decided, completed, step}
 use Rattle.kernel.specs.declared.Tables.{Tables}
 use Rattle.events.specs.declared.Front.{Front}
 use Rattle.events.specs.declared.Front.the-variants.{Record, Cut, Bad}
@@ -77,3 +77,8 @@ log-full t ram out kind body e h =
     nothing zero (x ∷ xs) h = absurd (omega arith)
     nothing (suc n) [] h = refl
     nothing (suc n) (x ∷ xs) h = nothing n xs (omega arith)
+
+-- how much was moved "the listing doesn't print"
+pub moved-not-printed : (kind : ℕ) (r : Result) (moved : ℕ)
+    → lineAfter kind (record { answer = r .answer; tables = r .tables; ram = r .ram; output = r .output; moved = moved }) ≡ lineAfter kind r
+moved-not-printed kind r moved = refl

@@ -1,6 +1,6 @@
 -- `Tables::close_record` meets its contract.
 use native.Mathlib.Omega.{arith}
-use Rattle.kernel.proofs.Closing.{record-chain, record-closed, record-moved, moved-most}
+use Rattle.kernel.proofs.Closing.{record-chain, record-closed, record-moved}
 use borrow.Author.Needs.{needs}
 use Rattle.kernel.proofs.Tables.close_record.Statement.{statement}
 use Rattle.kernel.proofs.Tables.close_record.Tie as tie
@@ -36,15 +36,7 @@ close-record-requires c κs =
     (c .before .before .before .before .total2 .ensures .0) (c .wide162 .ensures .0) _ (s .pre .0) (s .pre .1) (s .pre .2)
 
 cast-result : tie.Need-cast-result
-cast-result c =
-    let s = c .before .before .before .before .before .before .before .before .before .before .before .before .before in
-    omega (
-      arith,
-      c .before .before .before .before .before .before .before .total2 .ensures .1,
-      moved-most (s .args .self) _ _ _ _ _ _ (c .before .before .before .before .before .before .before .before .before .total .ensures .0) (c .before .before .before .before .before .before .wide16 .ensures .0)
-          (c .before .before .before .before .before .before .before .before .wide .ensures .0) (c .before .before .before .before .before .before .before .total2 .ensures .0) (c .before .before .before .wide162 .ensures .0)
-          _ (c .before .before .close-record .ensures .1),
-    )
+cast-result c = omega (arith, c .before .before .before .before .before .before .before .total2 .ensures .1, c .before .before .close-record .ensures .1 .1)
 
 same-length : tie.Need-same-length
 same-length c = search needs
@@ -57,7 +49,7 @@ returns c =
           _ _ (c .before .before .close-record .ensures .0),
       record-moved (s .args .self) _ _ _ _ _ _ (c .before .before .before .before .before .before .before .before .before .total .ensures .0) (c .before .before .before .before .before .before .wide16 .ensures .0)
           (c .before .before .before .before .before .before .before .before .wide .ensures .0) (c .before .before .before .before .before .before .before .total2 .ensures .0) (c .before .before .before .wide162 .ensures .0)
-          _ (c .before .before .close-record .ensures .1),
+          _ (c .before .before .close-record .ensures .1 .0),
     )
 
 pub close-record-spec : {M : Type 1} → statement M

@@ -7,7 +7,7 @@ use Rattle.kernel.specs.Definition.Devices.{linking, deviceNamed}
 use Rattle.kernel.specs.Within.{Links}
 use Rattle.kernel.proofs.Refusing.{refused}
 use Rattle.kernel.proofs.Growing.{total-of}
-use Rattle.kernel.proofs.Linking.{link-unnamed, is-name, link-full, link-none, link-answer, links-of, link-chain, moved-most, link-done}
+use Rattle.kernel.proofs.Linking.{link-unnamed, is-name, link-full, link-none, link-answer, links-of, link-chain, link-done}
 use Rattle.kernel.proofs.Tables.link_good.Statement.{statement}
 use Rattle.kernel.proofs.Tables.link_good.Tie as tie
 
@@ -87,16 +87,8 @@ link-line-requires c κs =
 
 cast-t22 : tie.Need-cast-t22
 cast-t22 c =
-    let w = c .before .before .before in
-    let a = w .before .before .before .before .before in
-    let d = a .before .before in
-    let s = d .before .before .before .before .before .before .before .before .before .before .before in
-    omega (
-      arith,
-      d .before .before .total .ensures .1,
-      moved-most (s .args .self) _ _ (s .pre .0) (links d) _ (next a) _ _ _ (w .before .wide16 .ensures .0) (w .wide162 .ensures .0)
-          (total (d .before .before)) _ (c .before .before .link-line .ensures .1),
-    )
+    let d = c .before .before .before .before .before .before .before .before .before .before in
+    omega (arith, d .before .before .total .ensures .1, c .before .before .link-line .ensures .1 .1)
 
 same-length : tie.Need-same-length
 same-length c = search needs
@@ -108,7 +100,7 @@ returns-4 c =
     let d = a .before .before in
     let s = d .before .before .before .before .before .before .before .before .before .before .before in
     λ out. link-done (s .args .self) _ _ (s .pre .0) (links d) _ (next a) _ _ _ (w .before .wide16 .ensures .0) (w .wide162 .ensures .0)
-    (total (d .before .before)) _ _ _ out _ (c .before .before .link-line .ensures .0) (c .before .before .link-line .ensures .1)
+    (total (d .before .before)) _ _ _ out _ (c .before .before .link-line .ensures .0) (c .before .before .link-line .ensures .1 .0)
     (link-answer _ _ _ _ (d .before .before .before .before .before .before .before .before .link-name .ensures) (d .before .before .before .before .before .before .before .if1 .left)
     (d .before .before .before .before .before .if2 .left) _ (d .before .room-to-link .ensures) (d .if3 .left))
 
