@@ -30,7 +30,7 @@ static const struct {
 } moves[] = {
 #define RECORD(...) (const uint8_t[]){__VA_ARGS__}, sizeof((const uint8_t[]){__VA_ARGS__})
     {RECORD(0, 1, 0x42, 0x2B, 248, 249, 250, 251, 252, 253, 254, 255), EXOS_DONE, 0}, /* start */
-    {RECORD(1, 0, 1, 0, 100, 0, 'V', 'I', 'D', 'E', 'O', ':'), EXOS_DONE, 0},         /* open 1: a record of 116 bytes */
+    {RECORD(1, 0, 1, 0, 100, 0, 'V', 'I', 'D', 'E', 'O', ':'), EXOS_DONE, 0},         /* open 1: a record of 116 */
     {RECORD(1, 0, 2, 0, 255, 255, 'V', 'I', 'D', 'E', 'O', ':'), EXOS_DONE, 0},       /* open 2: of 65,551 */
     {RECORD(1, 0, 3, 0, 10, 0, 'V', 'I', 'D', 'E', 'O', ':'), EXOS_DONE, 0},          /* open 3: of 26 */
     {RECORD(21, 0, 0, 0, 'T', 'A', 'P', 'E'), EXOS_DONE, 0},                          /* link of no bytes: R stays */
@@ -126,9 +126,22 @@ int main(void) {
 
   static uint8_t tables[EXOS_IMAGE_BYTES], eight[8 * EXOS_SEGMENT_BYTES];
   for (size_t i = 0; i < sizeof moves / sizeof *moves; i++) {
-    if (!exos_call(tables, sizeof tables, eight, sizeof eight, moves[i].record, moves[i].length, out, sizeof out, reply, sizeof reply)) return 24;
+    if (!exos_call(tables, sizeof tables, eight, sizeof eight, moves[i].record, moves[i].length, out, sizeof out, reply,
+                   sizeof reply))
+      return 24;
     if (u16(reply) != moves[i].answer) return 25;
     if (moved_in(reply) != moves[i].moved) return 26;
+  }
+
+  /* A replay reports what its last record moved: up to each of these, in one log. */
+  static uint8_t log[256];
+  size_t end = 0;
+  for (size_t i = 0; i < sizeof moves / sizeof *moves; i++) {
+    log[end] = (uint8_t)moves[i].length, log[end + 1] = 0;
+    memcpy(log + end + 2, moves[i].record, moves[i].length);
+    end += 2 + moves[i].length;
+    if (exos_replay(eight, sizeof eight, out, sizeof out, log, end, reply, sizeof reply) != end) return 27;
+    if (u16(reply) != moves[i].answer || moved_in(reply) != moves[i].moved) return 28;
   }
   return 0;
 }

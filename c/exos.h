@@ -177,8 +177,8 @@ bool exos_write_module(uint8_t page, uint16_t offset, const uint8_t *items, size
  *             before, with EXOS_TABLES
  *   out       as above
  *   log       records, each with its length: any length, read
- *   reply     the last record's (done, 0 and 0, and nothing moved, where there is no record): EXOS_REPLY_BYTES, written. What
- *             is moved is what the last call moved, and no sum
+ *   reply     the last record's answer, and the bytes that its call moved, no sum (done, 0 and 0, and none moved where
+ *             there is no record): EXOS_REPLY_BYTES, written
  *
  * The bytes of the records. 0, and nothing changed, where the length of the reply is another.
  *

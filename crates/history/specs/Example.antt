@@ -67,7 +67,7 @@ abbrev numbers : Tables → List Call → List ℕ
 numbers t [] = []
 numbers t (c ∷ cs) = numberOf (answered t c .answer) ∷ numbers (answered t c .tables) cs
 
--- how many bytes a call moves, and each of them
+-- how many bytes a call moves, and each of these calls
 abbrev movedOn : Tables → Call → ℕ
 movedOn t c = length (movesOf t (answered t c .tables) (answered t c .ram))
 
@@ -140,7 +140,7 @@ known-all k (c ∷ cs) (n, fs) = known-all (known-next k c n) cs fs
 -- the calls and answers of its history are known too
 abbrev plain : History → Tables → List Call → History
 plain h t [] = h
-plain h t (c ∷ cs) = plain (record { call = c; answer = answered t c .answer; output = []; moved = 0 } ∷ h) (answered t c .tables) cs
+plain h t (c ∷ cs) = plain (record { call = c; answer = answered t c .answer; output = []; moved = movedOn t c } ∷ h) (answered t c .tables) cs
 
 data Alike : History → History → Type 0 where
   none : Alike [] []

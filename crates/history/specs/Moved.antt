@@ -1,4 +1,4 @@
--- "How much was moved": what every call tells, by the order's words and by its moves one after the other.
+-- "How much was moved": what every call reports, by the order's words and by its moves one after the other.
 use mathlib.Core.Path.{_≡_, refl, sym, ap, _∙_}
 use mathlib.Core.Bool.{true, false, false≢true}
 use mathlib.Core.List.{List, []}
@@ -50,7 +50,7 @@ module _ (t : Tables) (ram output : List ℕ) where
         lengths = omega (arith, all, n);
         number = refl;
         once = close-once (t .chain) (t .room) (recordAt t i) gap (totalOf t) (length ram) chain (omega arith) fits;
-        steps = sym (close-steps (t .chain) (t .room) (recordAt t i) gap (totalOf t) ram chain (omega arith) fits);
+        steps = sym (close-steps (t .chain) (t .room) (recordAt t i) gap (totalOf t) ram chain fits);
         each = λ k q.
             let from : recordAt t i + k + gap ≡ recordAt t (suc i) + k = omega (arith, next, begin) in
             let to : place u (recordAt t i + k) ≡ place t (recordAt t i + k) = closed-place t u i o (s .good) (recordAt t i + k) (omega (arith, all, rest)) in

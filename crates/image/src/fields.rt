@@ -14,7 +14,7 @@ pub fn put_u16(x: u16, to: &mut [u8], at: usize) -> usize
     put(to, m, (x / 256) as u8)
 }
 
-// The lowest bytes of a number, the lowest first.
+// The `count` lowest bytes of x, the lowest first.
 fn put_low(count: usize, x: u64, to: &mut [u8], at: usize) -> usize
     requires { ⌜ at + count ≤ length (now to) ⌝ }
     ensures { λ r. ⌜ Put (now (to .entry)) (now (to .exit)) at r (lowBytes count x) × (r ≡ at + count) ⌝ }

@@ -15,7 +15,7 @@ pub refused : (t : Tables) (answer : Answer) (d : Decision) (r : Outcome) (ram o
 unfolding completed
 refused t answer d r ram out q e = rw (q, e)
 
--- nor does a call that is done on the tables alone
+-- a call that is done on the tables alone changes no byte
 pub quietly : (t : Tables) (answer : Answer) (u : Tables) (d : Decision) → gives answer u changing nothing ≡ d → (ram out : List ℕ)
     → result (gives answer u) ram out ≡ completed t d ram out
 unfolding completed

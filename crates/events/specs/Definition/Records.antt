@@ -129,6 +129,6 @@ callIn kind body =
     (cond (eqb kind 30) (loadModuleIn body)
     no-call)))))))))))))))
 
--- what an event record leaves of the tables, the RAM and the lent output
+-- what an event record's call leaves
 abbrev pub stepOf : Tables → (ram : List ℕ) (kind : ℕ) (body out : List ℕ) → Result
 stepOf t ram kind body out = step t ram (callIn kind body) out

@@ -248,7 +248,6 @@ module _ (t : Tables) (ram : List ℕ) (r : Ready t (length ram)) (f : ℕ → �
   -- link keeps all buffers
   pub link-law : (u : Tables) (m : ℕ) → Linked t u m → m ≤ t .room → Ready u (length ram) → Holds f u (afterLink (u .chain) (t .room) m ram (totalOf t))
   link-law u m o le s i a k b =
-      let total : totalOf u ≡ totalOf t = rw (o .opened, o .channels) in
       let few : i < t .opened = rw (o .opened) at a in
       let number : channelIn u i ≡ channelIn t i = rw (o .channels) in
       let size : sizeAt u i ≡ sizeAt t i = rw (o .channels) in

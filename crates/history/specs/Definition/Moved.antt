@@ -28,7 +28,7 @@ movesLinked t m r = linkMoves (r .tables .chain) (t .room) m (totalOf t)
 abbrev pub lengthsAfter : Tables → (i : ℕ) → ℕ
 lengthsAfter t i = sumOf (drop (suc i) (take (t .opened) (t .channels)))
 
--- what a done close of the channel in row i leaves and tells
+-- what a done close of the channel in row i leaves and reports
 pub record CloseReports (t : Tables) (ram : List ℕ) (i : ℕ) (r : Result) : Type 0 where
   -- "for close the lengths of the records after the closed one"
   pub lengths : r .moved ≡ lengthsAfter t i
@@ -59,13 +59,13 @@ pub data CloseOrLink : Call → Type 0 where
   a-close : (channel : ℕ) → CloseOrLink (close channel)
   a-link : (m : ℕ) (name : List ℕ) → CloseOrLink (link m name)
 
--- what calls on the tables t and the RAM tell
+-- what calls on the tables t and the RAM report
 pub record Reports (t : Tables) (ram output : List ℕ) : Type 0 where
   pub closes : (channel : ℕ) → granted (step t ram (close channel) output .answer) ≡ true → CloseReports t ram (channelAt t channel) (step t ram (close channel) output)
   pub links : (m : ℕ) (name : List ℕ) → granted (step t ram (link m name) output .answer) ≡ true → LinkReports t ram m (step t ram (link m name) output)
   -- "and never exceeds T before the call"
   pub most : (c : Call) → step t ram c output .moved ≤ totalOf t
-  -- no more than 32 segments hold: four bytes tell it
+  -- no more than 32 segments hold: four bytes are enough
   pub small : (c : Call) → step t ram c output .moved ≤ 32 * SEGMENT
   -- "Other and refused calls report 0"
   pub other : (c : Call) → ¬ CloseOrLink c → step t ram c output .moved ≡ 0

@@ -1,5 +1,4 @@
--- What becomes of the bytes: a call names its change of the RAM and what fills the lent output (Calls.antt); what each of these means is said here, once,
--- and which record bytes a change moves.
+-- What becomes of the bytes: a call names its change of the RAM and what fills the lent output (Calls.antt); what each means, and what it moves, is said here, once.
 use mathlib.Core.Bool.{cond}
 use mathlib.Core.List.{List, [], _∷_}
 use Prim.Native.Nat.{ℕ, _+_, _-_, _*_}

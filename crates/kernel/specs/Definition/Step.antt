@@ -1,5 +1,4 @@
--- One step over all calls: from tables, RAM, a call and the lent output to the answer, the next tables, the next RAM, the next
--- output and how many record bytes were moved.
+-- One step over all calls: from tables, RAM, a call and the lent output to the answer, the next tables, RAM and output, and the bytes moved.
 use mathlib.Core.Bool.{Bool, not, _&&_, _||_}
 use mathlib.Core.List.{List, [], _∷_}
 use Prim.Native.Nat.{ℕ}

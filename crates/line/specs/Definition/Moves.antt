@@ -29,12 +29,10 @@ movesDown chain room m (suc n) = record { from = placeOf chain room n; to = plac
 
 -- "for close the lengths of the records after the closed one": of a line of total bytes the closed record is the gap bytes from position start
 unfoldable pub closeMoves : List ℕ → (room start gap total : ℕ) → List Move
-unfolding movesUp
 closeMoves chain room start gap total = movesUp chain room gap start (total - gap - start)
 
 -- "for a link T if R falls, else 0"
 unfoldable pub linkMoves : List ℕ → (room m total : ℕ) → List Move
-unfolding movesDown
 linkMoves chain room m total = cond (ltb 0 m) (movesDown chain room m total) []
 
 -- a close step by step: the moves, and then "positions that leave the line become zero"

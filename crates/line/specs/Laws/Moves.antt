@@ -25,7 +25,7 @@ use Rattle.line.specs.Laws.Makes.{closed-of, linked-none}
 length-up : (chain : List ℕ) (room gap p n : ℕ) → length (movesUp chain room gap p n) ≡ n
 unfolding movesUp
 length-up chain room gap p zero = refl
-length-up chain room gap p (suc n) = ap suc (length-up chain room gap (p + 1) n)
+length-up chain room gap p (suc n) = ap suc (length-up chain room gap _ n)
 
 -- the k-th of them
 up-at : (chain : List ℕ) (room gap p n k : ℕ) → k < n
@@ -54,11 +54,11 @@ module _ (chain : List ℕ) (room start gap total : ℕ) where
 
   module _ (size : ℕ) (good : Chain chain room total size) where
     -- a byte that is moved later is still where it was
-    made-up : (n p : ℕ) (ram : List ℕ) → 0 < gap → p + gap + n ≤ total
+    made-up : (n p : ℕ) (ram : List ℕ) → p + gap + n ≤ total
         → madeBy (movesUp chain room gap p n) ram ≡ putLine chain room ram p (lineFrom chain room ram (p + gap) n)
     unfolding movesUp madeBy putFrom bytesFrom
-    made-up zero p ram some fits = refl
-    made-up (suc n) p ram some fits =
+    made-up zero p ram fits = refl
+    made-up (suc n) p ram fits =
         let x = getD ram (placeOf chain room (p + gap)) 0 in
         let next = set ram (placeOf chain room p) x in
         let q : p + 1 + gap ≡ p + gap + 1 = omega arith in
@@ -67,7 +67,7 @@ module _ (chain : List ℕ) (room start gap total : ℕ) where
         (bytes-agree (placeOf chain room) (placeOf chain room) next ram (p + gap + 1) (p + gap + 1) n
         (λ k h. getD-set-other ram (placeOf chain room p) (placeOf chain room (p + gap + 1 + k)) x 0
         (λ e. let same : p + gap + 1 + k ≡ p = place-apart chain room total size good (p + gap + 1 + k) p (omega arith) (omega arith) e in omega arith))) in
-        made-up n (p + 1) next some (omega arith) ∙ ap (λ (l : List ℕ). putFrom (placeOf chain room) next (p + 1) l) kept
+        made-up n (p + 1) next (omega arith) ∙ ap (λ (l : List ℕ). putFrom (placeOf chain room) next (p + 1) l) kept
 
     -- "each byte moved once"
     pub close-once : 0 < gap → start + gap ≤ total → EachOnce (closeMoves chain room start gap total)
@@ -96,13 +96,13 @@ module _ (chain : List ℕ) (room start gap total : ℕ) where
         }
 
   -- the moves and then the zeros are what 01 says of a close
-  pub close-steps : (ram : List ℕ) → Chain chain room total (length ram) → 0 < gap → start + gap ≤ total
+  pub close-steps : (ram : List ℕ) → Chain chain room total (length ram) → start + gap ≤ total
       → closedByMoves chain room ram start gap total ≡ afterClose chain room ram start gap total
   unfolding closeMoves
-  close-steps ram good some fits =
+  close-steps ram good fits =
       let z : total - (total - gap) ≡ gap = omega arith in
       closed-of chain room ram (madeBy (closeMoves chain room start gap total) ram) (closedByMoves chain room ram start gap total) start gap total fits
-      (made-up (length ram) good (total - gap - start) start ram some (omega arith))
+      (made-up (length ram) good (total - gap - start) start ram (omega arith))
       (rw z)
 
 -- ---- link
@@ -175,11 +175,11 @@ module _ (chain : List ℕ) (room m total : ℕ) where
         place-apart chain room (total + m) size good (p + m) (q + m) (omega arith) (omega arith) (sym (place-shift chain room m p le) ∙ e ∙ place-shift chain room m q le) in
         omega arith
 
-    made-down : (n : ℕ) (ram : List ℕ) → 0 < m → n ≤ total
+    made-down : (n : ℕ) (ram : List ℕ) → n ≤ total
         → madeBy (movesDown chain room m n) ram ≡ putLine chain (room - m) ram 0 (lineFrom chain room ram 0 n)
     unfolding movesDown madeBy putFrom bytesFrom
-    made-down zero ram some fits = refl
-    made-down (suc n) ram some fits =
+    made-down zero ram fits = refl
+    made-down (suc n) ram fits =
         let from = placeOf chain room in
         let to = placeOf chain (room - m) in
         let x = getD ram (from n) 0 in
@@ -191,7 +191,7 @@ module _ (chain : List ℕ) (room m total : ℕ) where
         (λ k h. getD-set-other ram (to n) (from (0 + k)) x 0 (λ e. let same : 0 + k ≡ n + m = apart-down (0 + k) n (omega arith) (omega arith) e in omega arith)) in
         let put : putFrom to next 0 xs ≡ set (putFrom to ram 0 xs) (to n) x =
         sym (put-set to xs ram 0 (to n) x (λ k h e. let same : n ≡ 0 + k = apart-to n (0 + k) (omega arith) (omega (arith, nx)) e in omega (arith, nx))) in
-        made-down n next some (omega arith)
+        made-down n next (omega arith)
         ∙ ap (λ (l : List ℕ). putFrom to next 0 l) kept
         ∙ put
         ∙ sym (last-put from to ram n)
@@ -239,5 +239,5 @@ module _ (chain : List ℕ) (room m total : ℕ) where
   unfolding afterLink madeBy putFrom
   link-steps ram good le =
       by-cases (decLt 0 m)
-      (λ some. rw (moves-falling some) (ap (λ (l : List ℕ). putLine chain room l 0 (replicate m 0)) (made-down (length ram) good le total ram some (omega arith))))
+      (λ some. rw (moves-falling some) (ap (λ (l : List ℕ). putLine chain room l 0 (replicate m 0)) (made-down (length ram) good le total ram (omega arith))))
       (λ h. let z : m ≡ 0 = omega arith in rw (moves-none z, z) (linked-none chain room 0 ram total refl))
