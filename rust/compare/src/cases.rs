@@ -24,7 +24,7 @@ pub fn played(seed: u64, number: u64) -> Played {
         Plan::Writers => Player::of(writers()).played,
         Plan::Reads => Player::of(reads()).played,
         Plan::FarReads => Player::of(far_reads()).played,
-        Plan::Again(case) | Plan::Moves(case) => Player::of(case()).played,
+        Plan::Again(case) | Plan::ClosesAndLinks(case) => Player::of(case()).played,
         Plan::Lists => lists(&mut Random::new(seed, number)),
         Plan::ThereAndBack => there_and_back(&mut Random::new(seed, number)),
         plan => steered(&mut Random::new(seed, number), plan),

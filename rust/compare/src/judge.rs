@@ -162,6 +162,13 @@ mod tests {
                 "the kernel reports 8 bytes moved, 9 are due",
             ),
             (
+                Fault::Moved {
+                    reported: 1,
+                    due: 0,
+                },
+                "the kernel reports 1 byte moved, 0 are due",
+            ),
+            (
                 Fault::MovedPastT { reported: 8, t: 7 },
                 "the kernel reports 8 bytes moved, T was 7",
             ),

@@ -10,6 +10,7 @@
 mod again;
 pub mod audits;
 pub mod cases;
+mod closes_and_links;
 mod counter;
 pub mod counts;
 mod damage;
@@ -18,7 +19,6 @@ pub mod judge;
 pub mod machine;
 mod modules;
 mod moved;
-mod moves;
 mod no_mark;
 mod plan;
 mod planned;

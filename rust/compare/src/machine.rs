@@ -1,6 +1,6 @@
 //! The independent kernel's side: its tables, its RAM and their digests.
 
-use crate::moved::Moves;
+use crate::moved::Due;
 use crate::no_mark::{Before, Opened};
 use crate::protocol::{
     digest, image_of, joined, power, ram_of, tables_of, Case, Reply, Request, Writing, UNTOUCHED,
@@ -36,7 +36,7 @@ impl Machine {
         let opened = self.opened.take();
         self.again = opened.filter(|opened| opened.is_closed_by(request));
         let before = Before::of(request, &self.tables, &self.ram.bytes);
-        let moves = Moves::of(request, &self.tables);
+        let due = Due::of(request, &self.tables);
         let reply = self.made(request);
         let before = before.filter(|_| reply.number == 0);
         self.opened = before.map(|before| before.opened(&self.tables));
@@ -44,7 +44,7 @@ impl Machine {
             .again()
             .and_then(|opened| opened.fault(&reply, &self.tables, &self.ram.bytes));
         Reply {
-            fault: reply.fault.or(mark).or(moves.fault(&reply)),
+            fault: reply.fault.or(mark).or(due.fault(&reply)),
             ..reply
         }
     }

@@ -8,20 +8,21 @@ use crate::quietly::is_good;
 use crate::view::View;
 use exos_kernel::{decode, Call, Tables};
 
-/// What a request moves.
-pub struct Moves {
-    /// How many bytes if it is done.
-    if_done: usize,
-    /// T before it.
-    t: usize,
+/// What is due to a request.
+pub struct Due {
+    /// How many bytes it moves if it is done.
+    if_done: u32,
+    /// T before it; the writer and tables that are not good have none.
+    t: Option<u32>,
 }
 
-impl Moves {
-    /// What a request moves on these tables; nothing where they are not good.
-    pub fn of(request: &Request, tables: &Tables) -> Moves {
+impl Due {
+    /// What is due to a request on these tables.
+    pub fn of(request: &Request, tables: &Tables) -> Due {
         let event = request.event().filter(|_| is_good(tables));
         let Some((kind, body)) = event else {
-            return Moves { if_done: 0, t: 0 };
+            let (if_done, t) = (0, None);
+            return Due { if_done, t };
         };
         let view = View(tables);
         let if_done = match decode(kind, body) {
@@ -29,20 +30,19 @@ impl Moves {
             Call::Link { m, .. } if m > 0 => view.t(),
             _ => 0,
         };
-        Moves {
-            if_done,
-            t: view.t(),
+        Due {
+            if_done: if_done as u32,
+            t: Some(view.t() as u32),
         }
     }
 
     /// What is wrong with the number that a reply reports.
     pub fn fault(&self, reply: &Reply) -> Option<Fault> {
-        let (reported, t) = (reply.moved, self.t as u32);
-        if reported > t {
+        let reported = reply.moved;
+        if let Some(t) = self.t.filter(|&t| reported > t) {
             return Some(Fault::MovedPastT { reported, t });
         }
         let due = if reply.number == 0 { self.if_done } else { 0 };
-        let due = due as u32;
         (reported != due).then_some(Fault::Moved { reported, due })
     }
 }
@@ -74,7 +74,7 @@ mod tests {
 
     /// The fault of a reply to a request on some tables.
     fn fault(tables: &Tables, request: &Request, number: u16, moved: u32) -> Option<Fault> {
-        Moves::of(request, tables).fault(&reply(number, moved))
+        Due::of(request, tables).fault(&reply(number, moved))
     }
 
     #[test]
@@ -132,7 +132,10 @@ mod tests {
             (&tables(), writing, 0),
         ] {
             assert_eq!(fault(tables, &request, number, 0), None);
-            let one = Fault::MovedPastT { reported: 1, t: 0 };
+            let one = Fault::Moved {
+                reported: 1,
+                due: 0,
+            };
             assert_eq!(fault(tables, &request, number, 1), Some(one));
         }
     }

@@ -1,7 +1,7 @@
 //! What a case is about, by its number.
 
 use crate::again::AGAIN;
-use crate::moves::MOVES;
+use crate::closes_and_links::CLOSES_AND_LINKS;
 use crate::protocol::Case;
 use crate::steer::{Mood, MOODS};
 use exos_kernel::ROWS_OF_SEGMENTS;
@@ -22,7 +22,7 @@ pub enum Plan {
     /// Opens that are closed again at once, which leave nothing to chance.
     Again(fn() -> Case),
     /// Closes and links that leave nothing to chance.
-    Moves(fn() -> Case),
+    ClosesAndLinks(fn() -> Case),
     /// Requests to the writer that leave nothing to chance.
     Writers,
     /// A log of so many segments, whose line comes to fill them.
@@ -61,8 +61,8 @@ fn planned(number: u64) -> Option<Plan> {
     let sentences = BROKEN.iter().chain(KEPT).map(Plan::Sentence);
     let fixed = [Plan::Modules, Plan::Writers, Plan::Reads, Plan::FarReads];
     let again = AGAIN.into_iter().map(Plan::Again);
-    let moves = MOVES.into_iter().map(Plan::Moves);
-    let mut planned = sentences.chain(fixed).chain(again).chain(moves);
+    let closes_and_links = CLOSES_AND_LINKS.into_iter().map(Plan::ClosesAndLinks);
+    let mut planned = sentences.chain(fixed).chain(again).chain(closes_and_links);
     planned.nth(row as usize)
 }
 
@@ -155,7 +155,7 @@ mod tests {
     #[test]
     fn every_sentence_comes() {
         let count = (0..5_000).filter_map(planned).count();
-        let fixed = 4 + AGAIN.len() + MOVES.len();
+        let fixed = 4 + AGAIN.len() + CLOSES_AND_LINKS.len();
         assert_eq!(count, BROKEN.len() + KEPT.len() + fixed);
     }
 }

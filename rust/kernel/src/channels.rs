@@ -104,8 +104,8 @@ fn heading(channel: &Channel) -> [u8; HEADING] {
 }
 
 /// "Close removes one; later records move up and keep all their bytes;
-/// positions that leave the line become zero." Only the later records' bytes are
-/// moved bytes.
+/// positions that leave the line become zero." What it reports is by order 8: "for
+/// close the lengths of the records after the closed one".
 pub(crate) fn close(tables: &mut Tables, ram: &mut [u8], number: u8) -> Result<Reply, Refusal> {
     let found = find(tables, number)?;
     let end = found.start + HEADING + found.n;

@@ -94,9 +94,9 @@ fn lowered_room(tables: &Tables, m: u16) -> Result<u16, Refusal> {
         .ok_or(Refusal::Room)
 }
 
-/// Moves the line down to the new R; how many bytes were moved. Counted from the
-/// old R, each byte goes m positions further on and the first m positions leave the
-/// line.
+/// Moves the line down to the new R; how many bytes were moved, by order 8: "for a
+/// link T if R falls, else 0". Counted from the old R, each byte goes m positions
+/// further on and the first m positions leave the line.
 fn lower_line(tables: &mut Tables, ram: &mut [u8], r: u16) -> usize {
     let t = tables.line_length();
     let m = usize::from(tables.r - r);

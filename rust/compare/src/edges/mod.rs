@@ -88,7 +88,7 @@ pub fn edges(made: &Made, request: &Request, reply: &Reply, met: impl FnMut(Edge
     let call = decode(kind, body);
     let right_length = ram_length == SEGMENT * usize::from(before.segments);
     let usable = is_good(before);
-    meeting.moved(kind, call, usable, right_length);
+    meeting.moved_edges(kind, call, usable, right_length);
     if let Call::Start { r, list } = call {
         meeting.done(!usable, Edge::StartOnBad);
         meeting.start(r, list, ram_length);

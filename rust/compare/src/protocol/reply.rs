@@ -1,5 +1,6 @@
 //! A reply: all that is compared.
 
+use exoslog::counted;
 use std::fmt::{self, Display, Formatter};
 
 /// The length of a reply.
@@ -72,16 +73,18 @@ impl Display for Fault {
             Fault::TablesMarked => "the kernel's open and close leave a mark in the tables",
             Fault::RamMarked => "the kernel's open and close leave a mark in the RAM",
             Fault::Moved { reported, due } => {
-                return write!(
-                    to,
-                    "the kernel reports {reported} bytes moved, {due} are due"
-                );
+                return write!(to, "{}, {due} are due", reports(reported));
             }
             Fault::MovedPastT { reported, t } => {
-                return write!(to, "the kernel reports {reported} bytes moved, T was {t}");
+                return write!(to, "{}, T was {t}", reports(reported));
             }
         })
     }
+}
+
+fn reports(moved: u32) -> String {
+    let bytes = counted(moved as usize, "byte");
+    format!("the kernel reports {bytes} moved")
 }
 
 /// What stands for the answer of a kernel that panicked: no call gives it.

@@ -106,7 +106,8 @@ exos-list.
 
 Behind the answer to a close or a link that is done stands how many bytes of
 records it moved. Without --at and --reply a line more tells how many the log's
-closes and links moved in all, the most that one moved, and the first that did.
+closes and links moved in all, the most that one moved, and the first that did;
+where no close or link is done there is no such line.
 
 In a maker's log a record is an event and its reply, so K is still a line of the
 listing. Its events are replayed, up to the first record that is cut, ill-sized,

@@ -1,7 +1,7 @@
 //! The RAM at a record of a log, and its regions.
 
-use super::moved::moved_in_all;
-use super::record::ask;
+use super::moved::{moved_in_all, Done};
+use super::record::said_of;
 use super::{Boundary, Class, LineRecord, Map, Ram, Region, Segment, What};
 use crate::log::{record_with, Log, NoRecord};
 use crate::replay::answer_to;
@@ -41,14 +41,13 @@ pub fn map(bytes: &[u8], at: At) -> Result<Map, NoRecord> {
         });
     };
     let last = log.record(record)?;
-    let mut machine = before_any(log);
-    for asked in log.asked().take(before) {
-        answer_to(&mut machine, asked.event);
-    }
+    let (mut machine, mut done) = after(log, before);
     let asked_in = machine.clone();
-    let mut lines = ask(&mut machine, log, &last);
+    let answer = answer_to(&mut machine, last.event);
+    done.extend(Done::of(record, last.event, answer));
+    let mut lines = said_of(&machine, log, &last, answer);
     if at == At::End {
-        lines.extend(moved_in_all(before_any(log), log));
+        lines.extend(moved_in_all(log, &done));
     }
     let (when, mut machine) = match at {
         At::Reply(_) => ("before", asked_in),
@@ -60,6 +59,18 @@ pub fn map(bytes: &[u8], at: At) -> Result<Map, NoRecord> {
         lines,
         ram: machine.tables().map(|tables| ram(tables, boundary)),
     })
+}
+
+/// The machine after so many records, and those of their closes and links that are
+/// done.
+fn after(log: Log, records: usize) -> (Machine, Vec<Done>) {
+    let mut machine = before_any(log);
+    let mut done = Vec::new();
+    for (record, asked) in (1..).zip(log.asked().take(records)) {
+        let answer = answer_to(&mut machine, asked.event);
+        done.extend(Done::of(record, asked.event, answer));
+    }
+    (machine, done)
 }
 
 /// The machine before any record: it lends what the listing program does or, to a

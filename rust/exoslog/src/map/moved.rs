@@ -2,9 +2,8 @@
 
 use crate::log::Log;
 use crate::records::Record;
-use crate::replay::answer_to;
 use crate::words::{counted, words};
-use exos_kernel::{Machine, Reply};
+use exos_kernel::Reply;
 
 /// The kind of a close.
 const CLOSE: u16 = 3;
@@ -28,26 +27,39 @@ pub(super) fn moved_words(event: Record, answer: Reply) -> String {
     })
 }
 
-/// How many bytes the closes and links of a log moved in all, and which moved the
-/// most; none where no close or link is done. The machine is one before the log.
-pub(super) fn moved_in_all(mut machine: Machine, log: Log) -> Option<String> {
-    let moves: Vec<_> = (1..)
-        .zip(log.asked())
-        .filter_map(|(record, asked)| {
-            let answer = answer_to(&mut machine, asked.event)?;
-            let moved = moved_by(asked.event, answer)?;
-            Some((moved, record, asked.event))
+/// A close or a link that is done.
+pub(super) struct Done<'a> {
+    /// Its record's number.
+    record: usize,
+    event: Record<'a>,
+    /// How many bytes it moved.
+    moved: usize,
+}
+
+impl<'a> Done<'a> {
+    /// That of a record, if its event is a close or a link and done.
+    pub(super) fn of(record: usize, event: Record<'a>, answer: Option<Reply>) -> Option<Self> {
+        let moved = moved_by(event, answer?)?;
+        Some(Done {
+            record,
+            event,
+            moved,
         })
-        .collect();
+    }
+}
+
+/// How many bytes the closes and links of a log moved in all, and which moved the
+/// most; none where no close or link is done.
+pub(super) fn moved_in_all(log: Log, done: &[Done]) -> Option<String> {
     // the first of several that moved as much
-    let &(most, record, event) = moves.iter().rev().max_by_key(|moves| moves.0)?;
-    let all = counted(moves.iter().map(|moves| moves.0).sum(), "byte");
-    if most == 0 {
+    let most = done.iter().rev().max_by_key(|one| one.moved)?;
+    let all = counted(done.iter().map(|one| one.moved).sum(), "byte");
+    if most.moved == 0 {
         return Some(format!("{all} moved in all"));
     }
-    let (record, event) = (log.named(record), words(event));
+    let (moved, record, event) = (most.moved, log.named(most.record), words(most.event));
     Some(format!(
-        "{all} moved in all, most {most}: {record}, {event}"
+        "{all} moved in all, most {moved}: {record}, {event}"
     ))
 }
 
@@ -130,7 +142,7 @@ mod tests {
             "200 bytes moved in all, most 200: record 4 (event 6, reply 7), close 5",
         ];
         assert_eq!(lines(At::End), end);
-        // an event that is cut is not asked
+        // a cut is told in the place of an answer
         let log = encode(format!("{text}reply 0 0 0\n").as_bytes()).unwrap();
         let cut = map(&log, At::End).unwrap().lines;
         assert_eq!(cut[1], "10 cut: a reply where an event is due");

@@ -4,20 +4,24 @@ use super::moved::moved_words;
 use crate::listing::first_difference;
 use crate::log::{Asked, Log};
 use crate::records::Record;
-use crate::replay::answer_to;
 use crate::reply::{gives_bytes, ReplyRecord, REPLY};
 use crate::words::words;
 use exos_kernel::{hex, Machine, Reply};
 
-/// Makes the call of a log's record; what it is in words, the answer to it and,
-/// in a maker's log, the reply that follows.
-pub(super) fn ask(machine: &mut Machine, log: Log, asked: &Asked) -> Vec<String> {
+/// A log's record in words, the machine's answer to it, just given, and, in a
+/// maker's log, the reply that follows.
+pub(super) fn said_of(
+    machine: &Machine,
+    log: Log,
+    asked: &Asked,
+    answer: Option<Reply>,
+) -> Vec<String> {
     let mut lines = vec![words(asked.event)];
     if let Some(cut) = asked.cut.as_ref().filter(|cut| cut.is_of_event()) {
         lines.push(cut.to_string());
         return lines;
     }
-    match (asked.event, answer_to(machine, asked.event)) {
+    match (asked.event, answer) {
         (Record::Whole { kind, .. }, Some(answer)) if log.is_makers => {
             let due = due(machine, kind, answer);
             let said = due.said() + &moved_words(asked.event, answer);

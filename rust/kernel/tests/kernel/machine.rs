@@ -77,8 +77,10 @@ impl Machine {
             Call::Link { m, .. } if m > 0 => self.t(),
             _ => 0,
         };
-        assert_eq!(reply.moved as usize, expected, "{request:?}");
-        assert!(expected == 0 || expected <= self.t(), "{request:?}");
+        let moved = reply.moved as usize;
+        // tables that are not good have no T
+        assert!(moved == 0 || moved <= self.t(), "{request:?}");
+        assert_eq!(moved, expected, "{request:?}");
     }
 
     /// The lengths of the records after a channel's.

@@ -17,7 +17,8 @@ fn opened(mut machine: Machine, lengths: &[u32]) -> Machine {
     for (number, &length) in (0..).zip(lengths) {
         let n = (length - 16) as u16;
         assert_eq!(machine.open(number, n), DONE);
-        machine.write(number, 0, &pattern(n.into(), number.into()));
+        let data = pattern(n.into(), number.into());
+        assert_eq!(machine.write(number, 0, &data), (0, 0, n));
     }
     machine
 }

@@ -27,24 +27,30 @@ impl<Met: FnMut(Edge)> Meeting<'_, Met> {
     }
 
     /// A call on tables that are good, or not, with RAM of their length, or not.
-    pub(super) fn moved(&mut self, kind: u16, call: Call, is_good: bool, is_length_right: bool) {
+    pub(super) fn moved_edges(
+        &mut self,
+        kind: u16,
+        call: Call,
+        is_good: bool,
+        is_length_right: bool,
+    ) {
         if !is_good {
-            self.not_moved(call);
+            self.on_bad_tables(call);
         } else if !is_length_right {
-            self.not_moved_in_ram(call);
+            self.in_wrong_ram(call);
         } else {
             self.moved_by(kind, call);
         }
     }
 
-    fn not_moved(&mut self, call: Call) {
+    fn on_bad_tables(&mut self, call: Call) {
         let is_close = matches!(call, Call::Close { .. });
         self.moves_none(1, is_close, MovedEdge::CloseBadTables);
         let is_link = matches!(call, Call::Link { m, .. } if m > 0);
         self.moves_none(1, is_link, MovedEdge::LinkBadTables);
     }
 
-    fn not_moved_in_ram(&mut self, call: Call) {
+    fn in_wrong_ram(&mut self, call: Call) {
         let view = self.view;
         let is_close = matches!(call, Call::Close { channel } if view.row_of(channel).is_some());
         self.moves_none(1, is_close, MovedEdge::CloseWrongRam);

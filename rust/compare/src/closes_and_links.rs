@@ -11,7 +11,7 @@ use exos_sentences::{tables, CALLS};
 use std::iter;
 
 /// The cases.
-pub const MOVES: [fn() -> Case; 9] = [
+pub const CLOSES_AND_LINKS: [fn() -> Case; 9] = [
     rows, lines, refused, resets, others, bad_tables, wrong_ram, shared, far,
 ];
 
@@ -171,7 +171,9 @@ mod tests {
     use std::collections::BTreeSet;
 
     fn played() -> impl Iterator<Item = Played> {
-        MOVES.iter().map(|case| Player::of(case()).played)
+        CLOSES_AND_LINKS
+            .iter()
+            .map(|case| Player::of(case()).played)
     }
 
     #[test]
@@ -202,7 +204,8 @@ mod tests {
         }
         let closes = [1, 3].map(|number| (Some(3), number));
         let links = [1, 5, 8, 9].map(|number| (Some(21), number));
-        assert!(refused.into_iter().eq(closes.into_iter().chain(links)));
+        let refused: Vec<_> = refused.into_iter().collect();
+        assert_eq!(refused, [&closes[..], &links[..]].concat());
     }
 
     /// The numbers of a case that are not 0.
