@@ -4,7 +4,7 @@ use mathlib.Core.List.{List}
 use Prim.Native.Nat.{ℕ}
 use borrow.Author.Tests.{eq-eqb, ne_eqb}
 use Rattle.kernel.specs.Definition.Answers.{number_of}
-use Rattle.kernel.specs.Definition.Step.{result}
+use Rattle.kernel.specs.Definition.Step.{result_of}
 use Rattle.kernel.specs.declared.Answer.{Answer}
 use Rattle.kernel.specs.declared.Outcome.{Outcome}
 use Rattle.kernel.specs.declared.Tables.{Tables}
@@ -29,7 +29,7 @@ module _ (kind n : ℕ) (answer : Answer) (k : kind ≡ 256) (e : n ≡ number_o
   start-accepted h = rw (eq-eqb kind 256 k, ← e, eq-eqb n 0 h)
 
 module _ (t : Tables) (due : Due) (ram out : List ℕ) (kind : ℕ) (body : List ℕ) where
-  module _ (o : Outcome) (ram' out' : List ℕ) (e : result o ram' out' ≡ log_step t ram out kind body) where
+  module _ (o : Outcome) (ram' out' : List ℕ) (e : result_of o ram' out' ≡ log_step t ram out kind body) where
     pub on-start : due ≡ Start → (found : Found) → found ≡ started kind o.answer
         → goes found (state_of (ReplyTo kind o.answer) o.tables ram' out') ≡ next (state_of due t ram out) kind body
     unfolding next

@@ -1,4 +1,5 @@
 // The audit: a maker's log, event records each followed by a reply, to a verdict.
+#![tactic(auto)]
 use kernel::{Answer, Tables};
 
 pub mod replies; // one reply record against the definition's reply
@@ -8,7 +9,7 @@ pub mod logs; // where the input ends, and a whole log
 pub mod words; // a verdict as a line of text
 
 // Why a record is at fault.
-#[derive(Drop)]
+#[derive(Clone, Copy)]
 pub enum Word {
     Start,
     Cut,
@@ -19,14 +20,14 @@ pub enum Word {
 }
 
 // A log is accepted, or this record is the first at fault, events and replies counted together from 0.
-#[derive(Drop)]
+#[derive(Clone, Copy)]
 pub enum Verdict {
     Accepted,
     Fault(usize, Word),
 }
 
 // What the next record must be: the start, an event, or the reply to an event of this kind that the definition gives this answer.
-#[derive(Drop)]
+#[derive(Clone, Copy)]
 pub enum Due {
     Start,
     Event,
@@ -34,14 +35,14 @@ pub enum Due {
 }
 
 // What a record is found to be.
-#[derive(Drop)]
+#[derive(Clone, Copy)]
 pub enum Found {
     Right,
     Wrong(Word),
 }
 
 // What one record leaves: what it is found to be and, where it is right, the tables and what is due next.
-#[derive(Drop)]
+#[derive(Clone, Copy)]
 pub struct After {
     pub tables: Tables,
     pub due: Due,
@@ -49,7 +50,7 @@ pub struct After {
 }
 
 // Why the records of a buffer stop: more input is wanted, or one is at fault.
-#[derive(Drop)]
+#[derive(Clone, Copy)]
 pub enum Stop {
     More,
     Fault(Word),
@@ -57,7 +58,7 @@ pub enum Stop {
 
 // What the records of a buffer leave: why they stop, the number of the record where they do and, where more input is wanted, the tables, what is due and how
 // much of the input is taken.
-#[derive(Drop)]
+#[derive(Clone, Copy)]
 pub struct Judged {
     pub tables: Tables,
     pub due: Due,

@@ -9,7 +9,7 @@ use Rattle.kernel.specs.Definition.Answers.{gives}
 use Rattle.kernel.specs.Definition.Calls.{Call, no_call}
 use Rattle.kernel.specs.Definition.Good.{Good}
 use Rattle.kernel.specs.Definition.Tables.{ram_size}
-use Rattle.kernel.specs.Definition.Step.{Result, ready_test, result, step}
+use Rattle.kernel.specs.Definition.Step.{Result, ready_test, result_of, step}
 use Rattle.kernel.specs.declared.Tables.{Tables}
 use Rattle.kernel.specs.declared.Outcome.{Outcome}
 use Rattle.kernel.specs.declared.Answer.TheVariants.{BadTables, BadCall}
@@ -53,8 +53,8 @@ module _ (t : Tables) (ram : List ℕ) (kind : ℕ) (body out : List ℕ) where
   pub by_kind : (k : ℕ) (c : Call) (x : Result) → kind ≡ k → call_in k body ≡ c → x ≡ step t ram c out → x ≡ step_of t ram kind body out
   by_kind k c x e d q = rw (e, d) q
 
-  pub no_kind : Good t → length ram ≡ ram_size t → (r : Outcome) → call_in kind body ≡ no_call → r ≡ gives BadCall t → result r ram out ≡ step_of t ram kind body out
+  pub no_kind : Good t → length ram ≡ ram_size t → (r : Outcome) → call_in kind body ≡ no_call → r ≡ gives BadCall t → result_of r ram out ≡ step_of t ram kind body out
   no_kind g s r e q = bad-call t ram out g s (call_in kind body) r e q
 
-  pub bad-tables : (b : Bool) → b ≡ ready_test t (length ram) → (kind ≡ 256 → ⊥) → not b ≡ true → (r : Outcome) → r ≡ gives BadTables t → result r ram out ≡ step_of t ram kind body out
+  pub bad-tables : (b : Bool) → b ≡ ready_test t (length ram) → (kind ≡ 256 → ⊥) → not b ≡ true → (r : Outcome) → r ≡ gives BadTables t → result_of r ram out ≡ step_of t ram kind body out
   bad-tables b e n h r q = call-refused t ram (call_in kind body) out b e (no_start kind body n) h r q

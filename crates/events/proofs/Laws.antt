@@ -10,7 +10,7 @@ use Rattle.kernel.specs.Definition.Answers.{gives}
 use Rattle.kernel.specs.Definition.Calls.{Call, no_call}
 use Rattle.kernel.specs.Definition.Good.{Good}
 use Rattle.kernel.specs.Definition.Tables.{ram_size}
-use Rattle.kernel.specs.Definition.Step.{Result, heard, decided, result, completed, step}
+use Rattle.kernel.specs.Definition.Step.{Result, heard, decided, result_of, completed, step}
 use Rattle.kernel.specs.Laws.Ready.{ready-heard}
 use Rattle.kernel.specs.declared.Tables.{Tables}
 use Rattle.kernel.specs.declared.Outcome.{Outcome}
@@ -27,18 +27,18 @@ module _ (t : Tables) (ram : List ℕ) (out : List ℕ) (g : Good t) (s : length
   step-heard c = rw (ready-heard t (length ram) (length out) c (record { good = g; size = s }))
 
   -- the call c that was made is the call in the body
-  pub done : (c d : Call) (r : Outcome) (ram' out' : List ℕ) → d ≡ c → result r ram' out' ≡ completed t (heard t (length ram) (length out) c) ram out
-      → result r ram' out' ≡ step t ram d out
+  pub done : (c d : Call) (r : Outcome) (ram' out' : List ℕ) → d ≡ c → result_of r ram' out' ≡ completed t (heard t (length ram) (length out) c) ram out
+      → result_of r ram' out' ≡ step t ram d out
   done c d r ram' out' e q = q ∙ sym (ap (λ x. step t ram x out) e ∙ step-heard c)
 
   -- no call in the body
-  pub bad-call : (d : Call) (r : Outcome) → d ≡ no_call → r ≡ gives BadCall t → result r ram out ≡ step t ram d out
+  pub bad-call : (d : Call) (r : Outcome) → d ≡ no_call → r ≡ gives BadCall t → result_of r ram out ≡ step t ram d out
   unfolding heard completed
   bad-call d r e q = done no_call d r ram out e (rw q)
 
 -- a start is heard on any tables
 module _ (t : Tables) (ram : List ℕ) (body : List ℕ) (out : List ℕ) where
-  pub no_start : (r : Outcome) → length body < 2 → r ≡ gives BadCall t → result r ram out ≡ step t ram (start_in body) out
+  pub no_start : (r : Outcome) → length body < 2 → r ≡ gives BadCall t → result_of r ram out ≡ step t ram (start_in body) out
   unfolding start_in step decided heard completed
   no_start r h q = rw (q, lt-ltb (length body) 2 h)
 

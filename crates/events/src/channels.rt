@@ -2,7 +2,7 @@
 ghost use Rattle.std.specs.Prelude.{◌≡◌, List, ℕ, length};
 ghost use Rattle.kernel.specs.Definition.Tables.{ram_size};
 ghost use Rattle.kernel.specs.Definition.Good.{Good};
-ghost use Rattle.kernel.specs.Definition.Step.{step, result};
+ghost use Rattle.kernel.specs.Definition.Step.{step, result_of};
 ghost use Rattle.events.specs.Definition.Records.{open_in, close_in, read_in, write_in};
 
 use super::fields::u16_at;
@@ -11,7 +11,7 @@ use kernel::{Answer, Outcome, Tables};
 // Channel, driver status, n, name.
 pub fn open_event(t: Tables, ram: &mut [u8], body: &[u8]) -> Outcome
     requires { Good t × (length ram.old ≡ ram_size t) }
-    ensures* { λ r. ⌜ ((out : List ℕ) → result r ram.new out ≡ step t ram.old (open_in body.now) out) ⌝ }
+    ensures { (out : List ℕ) → result_of result ram.new out ≡ step t ram.old (open_in body.now) out }
 {
     if body.len() < 4 {
         return t.refuse(Answer::BadCall);
@@ -23,7 +23,7 @@ pub fn open_event(t: Tables, ram: &mut [u8], body: &[u8]) -> Outcome
 // Channel.
 pub fn close_event(t: Tables, ram: &mut [u8], body: &[u8]) -> Outcome
     requires { Good t × (length ram.old ≡ ram_size t) }
-    ensures* { λ r. ⌜ ((out : List ℕ) → result r ram.new out ≡ step t ram.old (close_in body.now) out) ⌝ }
+    ensures { (out : List ℕ) → result_of result ram.new out ≡ step t ram.old (close_in body.now) out }
 {
     if body.len() != 1 {
         return t.refuse(Answer::BadCall);
@@ -34,7 +34,7 @@ pub fn close_event(t: Tables, ram: &mut [u8], body: &[u8]) -> Outcome
 // Channel, offset, length.
 pub fn read_event(t: Tables, ram: &[u8], body: &[u8], out: &mut [u8]) -> Outcome
     requires { Good t × (length ram.now ≡ ram_size t) }
-    ensures* { λ r. ⌜ result r ram.now out.new ≡ step t ram.now (read_in body.now) out.old ⌝ }
+    ensures { result_of result ram.now out.new ≡ step t ram.now (read_in body.now) out.old }
 {
     if body.len() != 5 {
         return t.refuse(Answer::BadCall);
@@ -47,7 +47,7 @@ pub fn read_event(t: Tables, ram: &[u8], body: &[u8], out: &mut [u8]) -> Outcome
 // Channel, offset, data.
 pub fn write_event(t: Tables, ram: &mut [u8], body: &[u8]) -> Outcome
     requires { Good t × (length ram.old ≡ ram_size t) }
-    ensures* { λ r. ⌜ ((out : List ℕ) → result r ram.new out ≡ step t ram.old (write_in body.now) out) ⌝ }
+    ensures { (out : List ℕ) → result_of result ram.new out ≡ step t ram.old (write_in body.now) out }
 {
     if body.len() < 3 {
         return t.refuse(Answer::BadCall);

@@ -1,8 +1,9 @@
 // An event record's kind and body, to a call of the kernel.
+#![tactic(auto)]
 ghost use Rattle.std.specs.Prelude.{◌≡◌, length};
 ghost use Rattle.kernel.specs.Definition.Tables.{ram_size};
 ghost use Rattle.kernel.specs.Definition.Good.{Good};
-ghost use Rattle.kernel.specs.Definition.Step.{result};
+ghost use Rattle.kernel.specs.Definition.Step.{result_of};
 ghost use Rattle.events.specs.Definition.Records.{step_of};
 
 use channels::{close_event, open_event, read_event, write_event};
@@ -20,7 +21,7 @@ pub mod segments; // status, boundary, set user boundary, allocate, free, store,
 pub mod system; // start, reset, default, link
 
 // What stands at the front of a log: a record of this kind whose body has so many bytes, less than a record, or a bad length.
-#[derive(Drop)]
+#[derive(Clone, Copy)]
 pub enum Front {
     Record(u16, usize),
     Cut,
@@ -30,7 +31,7 @@ pub enum Front {
 // One call on tables that are good by theorem: they are not tested.
 pub fn call_good(t: Tables, ram: &mut [u8], kind: u16, body: &[u8], out: &mut [u8]) -> Outcome
     requires { Good t × (length ram.old ≡ ram_size t) }
-    ensures* { λ r. ⌜ result r ram.new out.new ≡ step_of t ram.old kind body.now out.old ⌝ }
+    ensures { result_of result ram.new out.new ≡ step_of t ram.old kind body.now out.old }
 {
     match kind {
         0 => reset_event(t, ram, body),
@@ -55,7 +56,7 @@ pub fn call_good(t: Tables, ram: &mut [u8], kind: u16, body: &[u8], out: &mut [u
 
 // One call, as an event record asks it.
 pub fn call(t: Tables, ram: &mut [u8], kind: u16, body: &[u8], out: &mut [u8]) -> Outcome
-    ensures* { λ r. ⌜ result r ram.new out.new ≡ step_of t ram.old kind body.now out.old ⌝ }
+    ensures { result_of result ram.new out.new ≡ step_of t ram.old kind body.now out.old }
 {
     if kind == 256 {
         return start_event(t, ram, body);

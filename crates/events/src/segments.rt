@@ -2,7 +2,7 @@
 ghost use Rattle.std.specs.Prelude.{◌≡◌, List, ℕ, length};
 ghost use Rattle.kernel.specs.Definition.Tables.{ram_size};
 ghost use Rattle.kernel.specs.Definition.Good.{Good};
-ghost use Rattle.kernel.specs.Definition.Step.{step, result};
+ghost use Rattle.kernel.specs.Definition.Step.{step, result_of};
 ghost use Rattle.events.specs.Definition.Records.{status_in, boundary_in, set_user_boundary_in, allocate_in, free_in, store_in, load_in, load_module_in};
 
 use super::fields::u16_at;
@@ -11,7 +11,7 @@ use kernel::{Answer, Outcome, Tables};
 // No field.
 pub fn status_event(t: Tables, body: &[u8], out: &mut [u8]) -> Outcome
     requires { Good t }
-    ensures* { λ r. ⌜ ((ram : List ℕ) → length ram ≡ ram_size t → result r ram out.new ≡ step t ram (status_in body.now) out.old) ⌝ }
+    ensures { (ram : List ℕ) → length ram ≡ ram_size t → result_of result ram out.new ≡ step t ram (status_in body.now) out.old }
 {
     if body.len() != 0 {
         return t.refuse(Answer::BadCall);
@@ -22,7 +22,7 @@ pub fn status_event(t: Tables, body: &[u8], out: &mut [u8]) -> Outcome
 // No field.
 pub fn boundary_event(t: Tables, body: &[u8]) -> Outcome
     requires { Good t }
-    ensures* { λ r. ⌜ ((ram out : List ℕ) → length ram ≡ ram_size t → result r ram out ≡ step t ram (boundary_in body.now) out) ⌝ }
+    ensures { (ram out : List ℕ) → length ram ≡ ram_size t → result_of result ram out ≡ step t ram (boundary_in body.now) out }
 {
     if body.len() != 0 {
         return t.refuse(Answer::BadCall);
@@ -33,7 +33,7 @@ pub fn boundary_event(t: Tables, body: &[u8]) -> Outcome
 // The boundary.
 pub fn set_user_boundary_event(t: Tables, body: &[u8]) -> Outcome
     requires { Good t }
-    ensures* { λ r. ⌜ ((ram out : List ℕ) → length ram ≡ ram_size t → result r ram out ≡ step t ram (set_user_boundary_in body.now) out) ⌝ }
+    ensures { (ram out : List ℕ) → length ram ≡ ram_size t → result_of result ram out ≡ step t ram (set_user_boundary_in body.now) out }
 {
     if body.len() != 2 {
         return t.refuse(Answer::BadCall);
@@ -45,7 +45,7 @@ pub fn set_user_boundary_event(t: Tables, body: &[u8]) -> Outcome
 // Caller.
 pub fn allocate_event(t: Tables, body: &[u8]) -> Outcome
     requires { Good t }
-    ensures* { λ r. ⌜ ((ram out : List ℕ) → length ram ≡ ram_size t → result r ram out ≡ step t ram (allocate_in body.now) out) ⌝ }
+    ensures { (ram out : List ℕ) → length ram ≡ ram_size t → result_of result ram out ≡ step t ram (allocate_in body.now) out }
 {
     if body.len() != 1 {
         return t.refuse(Answer::BadCall);
@@ -56,7 +56,7 @@ pub fn allocate_event(t: Tables, body: &[u8]) -> Outcome
 // Caller, segment.
 pub fn free_event(t: Tables, body: &[u8]) -> Outcome
     requires { Good t }
-    ensures* { λ r. ⌜ ((ram out : List ℕ) → length ram ≡ ram_size t → result r ram out ≡ step t ram (free_in body.now) out) ⌝ }
+    ensures { (ram out : List ℕ) → length ram ≡ ram_size t → result_of result ram out ≡ step t ram (free_in body.now) out }
 {
     if body.len() != 2 {
         return t.refuse(Answer::BadCall);
@@ -67,7 +67,7 @@ pub fn free_event(t: Tables, body: &[u8]) -> Outcome
 // Segment, offset, data.
 pub fn store_event(t: Tables, ram: &mut [u8], body: &[u8]) -> Outcome
     requires { Good t × (length ram.old ≡ ram_size t) }
-    ensures* { λ r. ⌜ ((out : List ℕ) → result r ram.new out ≡ step t ram.old (store_in body.now) out) ⌝ }
+    ensures { (out : List ℕ) → result_of result ram.new out ≡ step t ram.old (store_in body.now) out }
 {
     if body.len() < 3 {
         return t.refuse(Answer::BadCall);
@@ -79,7 +79,7 @@ pub fn store_event(t: Tables, ram: &mut [u8], body: &[u8]) -> Outcome
 // Segment, offset, length.
 pub fn load_event(t: Tables, ram: &[u8], body: &[u8], out: &mut [u8]) -> Outcome
     requires { Good t × (length ram.now ≡ ram_size t) }
-    ensures* { λ r. ⌜ result r ram.now out.new ≡ step t ram.now (load_in body.now) out.old ⌝ }
+    ensures { result_of result ram.now out.new ≡ step t ram.now (load_in body.now) out.old }
 {
     if body.len() != 5 {
         return t.refuse(Answer::BadCall);
@@ -92,7 +92,7 @@ pub fn load_event(t: Tables, ram: &[u8], body: &[u8], out: &mut [u8]) -> Outcome
 // Segment, start page, start offset, stream.
 pub fn load_module_event(t: Tables, ram: &mut [u8], body: &[u8]) -> Outcome
     requires { Good t × (length ram.old ≡ ram_size t) }
-    ensures* { λ r. ⌜ ((out : List ℕ) → result r ram.new out ≡ step t ram.old (load_module_in body.now) out) ⌝ }
+    ensures { (out : List ℕ) → result_of result ram.new out ≡ step t ram.old (load_module_in body.now) out }
 {
     if body.len() < 4 {
         return t.refuse(Answer::BadCall);

@@ -2,7 +2,7 @@
 ghost use Rattle.std.specs.Prelude.{◌≡◌, List, ℕ, length};
 ghost use Rattle.kernel.specs.Definition.Tables.{ram_size};
 ghost use Rattle.kernel.specs.Definition.Good.{Good};
-ghost use Rattle.kernel.specs.Definition.Step.{step, result};
+ghost use Rattle.kernel.specs.Definition.Step.{step, result_of};
 ghost use Rattle.events.specs.Definition.Records.{start_in, reset_in, default_in, link_in};
 
 use super::fields::u16_at;
@@ -10,7 +10,7 @@ use kernel::{Answer, Outcome, Tables};
 
 // R, list. Nothing is asked of the tables.
 pub fn start_event(t: Tables, ram: &mut [u8], body: &[u8]) -> Outcome
-    ensures* { λ r. ⌜ ((out : List ℕ) → result r ram.new out ≡ step t ram.old (start_in body.now) out) ⌝ }
+    ensures { (out : List ℕ) → result_of result ram.new out ≡ step t ram.old (start_in body.now) out }
 {
     if body.len() < 2 {
         return t.refuse(Answer::BadCall);
@@ -22,7 +22,7 @@ pub fn start_event(t: Tables, ram: &mut [u8], body: &[u8]) -> Outcome
 // Flags.
 pub fn reset_event(t: Tables, ram: &mut [u8], body: &[u8]) -> Outcome
     requires { Good t × (length ram.old ≡ ram_size t) }
-    ensures* { λ r. ⌜ ((out : List ℕ) → result r ram.new out ≡ step t ram.old (reset_in body.now) out) ⌝ }
+    ensures { (out : List ℕ) → result_of result ram.new out ≡ step t ram.old (reset_in body.now) out }
 {
     if body.len() != 1 {
         return t.refuse(Answer::BadCall);
@@ -33,7 +33,7 @@ pub fn reset_event(t: Tables, ram: &mut [u8], body: &[u8]) -> Outcome
 // Unit, name.
 pub fn default_event(t: Tables, body: &[u8]) -> Outcome
     requires { Good t }
-    ensures* { λ r. ⌜ ((ram out : List ℕ) → length ram ≡ ram_size t → result r ram out ≡ step t ram (default_in body.now) out) ⌝ }
+    ensures { (ram out : List ℕ) → length ram ≡ ram_size t → result_of result ram out ≡ step t ram (default_in body.now) out }
 {
     if body.len() < 1 {
         return t.refuse(Answer::BadCall);
@@ -44,7 +44,7 @@ pub fn default_event(t: Tables, body: &[u8]) -> Outcome
 // The bytes of RAM that the device takes, name.
 pub fn link_event(t: Tables, ram: &mut [u8], body: &[u8]) -> Outcome
     requires { Good t × (length ram.old ≡ ram_size t) }
-    ensures* { λ r. ⌜ ((out : List ℕ) → result r ram.new out ≡ step t ram.old (link_in body.now) out) ⌝ }
+    ensures { (out : List ℕ) → result_of result ram.new out ≡ step t ram.old (link_in body.now) out }
 {
     if body.len() < 2 {
         return t.refuse(Answer::BadCall);

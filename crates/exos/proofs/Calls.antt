@@ -7,7 +7,7 @@ use borrow.Author.Tests.{eq-eqb, ne_eqb, lt-leb, le-leb, not-true, not-false}
 use lib.Dec.{eqb}
 use lib.ListN.{length, take, drop}
 use Rattle.kernel.specs.Definition.Answers.{number_of, granted}
-use Rattle.kernel.specs.Definition.Step.{Result, result}
+use Rattle.kernel.specs.Definition.Step.{Result, result_of}
 use Rattle.kernel.specs.declared.Tables.{Tables}
 use Rattle.kernel.specs.declared.Answer.{Answer}
 use Rattle.kernel.specs.declared.Outcome.{Outcome}
@@ -39,10 +39,10 @@ module _ (image event reply : List ℕ) where
   all_fit h g k l = rw (eq-eqb (length image) SIZE h, le-leb 2 (length event) g, le-leb (length event) 4096 k, eq-eqb (length reply) 10 l)
 
 pub done : (image ram event out image' ram' out' reply' : List ℕ) (t : Tables) (kind : ℕ) (o : Outcome) → t ≡ tables_of image → kind ≡ u16_at event 0
-    → result o ram' out' ≡ step_of t ram kind (take (length event - 2) (drop 2 event)) out → image' ≡ image_after o.answer o.tables image → reply' ≡ outcome_bytes o.answer o.moved
+    → result_of o ram' out' ≡ step_of t ram kind (take (length event - 2) (drop 2 event)) out → image' ≡ image_after o.answer o.tables image → reply' ≡ outcome_bytes o.answer o.moved
     → Done image ram event out image' ram' out' reply'
 done image ram event out image' ram' out' reply' t kind o p q s i r =
-    let h : result o ram' out' ≡ step_on image ram event out = s ∙ rw (body_is event, p, q) in
+    let h : result_of o ram' out' ≡ step_on image ram event out = s ∙ rw (body_is event, p, q) in
     record {
       image-is = i ∙ ap (λ (x : Result). image_after x.answer x.tables image) h;
       ram-is = ap (λ (x : Result). x.ram) h;

@@ -1,4 +1,5 @@
 // Answers a stream of calls and of lists for the writer of modules: requests on standard input, replies on standard output. What fails it says on standard error.
+#![tactic(auto)]
 ghost use Rattle.std.specs.Prelude.{◌≡◌, ◌+◌, ◌≤◌, length};
 ghost use Rattle.stream.specs.Definition.Requests.{Spans, Brings};
 ghost use Rattle.exos_answer.specs.Within.{Ready};
@@ -11,7 +12,7 @@ use stream::requests::request;
 use stream::{Found, Machine, Request};
 
 // The tables and the length of their RAM; where the bytes that are read and not yet answered start and end; how many bytes of replies wait.
-#[derive(Drop)]
+#[derive(Clone, Copy)]
 pub struct State {
     pub tables: Tables,
     pub size: usize,

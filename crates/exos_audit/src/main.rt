@@ -1,4 +1,5 @@
 // The auditing program: reads a maker's log from standard input, prints the verdict, and tells on descriptor 3 how it ended.
+#![tactic(auto)]
 ghost use Rattle.std.specs.Prelude.{◌≡◌, ◌+◌, ◌-◌, ◌≤◌, ◌<◌, ◌^◌, length, take, drop};
 ghost use Rattle.files.specs.declared.Wrote.{Wrote};
 ghost use Rattle.listing.specs.Definition.NoneOrGood.{NoneOrGood};
@@ -21,7 +22,7 @@ const TOLD_FILENO: i32 = 3;
 const TURNS: u64 = 140737488355328;
 
 // How the run goes on: with a turn, or the input is over, or a read failed, or a record is at fault.
-#[derive(Drop)]
+#[derive(Clone, Copy)]
 pub enum Course {
     Going,
     Over,
@@ -30,7 +31,7 @@ pub enum Course {
 }
 
 // What is carried from turn to turn: the tables, what is due, the next record's number, the part of the buffer that is not yet judged, and how the run goes on.
-#[derive(Drop)]
+#[derive(Clone, Copy)]
 pub struct State {
     pub tables: Tables,
     pub due: Due,
@@ -41,7 +42,7 @@ pub struct State {
 }
 
 // How a run ends: this verdict is printed, or a read or a write failed, or the reader of the verdict has ended.
-#[derive(Drop)]
+#[derive(Clone, Copy)]
 pub enum End {
     Told(Verdict),
     ReadFailed,

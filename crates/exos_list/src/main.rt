@@ -1,4 +1,5 @@
 // The listing program: reads event records from standard input, prints a line a record, and tells on descriptor 3 how it ended.
+#![tactic(auto)]
 ghost use Rattle.std.specs.Prelude.{◌≡◌, ◌+◌, ◌-◌, ◌≤◌, ◌<◌, length, take, drop};
 ghost use Rattle.files.specs.declared.Wrote.{Wrote};
 ghost use Rattle.listing.specs.Definition.NoneOrGood.{NoneOrGood};
@@ -16,7 +17,7 @@ use listing::{End, Stop};
 const TOLD_FILENO: i32 = 3;
 
 // How the run goes on: with a turn, or the input is over, or it has ended.
-#[derive(Drop)]
+#[derive(Clone, Copy)]
 pub enum Course {
     Going,
     Over,
@@ -24,7 +25,7 @@ pub enum Course {
 }
 
 // What is carried from turn to turn: the tables, the part of the buffer that is not yet listed, and how the run goes on.
-#[derive(Drop)]
+#[derive(Clone, Copy)]
 pub struct State {
     pub tables: Tables,
     pub from: usize,

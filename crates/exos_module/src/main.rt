@@ -1,4 +1,5 @@
 // The writing program: reads a start and a list of items from standard input, writes the module of them, and tells on descriptor 3 how it ended.
+#![tactic(auto)]
 ghost use Rattle.std.specs.Prelude.{◌≡◌, ◌∷◌, ◌≤◌, length};
 ghost use Rattle.files.specs.declared.Wrote.{Wrote};
 ghost use Rattle.text.specs.Definition.Put.{Put};
@@ -19,7 +20,7 @@ const TOLD_FILENO: i32 = 3;
 
 // How a run ends: the module is written, or its write failed, or the reader of it has ended; or nothing is written, since a read failed, the writer
 // refused, or the input has no start, too many items or one that is none.
-#[derive(Drop)]
+#[derive(Clone, Copy)]
 pub enum End {
     Whole,
     WriteFailed,

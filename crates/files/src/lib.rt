@@ -1,11 +1,12 @@
 // Reads and writes on descriptors that tell an end from a failure; a call that a signal interrupts is made again. And a buffer whose rest is kept while more is read.
+#![tactic(auto)]
 ghost use Rattle.std.specs.Prelude.{◌≡◌, ◌+◌, ◌-◌, ◌≤◌, ◌<◌, length, take, drop};
 ghost use Rattle.files.specs.Definition.Outcomes.{Brings, count_of, Fills, ReadOn, Takes};
 
 use libc::{EINTR, EPIPE};
 
 // What a read brought: so many bytes, the end of the input, or nothing, since it failed.
-#[derive(Drop)]
+#[derive(Clone, Copy)]
 pub enum Got {
     Bytes(usize),
     Over,
@@ -13,7 +14,7 @@ pub enum Got {
 }
 
 // What reads up to the end of the input brought: so many bytes and then the end, or a full buffer, or a failure.
-#[derive(Drop)]
+#[derive(Clone, Copy)]
 pub enum Filled {
     Over(usize),
     Full,
@@ -21,7 +22,7 @@ pub enum Filled {
 }
 
 // What a write took: all bytes; or so many, since it failed; or so many, since the reader has ended.
-#[derive(Drop)]
+#[derive(Clone, Copy)]
 pub enum Wrote {
     All,
     Failed(usize),
@@ -29,7 +30,7 @@ pub enum Wrote {
 }
 
 // Why a call moved nothing: a signal interrupted it, the reader has ended, or it failed.
-#[derive(Drop)]
+#[derive(Clone, Copy)]
 enum Why {
     Interrupted,
     Closed,

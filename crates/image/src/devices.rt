@@ -4,11 +4,11 @@ ghost use Rattle.text.specs.Definition.Put.{Put};
 ghost use Rattle.image.specs.Definition.Offsets.{DEVICE};
 ghost use Rattle.image.specs.Definition.Image.{bit_of, device_bytes, device_from, rows_bytes, rows_of};
 
-use super::fields::name_at;
+use super::fields::{name_at, put_run};
 use super::offsets;
 use rows::Device;
 use rows::devices::NO_DEVICE;
-use text::{put, put_run};
+use text::put;
 
 fn device_at(image: &[u8], at: usize) -> Device
     requires { at + DEVICE ≤ length image.now }

@@ -1,4 +1,4 @@
-// Numbers of two, four and eight bytes, and names. A function that puts hands back the place after what it put.
+// Numbers of two, four and eight bytes, and runs of bytes. A function that puts hands back the place after what it put.
 ghost use Rattle.std.specs.Prelude.{◌≡◌, ◌+◌, ◌≤◌, length, take, drop};
 ghost use Rattle.text.specs.Definition.Put.{Put};
 ghost use Rattle.image.specs.Definition.Image.{u16_bytes, low_bytes, u32_bytes, u64_bytes};
@@ -41,6 +41,19 @@ pub fn put_u64(x: u64, to: &mut [u8], at: usize) -> usize
     ensures { Put to.old to.new at result (u64_bytes x) × (result ≡ at + 8) }
 {
     put_low(8, x, to, at)
+}
+
+pub fn put_run(xs: &[u8], to: &mut [u8], at: usize) -> usize
+    requires { at + length xs.now ≤ length to.old }
+    ensures { Put to.old to.new at result xs.now }
+{
+    let mut m = at;
+    let mut i = 0;
+    while i < xs.len() {
+        m = put(to, m, xs[i]);
+        i += 1;
+    }
+    m
 }
 
 // A name.

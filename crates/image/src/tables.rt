@@ -6,12 +6,12 @@ ghost use Rattle.image.specs.Definition.Image.{segment_bytes, boundary_bytes, ro
 
 use super::channels::{channels_at, put_channels};
 use super::devices::{devices_at, put_devices};
-use super::fields::{name_at, put_u16};
+use super::fields::{name_at, put_run, put_u16};
 use super::offsets;
 use events::fields::u16_at;
 use kernel::Tables;
 use rows::segments::lay;
-use text::{put, put_run};
+use text::put;
 
 fn put_segments(t: Tables, image: &mut [u8])
     requires { length image.old ≡ SIZE }

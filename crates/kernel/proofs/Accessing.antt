@@ -19,7 +19,7 @@ use Rattle.kernel.specs.Definition.Line.{size_at, buffer_at}
 use Rattle.kernel.specs.Definition.Segments.{may_reach, reach_of}
 use Rattle.kernel.specs.Definition.Answers.{gives}
 use Rattle.kernel.specs.Definition.Calls.{on_read, on_write, on_store, on_load}
-use Rattle.kernel.specs.Definition.Step.{completed, result, ready_test}
+use Rattle.kernel.specs.Definition.Step.{completed, result_of, ready_test}
 use Rattle.kernel.specs.Definition.Lend.{lent_on_good, part_on_good, lent_on, part_on}
 use Rattle.kernel.specs.declared.Tables.{Tables}
 use Rattle.kernel.specs.declared.Answer.TheVariants.{Done, NoChannel, NotOwner, BadRange, Guarded}
@@ -29,7 +29,7 @@ use Rattle.kernel.proofs.Spans.{Open, Reached}
 
 module _ (t : Tables) (ram out : List ℕ) (channel offset asked : ℕ) where
   pub read-closed : t.opened ≤ channel_at t channel
-      → result (gives NoChannel t) ram out ≡ completed t (on_read t (length out) channel offset asked) ram out
+      → result_of (gives NoChannel t) ram out ≡ completed t (on_read t (length out) channel offset asked) ram out
   unfolding completed on_read
   read-closed h = rw (le-leb t.opened (channel_at t channel) h)
 
@@ -39,13 +39,13 @@ module _ (t : Tables) (ram out : List ℕ) (channel offset asked : ℕ) where
     read_count = rw (b, is, e, f)
 
     pub read_short : length out < count
-        → result (gives BadRange t) ram out ≡ completed t (on_read t (length out) channel offset asked) ram out
+        → result_of (gives BadRange t) ram out ≡ completed t (on_read t (length out) channel offset asked) ram out
     unfolding completed on_read
     read_short h = rw (o.found, o.here, read_count, lt-ltb (length out) count h)
 
     pub read_done : count ≤ length out → (room start : ℕ) (after : List ℕ) → room ≡ t.room → start ≡ buffer_at t i
         → after ≡ filled count (line_from t.chain room ram (start + from) count) out
-        → result (gives (Done 0 count) t) ram after ≡ completed t (on_read t (length out) channel offset asked) ram out
+        → result_of (gives (Done 0 count) t) ram after ≡ completed t (on_read t (length out) channel offset asked) ram out
     unfolding completed on_read
     read_done h room start after r s a = rw (o.found, o.here, read_count, le-ltb (length out) count h, a, e, r, s)
 
@@ -53,7 +53,7 @@ module _ (t : Tables) (ram out : List ℕ) (channel offset asked : ℕ) where
 
 module _ (t : Tables) (ram bytes : List ℕ) (channel offset : ℕ) where
   pub write-closed : t.opened ≤ channel_at t channel → (out : List ℕ)
-      → result (gives NoChannel t) ram out ≡ completed t (on_write t channel offset bytes) ram out
+      → result_of (gives NoChannel t) ram out ≡ completed t (on_write t channel offset bytes) ram out
   unfolding completed on_write
   write-closed h out = rw (le-leb t.opened (channel_at t channel) h)
 
@@ -62,12 +62,12 @@ module _ (t : Tables) (ram bytes : List ℕ) (channel offset : ℕ) where
     write-test = rw (b, is, e)
 
     pub write-beyond : far ≡ true → (out : List ℕ)
-        → result (gives BadRange t) ram out ≡ completed t (on_write t channel offset bytes) ram out
+        → result_of (gives BadRange t) ram out ≡ completed t (on_write t channel offset bytes) ram out
     unfolding completed on_write
     write-beyond h out = rw (o.found, o.here, sym write-test ∙ h)
 
     pub write_done : far ≡ false → (room start : ℕ) (after : List ℕ) → room ≡ t.room → start ≡ buffer_at t i → after ≡ put_line t.chain room ram (start + from) bytes
-        → (out : List ℕ) → result (gives (Done 0 (length bytes)) t) after out ≡ completed t (on_write t channel offset bytes) ram out
+        → (out : List ℕ) → result_of (gives (Done 0 (length bytes)) t) after out ≡ completed t (on_write t channel offset bytes) ram out
     unfolding completed on_write
     write_done h room start after r s a out = rw (o.found, o.here, sym write-test ∙ h, a, e, r, s)
 
@@ -113,7 +113,7 @@ module _ (t : Tables) (channel : ℕ) where
 
 module _ (t : Tables) (ram bytes : List ℕ) (segment offset : ℕ) where
   pub store_other : (n row : ℕ) (may : Bool) → n ≡ t.segments → row ≡ first_place segment (take n t.list) → may ≡ may_reach t row → not may ≡ true → (out : List ℕ)
-      → result (gives NotOwner t) ram out ≡ completed t (on_store t segment offset bytes) ram out
+      → result_of (gives NotOwner t) ram out ≡ completed t (on_store t segment offset bytes) ram out
   unfolding completed on_store
   store_other n row may e f m h out =
       let here : row_of t segment ≡ row = sym (rw e at f) in
@@ -126,7 +126,7 @@ module _ (t : Tables) (ram bytes : List ℕ) (segment offset : ℕ) where
     store-test = rw (b, k, e)
 
     pub store-beyond : far ≡ true → (out : List ℕ)
-        → result (gives BadRange t) ram out ≡ completed t (on_store t segment offset bytes) ram out
+        → result_of (gives BadRange t) ram out ≡ completed t (on_store t segment offset bytes) ram out
     unfolding completed on_store
     store-beyond h out = rw (x.here, x.may, sym store-test ∙ h)
 
@@ -135,12 +135,12 @@ module _ (t : Tables) (ram bytes : List ℕ) (segment offset : ℕ) where
       store-guard = rw (q, e)
 
       pub store-guarded : hit ≡ true → (out : List ℕ)
-          → result (gives Guarded t) ram out ≡ completed t (on_store t segment offset bytes) ram out
+          → result_of (gives Guarded t) ram out ≡ completed t (on_store t segment offset bytes) ram out
       unfolding completed on_store
       store-guarded y out = rw (x.here, x.may, sym store-test ∙ h, sym store-guard ∙ y)
 
       pub store-done : hit ≡ false → (after : List ℕ) → after ≡ put_at ram (16384 * row + from) bytes → (out : List ℕ)
-          → result (gives (Done 0 (length bytes)) t) after out ≡ completed t (on_store t segment offset bytes) ram out
+          → result_of (gives (Done 0 (length bytes)) t) after out ≡ completed t (on_store t segment offset bytes) ram out
       unfolding completed on_store
       store-done y after a out = rw (x.here, x.may, sym store-test ∙ h, sym store-guard ∙ y, a, e)
 
@@ -148,7 +148,7 @@ module _ (t : Tables) (ram bytes : List ℕ) (segment offset : ℕ) where
 
 module _ (t : Tables) (ram out : List ℕ) (segment offset size : ℕ) where
   pub load-other : (n row : ℕ) (may : Bool) → n ≡ t.segments → row ≡ first_place segment (take n t.list) → may ≡ may_reach t row → not may ≡ true
-      → result (gives NotOwner t) ram out ≡ completed t (on_load t (length out) segment offset size) ram out
+      → result_of (gives NotOwner t) ram out ≡ completed t (on_load t (length out) segment offset size) ram out
   unfolding completed on_load
   load-other n row may e f m h =
       let here : row_of t segment ≡ row = sym (rw e at f) in
@@ -161,11 +161,11 @@ module _ (t : Tables) (ram out : List ℕ) (segment offset size : ℕ) where
     load-test = rw (b, k, e, f)
 
     pub load-beyond : far || ltb (length out) count ≡ true
-        → result (gives BadRange t) ram out ≡ completed t (on_load t (length out) segment offset size) ram out
+        → result_of (gives BadRange t) ram out ≡ completed t (on_load t (length out) segment offset size) ram out
     unfolding completed on_load
     load-beyond h = rw (x.here, x.may, sym load-test ∙ h)
 
     pub load-done : far || ltb (length out) count ≡ false → (after : List ℕ) → after ≡ filled count (take count (drop (16384 * row + from) ram)) out
-        → result (gives (Done 0 size) t) ram after ≡ completed t (on_load t (length out) segment offset size) ram out
+        → result_of (gives (Done 0 size) t) ram after ≡ completed t (on_load t (length out) segment offset size) ram out
     unfolding completed on_load
     load-done h after a = rw (x.here, x.may, sym load-test ∙ h, a, e, f)

@@ -18,7 +18,7 @@ use Rattle.kernel.specs.Definition.Segments.{class_for, granting, sharing_last, 
 use Rattle.kernel.specs.Definition.Answers.{gives, ◌changing◌}
 use Rattle.kernel.specs.Definition.Calls.{on_boundary, on_set_user_boundary, on_allocate, on_free, on_status}
 use Rattle.kernel.specs.Definition.Bytes.{nothing, counts_of}
-use Rattle.kernel.specs.Definition.Step.{completed, result}
+use Rattle.kernel.specs.Definition.Step.{completed, result_of}
 use Rattle.kernel.specs.declared.Tables.{Tables}
 use Rattle.kernel.specs.declared.Answer.TheVariants.{Done, BadCall, NoSegment, NotOwner, BadBoundary, BadRange, Shared}
 
@@ -145,11 +145,11 @@ pub count-byte : (t : Tables) (class n k : ℕ) → n ≡ t.segments → k ≡ t
 count-byte t class n k e f h = let z : k % 256 ≡ k = omega arith in z ∙ rw (f, e)
 
 module _ (t : Tables) (ram out : List ℕ) where
-  pub status-short : length out < 5 → result (gives BadRange t) ram out ≡ completed t (on_status t (length out)) ram out
+  pub status-short : length out < 5 → result_of (gives BadRange t) ram out ≡ completed t (on_status t (length out)) ram out
   unfolding completed on_status
   status-short h = rw (lt-ltb _ _ h)
 
   pub status-done : (counts after : List ℕ) → 5 ≤ length out → counts ≡ counts_of t → after ≡ filled 5 (take 5 (drop 0 counts)) out
-      → result (gives (Done 0 5) t) ram after ≡ completed t (on_status t (length out)) ram out
+      → result_of (gives (Done 0 5) t) ram after ≡ completed t (on_status t (length out)) ram out
   unfolding completed on_status
   status-done counts after h e f = rw (f, e, le-ltb _ _ h)

@@ -19,7 +19,7 @@ use Rattle.kernel.specs.Definition.Line.{record_at, size_at, shrunk, closing}
 use Rattle.kernel.specs.Definition.Answers.{gives}
 use Rattle.kernel.specs.Definition.Calls.{on_close}
 use Rattle.kernel.specs.Definition.Bytes.{ram_closed, moves_closed}
-use Rattle.kernel.specs.Definition.Step.{completed, result}
+use Rattle.kernel.specs.Definition.Step.{completed, result_of}
 use Rattle.kernel.specs.Within.{Fit}
 use Rattle.kernel.specs.Laws.Facts.{fit}
 use Rattle.kernel.specs.Laws.Chains.{good-chain}
@@ -56,11 +56,11 @@ module _ (t : Tables) (i start n opened line room : ℕ) (s : start ≡ record_a
 -- the channel's row, as the code finds it
 
 module _ (t : Tables) (channel : ℕ) (ram out : List ℕ) where
-  pub close-gone : t.opened ≤ channel_at t channel → result (gives NoChannel t) ram out ≡ completed t (on_close t channel) ram out
+  pub close-gone : t.opened ≤ channel_at t channel → result_of (gives NoChannel t) ram out ≡ completed t (on_close t channel) ram out
   unfolding completed on_close
   close-gone h = rw (le-leb _ _ h)
 
   pub close-done : (i : ℕ) (next : Tables) (after : List ℕ) (moved : ℕ) → channel_at t channel ≡ i → i < t.opened → next ≡ closing t i → after ≡ ram_closed t ram i
-      → moved ≡ length (moves_closed t i) → result (record { answer = Done 0 0; tables = next; moved = moved }) after out ≡ completed t (on_close t channel) ram out
+      → moved ≡ length (moves_closed t i) → result_of (record { answer = Done 0 0; tables = next; moved = moved }) after out ≡ completed t (on_close t channel) ram out
   unfolding completed on_close
   close-done i next after moved e h n a k = rw (n, a, k, e, lt-leb _ _ h)

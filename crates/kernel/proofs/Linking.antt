@@ -25,7 +25,7 @@ use Rattle.kernel.specs.Definition.Devices.{linking, device_named}
 use Rattle.kernel.specs.Definition.Bytes.{nothing, lowered}
 use Rattle.kernel.specs.Definition.Answers.{gives, ◌changing◌}
 use Rattle.kernel.specs.Definition.Calls.{on_link}
-use Rattle.kernel.specs.Definition.Step.{completed, result}
+use Rattle.kernel.specs.Definition.Step.{completed, result_of}
 use Rattle.kernel.specs.Within.{Links, room_to_link}
 use Rattle.kernel.specs.Laws.Arrays.{link-default, word_good}
 use Rattle.kernel.specs.Laws.Links.{linking-room, linking-held, linking-chain}
@@ -107,6 +107,6 @@ module _ (t : Tables) (m : ℕ) (d : Device) (g : Good t) (l : Links t m d) (nex
 
   pub link-done : (name ram after out : List ℕ) (moved : ℕ) → after ≡ after_link next.chain room size ram total → moved ≡ length (link_moves next.chain room size total)
       → on_link t m name ≡ gives (Done t.known (t.room - m)) (linking t m d) changing lowered m
-      → result (record { answer = Done t.known next.room; tables = next; moved = moved }) after out ≡ completed t (on_link t m name) ram out
+      → result_of (record { answer = Done t.known next.room; tables = next; moved = moved }) after out ≡ completed t (on_link t m name) ram out
   unfolding completed
   link-done name ram after out moved h k o = rw (h, k, a, b, s, o, e, linking-room t m d g l)

@@ -22,7 +22,7 @@ use Rattle.kernel.specs.Definition.Bytes.{nothing, one_by_one}
 use Rattle.kernel.specs.Definition.Segments.{may_reach, reach_of}
 use Rattle.kernel.specs.Definition.Answers.{gives, Decision, ◌changing◌, unless, ◌when◌}
 use Rattle.kernel.specs.Definition.Calls.{target_of, on_load_module}
-use Rattle.kernel.specs.Definition.Step.{completed, result}
+use Rattle.kernel.specs.Definition.Step.{completed, result_of}
 use Rattle.kernel.specs.declared.Tables.{Tables}
 use Rattle.kernel.specs.declared.Outcome.{Outcome}
 use Rattle.kernel.specs.declared.Answer.{Answer}
@@ -31,13 +31,13 @@ use Rattle.kernel.proofs.Spans.{Reached}
 
 module _ (t : Tables) (ram stream : List ℕ) (segment page offset : ℕ) where
   pub start-refused : ltb 3 page || ltb 16384 offset ≡ true → (o : Outcome) → o ≡ gives BadCall t → (out : List ℕ)
-      → result o ram out ≡ completed t (on_load_module t segment page offset stream) ram out
+      → result_of o ram out ≡ completed t (on_load_module t segment page offset stream) ram out
   unfolding completed on_load_module
   start-refused e o f out = rw (e, f)
 
   pub module-other : ltb 3 page || ltb 16384 offset ≡ false → (n row : ℕ) (may : Bool) → n ≡ t.segments → row ≡ first_place segment (take n t.list)
       → may ≡ may_reach t row → not may ≡ true → (o : Outcome) → o ≡ gives NotOwner t → (out : List ℕ)
-      → result o ram out ≡ completed t (on_load_module t segment page offset stream) ram out
+      → result_of o ram out ≡ completed t (on_load_module t segment page offset stream) ram out
   unfolding completed on_load_module
   module-other s n row may e f m h o g out =
       let here : row_of t segment ≡ row = sym (rw e at f) in
@@ -92,13 +92,13 @@ module _ {t : Tables} {ram stream : List ℕ} {segment page offset row reach : �
 
   -- what the stream is refused for
   pub module-refused : (f : Judged) (answer : Answer) (o : Outcome) → o ≡ gives answer t → j ≡ f → on_judged f ≡ (gives answer t changing nothing)
-      → (ram₁ : List ℕ) → ram₁ ≡ ram → (out : List ℕ) → result o ram₁ out ≡ completed t (on_load_module t segment page offset stream) ram out
+      → (ram₁ : List ℕ) → ram₁ ≡ ram → (out : List ℕ) → result_of o ram₁ out ≡ completed t (on_load_module t segment page offset stream) ram out
   unfolding completed
   module-refused f answer o g q w ram₁ same out = rw (decides, q, w, same, g)
 
   pub module-done : (used : ℕ) → j ≡ Whole used → (ram₁ after : List ℕ) → ram₁ ≡ ram
       → after ≡ put_where true (16384 * row) ram₁ (stored_before (target_at row reach page) (counter page offset) stream)
-      → (out : List ℕ) → result (gives (Done 0 used) t) after out ≡ completed t (on_load_module t segment page offset stream) ram out
+      → (out : List ℕ) → result_of (gives (Done 0 used) t) after out ≡ completed t (on_load_module t segment page offset stream) ram out
   unfolding completed
   module-done used q ram₁ after same a out =
       let whole : refusal_of (judged target (counter page offset) stream) ≡ 0 = rw (judged-is, q) in

@@ -31,7 +31,7 @@ use Rattle.kernel.specs.Definition.Names.{unit_or, wanted_by}
 use Rattle.kernel.specs.Definition.Bytes.{nothing, appended}
 use Rattle.kernel.specs.Definition.Answers.{gives, Decision, ◌changing◌}
 use Rattle.kernel.specs.Definition.Calls.{on_open, on_open_named, on_open_to}
-use Rattle.kernel.specs.Definition.Step.{Result, completed, result}
+use Rattle.kernel.specs.Definition.Step.{Result, completed, result_of}
 use Rattle.kernel.specs.Within.{New, HasRoom, on_open_row}
 use Rattle.kernel.specs.Laws.Opens.{opening-held, opening-chain}
 use Rattle.kernel.specs.Laws.Wants.{parts-few, meant}
@@ -125,7 +125,7 @@ module _ (t : Tables) (c : Channel) where
 
     pub row_done : (room total : ℕ) (ram after out : List ℕ) → room ≡ t.room → total ≡ total_of t
         → after ≡ after_open next.chain room ram total c.number c.device c.unit c.n
-        → result (gives (Done c.device c.unit) next) after out ≡ completed t (on_open_row t c) ram out
+        → result_of (gives (Done c.device c.unit) next) after out ≡ completed t (on_open_row t c) ram out
     unfolding completed
     row_done room total ram after out a b h = rw (row-answer, h, a, b)
 

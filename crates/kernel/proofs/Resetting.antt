@@ -20,7 +20,7 @@ use Rattle.kernel.specs.Definition.Reset.{other_bits, bit5, bit6, closes_all, em
 use Rattle.kernel.specs.Definition.Answers.{gives}
 use Rattle.kernel.specs.Definition.Calls.{on_reset}
 use Rattle.kernel.specs.Definition.Bytes.{ram_reset}
-use Rattle.kernel.specs.Definition.Step.{completed, result}
+use Rattle.kernel.specs.Definition.Step.{completed, result_of}
 use Rattle.kernel.specs.Within.{Fit}
 use Rattle.kernel.specs.Laws.Facts.{fit}
 use Rattle.kernel.specs.Laws.Chains.{good-chain}
@@ -122,11 +122,11 @@ module _ (t : Tables) (flags : ℕ) (ram between : List ℕ)
   ram-reset after b = rw (b, a)
 
 module _ (t : Tables) (flags : ℕ) (ram out : List ℕ) where
-  pub reset-refused : other_bits flags ≡ true → result (gives BadFlags t) ram out ≡ completed t (on_reset t flags) ram out
+  pub reset-refused : other_bits flags ≡ true → result_of (gives BadFlags t) ram out ≡ completed t (on_reset t flags) ram out
   unfolding completed on_reset
   reset-refused h = rw h
 
   pub reset-done : other_bits flags ≡ false → (next : Tables) (after : List ℕ) → next ≡ resetting t flags → after ≡ ram_reset t ram flags
-      → result (gives (Done 0 0) next) after out ≡ completed t (on_reset t flags) ram out
+      → result_of (gives (Done 0 0) next) after out ≡ completed t (on_reset t flags) ram out
   unfolding completed on_reset
   reset-done h next after n a = rw (n, a, h)

@@ -20,7 +20,7 @@ use Rattle.kernel.specs.Definition.Start.{start_test, started}
 use Rattle.kernel.specs.Definition.Answers.{gives}
 use Rattle.kernel.specs.Definition.Calls.{start, on_start}
 use Rattle.kernel.specs.Definition.Bytes.{ram_after, output_after}
-use Rattle.kernel.specs.Definition.Step.{heard, decided, completed, result, step}
+use Rattle.kernel.specs.Definition.Step.{heard, decided, completed, result_of, step}
 use Rattle.kernel.specs.declared.Tables.{Tables}
 use Rattle.kernel.specs.declared.Answer.TheVariants.{Done, BadStart}
 
@@ -66,11 +66,11 @@ start-tables room list laid classes devices h k l c d =
     rw (l, c, d, take_all 32 list k, z, y)
 
 module _ (t : Tables) (ram : List ℕ) (room : ℕ) (list out : List ℕ) (fine : Bool) (e : fine ≡ start_test (length ram) room list) where
-  pub start-refused : not fine ≡ true → result (gives BadStart t) ram out ≡ step t ram (start room list) out
+  pub start-refused : not fine ≡ true → result_of (gives BadStart t) ram out ≡ step t ram (start room list) out
   unfolding step decided heard on_start completed
   start-refused n = let f : start_test (length ram) room list ≡ false = sym e ∙ not-true fine n in rw f
 
   pub start-done : not fine ≡ false → (next : Tables) (zeros : List ℕ) → next ≡ started room list → zeros ≡ replicate (length ram) 0
-      → result (gives (Done next.segments room) next) zeros out ≡ step t ram (start room list) out
+      → result_of (gives (Done next.segments room) next) zeros out ≡ step t ram (start room list) out
   unfolding step decided heard on_start completed ram_after output_after started
   start-done n next zeros p q = let f : start_test (length ram) room list ≡ true = sym e ∙ not-false fine n in rw (p, q, f)

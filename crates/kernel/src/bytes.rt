@@ -6,7 +6,7 @@ ghost use Rattle.kernel.specs.Definition.Line.{size_at, buffer_at};
 ghost use Rattle.kernel.specs.Definition.Segments.{may_reach, reach_of};
 ghost use Rattle.kernel.specs.Definition.Calls.{on_read, on_write, on_store, on_load};
 ghost use Rattle.kernel.specs.Definition.Calls as calls;
-ghost use Rattle.kernel.specs.Definition.Step.{step, completed, result};
+ghost use Rattle.kernel.specs.Definition.Step.{step, completed, result_of};
 ghost use Rattle.kernel.specs.Definition.Lend.{lent_on_good, part_on_good, lent_on, part_on};
 
 use super::{Answer, Outcome, Tables};
@@ -22,7 +22,7 @@ impl Tables {
     // The position where the buffer of row `i` starts.
     fn buffer_at(self, i: usize) -> usize
         requires { i ≤ 32 }
-        ensures* { λ r. ⌜ (r ≡ buffer_at self i) × (r ≤ 2097648) ⌝ }
+        ensures { (result ≡ buffer_at self i) × (result ≤ 2097648) }
     {
         let channels = self.channels;
         total(channels, i) + 16
@@ -31,14 +31,14 @@ impl Tables {
     // The size of the buffer of row `i`.
     fn size_at(self, i: usize) -> usize
         requires { i < 32 }
-        ensures* { λ r. ⌜ (r ≡ size_at self i) × (r < 65536) ⌝ }
+        ensures { (result ≡ size_at self i) × (result < 65536) }
     {
         let c = self.channels[i];
         wide16(c.n)
     }
 
     pub fn read(self, ram: &[u8], channel: u8, offset: u16, asked: u16, out: &mut [u8]) -> Outcome
-        ensures* { λ r. ⌜ result r ram.now out.new ≡ step self ram.now (calls.read channel offset asked) out.old ⌝ }
+        ensures { result_of result ram.now out.new ≡ step self ram.now (calls.read channel offset asked) out.old }
     {
         if !self.is_ready(ram.len()) {
             return self.refuse(Answer::BadTables);
@@ -55,7 +55,7 @@ impl Tables {
         out: &mut [u8],
     ) -> Outcome
         requires { Good self × (length ram.now ≡ ram_size self) }
-        ensures* { λ r. ⌜ result r ram.now out.new ≡ completed self (on_read self (length out.old) channel offset asked) ram.now out.old ⌝ }
+        ensures { result_of result ram.now out.new ≡ completed self (on_read self (length out.old) channel offset asked) ram.now out.old }
     {
         let channels = self.channels;
         let opened = wide(self.opened);
@@ -80,7 +80,7 @@ impl Tables {
     }
 
     pub fn write(self, ram: &mut [u8], channel: u8, offset: u16, bytes: &[u8]) -> Outcome
-        ensures* { λ r. ⌜ ((out : List ℕ) → result r ram.new out ≡ step self ram.old (calls.write channel offset bytes.now) out) ⌝ }
+        ensures { (out : List ℕ) → result_of result ram.new out ≡ step self ram.old (calls.write channel offset bytes.now) out }
     {
         if !self.is_ready(ram.len()) {
             return self.refuse(Answer::BadTables);
@@ -90,7 +90,7 @@ impl Tables {
 
     pub fn write_good(self, ram: &mut [u8], channel: u8, offset: u16, bytes: &[u8]) -> Outcome
         requires { Good self × (length ram.old ≡ ram_size self) }
-        ensures* { λ r. ⌜ ((out : List ℕ) → result r ram.new out ≡ completed self (on_write self channel offset bytes.now) ram.old out) ⌝ }
+        ensures { (out : List ℕ) → result_of result ram.new out ≡ completed self (on_write self channel offset bytes.now) ram.old out }
     {
         let channels = self.channels;
         let opened = wide(self.opened);
@@ -116,7 +116,7 @@ impl Tables {
     // The user may store to and load from the segment of this row.
     pub fn may_reach(self, row: usize) -> bool
         requires { self.segments ≤ 32 }
-        ensures* { λ r. ⌜ r ≡ may_reach self row ⌝ }
+        ensures { result ≡ may_reach self row }
     {
         if wide(self.segments) <= row {
             return false;
@@ -128,7 +128,7 @@ impl Tables {
     // Up to which offset.
     pub fn reach_of(self, row: usize) -> usize
         requires { row < 32 }
-        ensures* { λ r. ⌜ r ≡ reach_of self row ⌝ }
+        ensures { result ≡ reach_of self row }
     {
         if self.classes[row] == SHARED {
             wide16(self.user)
@@ -138,7 +138,7 @@ impl Tables {
     }
 
     pub fn store(self, ram: &mut [u8], segment: u8, offset: u16, bytes: &[u8]) -> Outcome
-        ensures* { λ r. ⌜ ((out : List ℕ) → result r ram.new out ≡ step self ram.old (calls.store segment offset bytes.now) out) ⌝ }
+        ensures { (out : List ℕ) → result_of result ram.new out ≡ step self ram.old (calls.store segment offset bytes.now) out }
     {
         if !self.is_ready(ram.len()) {
             return self.refuse(Answer::BadTables);
@@ -148,7 +148,7 @@ impl Tables {
 
     pub fn store_good(self, ram: &mut [u8], segment: u8, offset: u16, bytes: &[u8]) -> Outcome
         requires { Good self × (length ram.old ≡ ram_size self) }
-        ensures* { λ r. ⌜ ((out : List ℕ) → result r ram.new out ≡ completed self (on_store self segment offset bytes.now) ram.old out) ⌝ }
+        ensures { (out : List ℕ) → result_of result ram.new out ≡ completed self (on_store self segment offset bytes.now) ram.old out }
     {
         let list = self.list;
         let segments = wide(self.segments);
@@ -173,7 +173,7 @@ impl Tables {
     }
 
     pub fn load(self, ram: &[u8], segment: u8, offset: u16, size: u16, out: &mut [u8]) -> Outcome
-        ensures* { λ r. ⌜ result r ram.now out.new ≡ step self ram.now (calls.load segment offset size) out.old ⌝ }
+        ensures { result_of result ram.now out.new ≡ step self ram.now (calls.load segment offset size) out.old }
     {
         if !self.is_ready(ram.len()) {
             return self.refuse(Answer::BadTables);
@@ -190,7 +190,7 @@ impl Tables {
         out: &mut [u8],
     ) -> Outcome
         requires { Good self × (length ram.now ≡ ram_size self) }
-        ensures* { λ r. ⌜ result r ram.now out.new ≡ completed self (on_load self (length out.old) segment offset size) ram.now out.old ⌝ }
+        ensures { result_of result ram.now out.new ≡ completed self (on_load self (length out.old) segment offset size) ram.now out.old }
     {
         let list = self.list;
         let segments = wide(self.segments);
@@ -213,7 +213,7 @@ impl Tables {
 
     // Where the buffer that is lent on starts in the RAM.
     pub fn lent(self, ram: &[u8], channel: u8) -> Lent
-        ensures* { λ r. ⌜ r ≡ lent_on self (length ram.now) channel ⌝ }
+        ensures { result ≡ lent_on self (length ram.now) channel }
     {
         if !self.is_ready(ram.len()) {
             return Lent::Nothing;
@@ -223,7 +223,7 @@ impl Tables {
 
     pub fn lent_good(self, channel: u8) -> Lent
         requires { Good self }
-        ensures* { λ r. ⌜ r ≡ lent_on_good self channel ⌝ }
+        ensures { result ≡ lent_on_good self channel }
     {
         let channels = self.channels;
         let opened = wide(self.opened);
@@ -238,7 +238,7 @@ impl Tables {
 
     // The buffer lent on; an empty part where nothing is lent.
     pub fn lend<'a>(self, ram: &'a [u8], channel: u8) -> &'a [u8]
-        ensures* { λ r. ⌜ r.now ≡ part_on self ram.now channel ⌝ }
+        ensures { result.now ≡ part_on self ram.now channel }
     {
         if !self.is_ready(ram.len()) {
             return &ram[0..0];
@@ -248,7 +248,7 @@ impl Tables {
 
     pub fn lend_good<'a>(self, ram: &'a [u8], channel: u8) -> &'a [u8]
         requires { Good self × (length ram.now ≡ ram_size self) }
-        ensures* { λ r. ⌜ r.now ≡ part_on_good self ram.now channel ⌝ }
+        ensures { result.now ≡ part_on_good self ram.now channel }
     {
         let channels = self.channels;
         let opened = wide(self.opened);
@@ -264,7 +264,7 @@ impl Tables {
 
 // `count` bytes from offset `from` on end beyond `n`.
 fn beyond(n: usize, from: usize, count: usize) -> bool
-    ensures* { λ r. ⌜ r ≡ ltb n (from + count) ⌝ }
+    ensures { result ≡ ltb n (from + count) }
 {
     (n < from) | (less(n, from) < count)
 }

@@ -6,7 +6,7 @@ ghost use Rattle.kernel.specs.Definition.Line.{closing};
 ghost use Rattle.kernel.specs.Definition.Calls.{on_close};
 ghost use Rattle.kernel.specs.Definition.Calls as calls;
 ghost use Rattle.kernel.specs.Definition.Bytes.{ram_closed, moves_closed};
-ghost use Rattle.kernel.specs.Definition.Step.{step, completed, result};
+ghost use Rattle.kernel.specs.Definition.Step.{step, completed, result_of};
 
 use super::{Answer, Outcome, Tables};
 use line::close_record;
@@ -19,7 +19,7 @@ impl Tables {
     // The tables without the channel in row `i`.
     fn closed(self, i: usize) -> Tables
         requires { Good self × (i < self.opened) }
-        ensures* { λ r. ⌜ r ≡ closing self i ⌝ }
+        ensures { result ≡ closing self i }
     {
         let rows = self.channels;
         let channels = without_row(rows, i);
@@ -39,8 +39,8 @@ impl Tables {
     // The RAM without the record of the channel in row `i`. How many bytes it moved.
     fn close_record(self, ram: &mut [u8], i: usize) -> u32
         requires { Good self × (i < self.opened) × (length ram.old ≡ ram_size self) }
-        ensures* bytes { λ _. ⌜ ram.new ≡ ram_closed self ram.old i ⌝ }
-        ensures* moved { λ r. ⌜ r ≡ length (moves_closed self i) ⌝ }
+        ensures bytes { ram.new ≡ ram_closed self ram.old i }
+        ensures moved { result ≡ length (moves_closed self i) }
     {
         let chain = self.chain;
         let channels = self.channels;
@@ -51,7 +51,7 @@ impl Tables {
     }
 
     pub fn close(self, ram: &mut [u8], channel: u8) -> Outcome
-        ensures* { λ r. ⌜ ((out : List ℕ) → result r ram.new out ≡ step self ram.old (calls.close channel) out) ⌝ }
+        ensures { (out : List ℕ) → result_of result ram.new out ≡ step self ram.old (calls.close channel) out }
     {
         if !self.is_ready(ram.len()) {
             return self.refuse(Answer::BadTables);
@@ -61,7 +61,7 @@ impl Tables {
 
     pub fn close_good(self, ram: &mut [u8], channel: u8) -> Outcome
         requires { Good self × (length ram.old ≡ ram_size self) }
-        ensures* { λ r. ⌜ ((out : List ℕ) → result r ram.new out ≡ completed self (on_close self channel) ram.old out) ⌝ }
+        ensures { (out : List ℕ) → result_of result ram.new out ≡ completed self (on_close self channel) ram.old out }
     {
         let channels = self.channels;
         let opened = wide(self.opened);

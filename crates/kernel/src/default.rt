@@ -3,14 +3,14 @@ ghost use Rattle.std.specs.Prelude.{◌≡◌, List, ℕ};
 ghost use Rattle.kernel.specs.Definition.Good.{Good};
 ghost use Rattle.kernel.specs.Definition.Calls.{on_default};
 ghost use Rattle.kernel.specs.Definition.Calls as calls;
-ghost use Rattle.kernel.specs.Definition.Step.{step, completed, result};
+ghost use Rattle.kernel.specs.Definition.Step.{step, completed, result_of};
 
 use super::{Answer, Outcome, Tables};
 use names::{default_name, word};
 
 impl Tables {
     pub fn default(self, ram: &[u8], unit: u8, name: &[u8]) -> Outcome
-        ensures* { λ r. ⌜ ((out : List ℕ) → result r ram.now out ≡ step self ram.now (calls.default unit name.now) out) ⌝ }
+        ensures { (out : List ℕ) → result_of result ram.now out ≡ step self ram.now (calls.default unit name.now) out }
     {
         if !self.is_ready(ram.len()) {
             return self.refuse(Answer::BadTables);
@@ -20,7 +20,7 @@ impl Tables {
 
     pub fn default_good(self, unit: u8, name: &[u8]) -> Outcome
         requires { Good self }
-        ensures* { λ r. ⌜ ((ram out : List ℕ) → result r ram out ≡ completed self (on_default self unit name.now) ram out) ⌝ }
+        ensures { (ram out : List ℕ) → result_of result ram out ≡ completed self (on_default self unit name.now) ram out }
     {
         if !default_name(name) {
             return self.refuse(Answer::BadName);

@@ -1,4 +1,5 @@
 // The kernel of document 01, with the orders of document 02 that have landed: its tables, its answers and its calls.
+#![tactic(auto)]
 use rows::{Channel, Device};
 
 pub mod answers; // the numbers and values of the answers, and a refusal
@@ -16,7 +17,7 @@ pub mod link; // link
 pub mod segments; // boundary, set user boundary, allocate, free, status
 
 // What every call takes and hands back. Unused rows and bytes are zero.
-#[derive(Drop)]
+#[derive(Clone, Copy)]
 pub struct Tables {
     // The RAM list: how many segments, and their numbers.
     pub segments: u8,
@@ -44,7 +45,7 @@ pub struct Tables {
 }
 
 // The answers of documents 01 and 02, in the order of their numbers.
-#[derive(Drop)]
+#[derive(Clone, Copy)]
 pub enum Answer {
     Done(u8, u16), // 0
     BadTables, // 1 TABLES
@@ -69,7 +70,7 @@ pub enum Answer {
 }
 
 // The answer with the next tables, and how many record bytes the call moved: of a close or a link, and else 0.
-#[derive(Drop)]
+#[derive(Clone, Copy)]
 pub struct Outcome {
     pub answer: Answer,
     pub tables: Tables,
@@ -77,7 +78,7 @@ pub struct Outcome {
 }
 
 // What a string of open means: a device's name in 28 bytes with its length, and a unit.
-#[derive(Drop)]
+#[derive(Clone, Copy)]
 pub struct Wanted {
     pub name: [u8; 28],
     pub length: u8,

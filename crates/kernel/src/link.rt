@@ -6,7 +6,7 @@ ghost use Rattle.kernel.specs.Definition.Line.{total_of};
 ghost use Rattle.kernel.specs.Definition.Devices.{linking, device_named};
 ghost use Rattle.kernel.specs.Definition.Calls.{on_link};
 ghost use Rattle.kernel.specs.Definition.Calls as calls;
-ghost use Rattle.kernel.specs.Definition.Step.{step, completed, result};
+ghost use Rattle.kernel.specs.Definition.Step.{step, completed, result_of};
 ghost use Rattle.kernel.specs.Within.{Links, room_to_link};
 
 use super::{Answer, Outcome, Tables};
@@ -21,7 +21,7 @@ use rows::sizes::chain_length;
 // The device that a link of this name adds.
 fn device_named(name: &[u8]) -> Device
     requires { length name.now ≤ 28 }
-    ensures* { λ r. ⌜ r ≡ device_named name.now ⌝ }
+    ensures { result ≡ device_named name.now }
 {
     new_device(word(name, name.len()), name.len() as u8)
 }
@@ -30,7 +30,7 @@ impl Tables {
     // The tables with one device more, an older one of its name disabled, and the chain as long as the line takes; `total` is T.
     fn add_device(self, m: u16, d: Device, total: usize) -> Tables
         requires { Good self × Links self m d × (total ≡ total_of self) }
-        ensures* { λ r. ⌜ r ≡ linking self m d ⌝ }
+        ensures { result ≡ linking self m d }
     {
         let room = self.room - m;
         let more = less(chain_length(room, total), wide(self.held));
@@ -53,7 +53,7 @@ impl Tables {
     // The room rule, for a device with `m` bytes; `total` is T.
     fn room_to_link(self, m: u16, total: usize) -> bool
         requires { Good self × (total ≡ total_of self) }
-        ensures* { λ r. ⌜ r ≡ room_to_link self m ⌝ }
+        ensures { result ≡ room_to_link self m }
     {
         if wide16(self.room) < 256 + wide16(m) {
             return false;
@@ -62,7 +62,7 @@ impl Tables {
     }
 
     pub fn link(self, ram: &mut [u8], m: u16, name: &[u8]) -> Outcome
-        ensures* { λ r. ⌜ ((out : List ℕ) → result r ram.new out ≡ step self ram.old (calls.link m name.now) out) ⌝ }
+        ensures { (out : List ℕ) → result_of result ram.new out ≡ step self ram.old (calls.link m name.now) out }
     {
         if !self.is_ready(ram.len()) {
             return self.refuse(Answer::BadTables);
@@ -72,7 +72,7 @@ impl Tables {
 
     pub fn link_good(self, ram: &mut [u8], m: u16, name: &[u8]) -> Outcome
         requires { Good self × (length ram.old ≡ ram_size self) }
-        ensures* { λ r. ⌜ ((out : List ℕ) → result r ram.new out ≡ completed self (on_link self m name.now) ram.old out) ⌝ }
+        ensures { (out : List ℕ) → result_of result ram.new out ≡ completed self (on_link self m name.now) ram.old out }
     {
         if !link_name(name) {
             return self.refuse(Answer::BadName);

@@ -4,7 +4,7 @@ ghost use Rattle.kernel.specs.Definition.Tables.{ram_size};
 ghost use Rattle.kernel.specs.Definition.Good.{Good};
 ghost use Rattle.kernel.specs.Definition.Calls.{on_load_module};
 ghost use Rattle.kernel.specs.Definition.Calls as calls;
-ghost use Rattle.kernel.specs.Definition.Step.{step, completed, result};
+ghost use Rattle.kernel.specs.Definition.Step.{step, completed, result_of};
 
 use super::{Answer, Outcome, Tables};
 use modules::reader::read;
@@ -21,7 +21,7 @@ impl Tables {
         offset: u16,
         stream: &[u8],
     ) -> Outcome
-        ensures* { λ r. ⌜ ((out : List ℕ) → result r ram.new out ≡ step self ram.old (calls.load-module segment page offset stream.now) out) ⌝ }
+        ensures { (out : List ℕ) → result_of result ram.new out ≡ step self ram.old (calls.load-module segment page offset stream.now) out }
     {
         if !self.is_ready(ram.len()) {
             return self.refuse(Answer::BadTables);
@@ -38,7 +38,7 @@ impl Tables {
         stream: &[u8],
     ) -> Outcome
         requires { Good self × (length ram.old ≡ ram_size self) }
-        ensures* { λ r. ⌜ ((out : List ℕ) → result r ram.new out ≡ completed self (on_load_module self segment page offset stream.now) ram.old out) ⌝ }
+        ensures { (out : List ℕ) → result_of result ram.new out ≡ completed self (on_load_module self segment page offset stream.now) ram.old out }
     {
         if (3 < page) | (16384 < offset) {
             return self.refuse(Answer::BadCall);

@@ -7,7 +7,7 @@ ghost use Rattle.kernel.specs.Definition.Line.{total_of, opening};
 ghost use Rattle.kernel.specs.Definition.Names.{unit_or, wanted_by};
 ghost use Rattle.kernel.specs.Definition.Calls.{on_open, on_open_named, on_open_to};
 ghost use Rattle.kernel.specs.Definition.Calls as calls;
-ghost use Rattle.kernel.specs.Definition.Step.{step, completed, result};
+ghost use Rattle.kernel.specs.Definition.Step.{step, completed, result_of};
 ghost use Rattle.kernel.specs.Within.{New, HasRoom, on_open_row};
 
 use super::{Answer, Outcome, Tables, Wanted};
@@ -21,7 +21,7 @@ use rows::{Channel, Lookup};
 
 // The unit that a string gives, or `other` where it gives none.
 fn unit_or(unit: UnitNumber, other: u8) -> u8
-    ensures* { λ r. ⌜ r ≡ unit_or unit other ⌝ }
+    ensures { result ≡ unit_or unit other }
 {
     match unit {
         UnitNumber::Given(u) => u,
@@ -32,7 +32,7 @@ fn unit_or(unit: UnitNumber, other: u8) -> u8
 impl Tables {
     fn is_open(self, channel: u8) -> bool
         requires { self.opened ≤ 32 }
-        ensures* { λ r. ⌜ r ≡ ltb (channel_at self channel) self.opened ⌝ }
+        ensures { result ≡ ltb (channel_at self channel) self.opened }
     {
         let channels = self.channels;
         match channel_row(channels, wide(self.opened), channel) {
@@ -44,7 +44,7 @@ impl Tables {
     // The device and the unit that the first `letters` bytes of a string and its unit mean.
     fn wanted(self, name: &[u8], letters: usize, unit: UnitNumber) -> Wanted
         requires { (letters ≤ 28) × (letters ≤ length name.now) }
-        ensures* { λ r. ⌜ r ≡ wanted_by self (take letters name.now) unit ⌝ }
+        ensures { result ≡ wanted_by self (take letters name.now) unit }
     {
         if letters == 0 {
             let name = self.name;
@@ -66,7 +66,7 @@ impl Tables {
     // The tables with one row more, and the chain as long as the line takes; `total` is T, where the record starts.
     fn append(self, c: Channel, total: usize) -> Tables
         requires { Good self × New self c × HasRoom self c × (total ≡ total_of self) }
-        ensures* { λ r. ⌜ r ≡ opening self c ⌝ }
+        ensures { result ≡ opening self c }
     {
         let opened = wide(self.opened);
         let size = total + (16 + wide16(c.n));
@@ -84,7 +84,7 @@ impl Tables {
     // Open, once the row is known.
     fn open_row(self, ram: &mut [u8], c: Channel) -> Outcome
         requires { Good self × (length ram.old ≡ ram_size self) × New self c }
-        ensures* { λ r. ⌜ ((out : List ℕ) → result r ram.new out ≡ completed self (on_open_row self c) ram.old out) ⌝ }
+        ensures { (out : List ℕ) → result_of result ram.new out ≡ completed self (on_open_row self c) ram.old out }
     {
         if 32 <= self.opened {
             return self.refuse(Answer::Full);
@@ -117,7 +117,7 @@ impl Tables {
     // Open, once the string is read.
     fn open_to(self, ram: &mut [u8], channel: u8, driver: u8, n: u16, w: Wanted) -> Outcome
         requires { Good self × (length ram.old ≡ ram_size self) × (channel < 255) × (self.opened ≤ channel_at self channel) }
-        ensures* { λ r. ⌜ ((out : List ℕ) → result r ram.new out ≡ completed self (on_open_to self channel driver n w) ram.old out) ⌝ }
+        ensures { (out : List ℕ) → result_of result ram.new out ≡ completed self (on_open_to self channel driver n w) ram.old out }
     {
         let devices = self.devices;
         let name = w.name;
@@ -139,7 +139,7 @@ impl Tables {
     // Open, once the channel is known to be a new one.
     fn open_named(self, ram: &mut [u8], channel: u8, driver: u8, n: u16, name: &[u8]) -> Outcome
         requires { Good self × (length ram.old ≡ ram_size self) × (channel < 255) × (self.opened ≤ channel_at self channel) }
-        ensures* { λ r. ⌜ ((out : List ℕ) → result r ram.new out ≡ completed self (on_open_named self channel driver n (reading name.now)) ram.old out) ⌝ }
+        ensures { (out : List ℕ) → result_of result ram.new out ≡ completed self (on_open_named self channel driver n (reading name.now)) ram.old out }
     {
         let Parts::Read {
             letters,
@@ -154,7 +154,7 @@ impl Tables {
     }
 
     pub fn open(self, ram: &mut [u8], channel: u8, driver: u8, n: u16, name: &[u8]) -> Outcome
-        ensures* { λ r. ⌜ ((out : List ℕ) → result r ram.new out ≡ step self ram.old (calls.«open» channel driver n name.now) out) ⌝ }
+        ensures { (out : List ℕ) → result_of result ram.new out ≡ step self ram.old (calls.«open» channel driver n name.now) out }
     {
         if !self.is_ready(ram.len()) {
             return self.refuse(Answer::BadTables);
@@ -164,7 +164,7 @@ impl Tables {
 
     pub fn open_good(self, ram: &mut [u8], channel: u8, driver: u8, n: u16, name: &[u8]) -> Outcome
         requires { Good self × (length ram.old ≡ ram_size self) }
-        ensures* { λ r. ⌜ ((out : List ℕ) → result r ram.new out ≡ completed self (on_open self channel driver n name.now) ram.old out) ⌝ }
+        ensures { (out : List ℕ) → result_of result ram.new out ≡ completed self (on_open self channel driver n name.now) ram.old out }
     {
         if channel == 255 {
             return self.refuse(Answer::NoChannel);

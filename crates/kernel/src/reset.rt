@@ -8,7 +8,7 @@ ghost use Rattle.kernel.specs.Definition.Reset.{closes_all, bit5, bit6, emptying
 ghost use Rattle.kernel.specs.Definition.Calls.{on_reset};
 ghost use Rattle.kernel.specs.Definition.Calls as calls;
 ghost use Rattle.kernel.specs.Definition.Bytes.{ram_reset};
-ghost use Rattle.kernel.specs.Definition.Step.{step, completed, result};
+ghost use Rattle.kernel.specs.Definition.Step.{step, completed, result_of};
 
 use super::{Answer, Outcome, Tables};
 use line::clear;
@@ -21,7 +21,7 @@ impl Tables {
     // The tables with no channel open.
     fn emptied(self) -> Tables
         requires { Good self }
-        ensures* { λ r. ⌜ r ≡ emptying self ⌝ }
+        ensures { result ≡ emptying self }
     {
         let gone = wide(self.held) - 1;
         let rows = self.channels;
@@ -34,7 +34,7 @@ impl Tables {
 
     // The tables with the devices that are built in and the cold R.
     fn restored(self) -> Tables
-        ensures* { λ r. ⌜ r ≡ restoring self ⌝ }
+        ensures { result ≡ restoring self }
     {
         let devices = built_in();
         let mut next = self;
@@ -47,7 +47,7 @@ impl Tables {
     // The tables with no user segment and no shared one.
     fn released(self) -> Tables
         requires { Good self }
-        ensures* { λ r. ⌜ r ≡ releasing self ⌝ }
+        ensures { result ≡ releasing self }
     {
         let rows = self.classes;
         let classes = release(rows, wide(self.segments));
@@ -60,7 +60,7 @@ impl Tables {
     // The tables after a reset.
     fn reset_tables(self, flags: u8) -> Tables
         requires { Good self }
-        ensures* { λ r. ⌜ r ≡ resetting self flags ⌝ }
+        ensures { result ≡ resetting self flags }
     {
         let mut next = self;
         if closes_all(flags) {
@@ -78,7 +78,7 @@ impl Tables {
     // Every position of the line becomes zero.
     fn clear_line(self, ram: &mut [u8])
         requires { Good self × (length ram.old ≡ ram_size self) }
-        ensures* { λ _. ⌜ ram.new ≡ put_line self.chain self.room ram.old 0 (replicate (total_of self) 0) ⌝ }
+        ensures { ram.new ≡ put_line self.chain self.room ram.old 0 (replicate (total_of self) 0) }
     {
         let chain = self.chain;
         let channels = self.channels;
@@ -89,7 +89,7 @@ impl Tables {
     // The RAM that the cold R gains becomes zero.
     fn clear_gained(self, ram: &mut [u8])
         requires { Good self × (length ram.old ≡ ram_size self) }
-        ensures* { λ _. ⌜ ram.new ≡ put_line self.chain self.cold ram.old 0 (replicate (self.cold - self.room) 0) ⌝ }
+        ensures { ram.new ≡ put_line self.chain self.cold ram.old 0 (replicate (self.cold - self.room) 0) }
     {
         let chain = self.chain;
         let cold = wide16(self.cold);
@@ -99,7 +99,7 @@ impl Tables {
     // The RAM after a reset.
     fn reset_ram(self, ram: &mut [u8], flags: u8)
         requires { Good self × (length ram.old ≡ ram_size self) }
-        ensures* { λ _. ⌜ ram.new ≡ ram_reset self ram.old flags ⌝ }
+        ensures { ram.new ≡ ram_reset self ram.old flags }
     {
         if closes_all(flags) {
             self.clear_line(ram);
@@ -110,7 +110,7 @@ impl Tables {
     }
 
     pub fn reset(self, ram: &mut [u8], flags: u8) -> Outcome
-        ensures* { λ r. ⌜ ((out : List ℕ) → result r ram.new out ≡ step self ram.old (calls.reset flags) out) ⌝ }
+        ensures { (out : List ℕ) → result_of result ram.new out ≡ step self ram.old (calls.reset flags) out }
     {
         if !self.is_ready(ram.len()) {
             return self.refuse(Answer::BadTables);
@@ -120,7 +120,7 @@ impl Tables {
 
     pub fn reset_good(self, ram: &mut [u8], flags: u8) -> Outcome
         requires { Good self × (length ram.old ≡ ram_size self) }
-        ensures* { λ r. ⌜ ((out : List ℕ) → result r ram.new out ≡ completed self (on_reset self flags) ram.old out) ⌝ }
+        ensures { (out : List ℕ) → result_of result ram.new out ≡ completed self (on_reset self flags) ram.old out }
     {
         if (0 < flags % 16) | (128 <= flags) {
             return self.refuse(Answer::BadFlags);
@@ -136,19 +136,19 @@ impl Tables {
 
 // Bit 5 closes all channels too.
 fn closes_all(flags: u8) -> bool
-    ensures* { λ r. ⌜ r ≡ closes_all flags ⌝ }
+    ensures { result ≡ closes_all flags }
 {
     (flags / 16 % 2 == 1) | restores(flags)
 }
 
 fn restores(flags: u8) -> bool
-    ensures* { λ r. ⌜ r ≡ bit5 flags ⌝ }
+    ensures { result ≡ bit5 flags }
 {
     flags / 32 % 2 == 1
 }
 
 fn releases(flags: u8) -> bool
-    ensures* { λ r. ⌜ r ≡ bit6 flags ⌝ }
+    ensures { result ≡ bit6 flags }
 {
     flags / 64 % 2 == 1
 }

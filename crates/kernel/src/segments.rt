@@ -5,7 +5,7 @@ ghost use Rattle.kernel.specs.Definition.Segments.{class_for};
 ghost use Rattle.kernel.specs.Definition.Calls.{on_boundary, on_set_user_boundary, on_allocate, on_free, on_status};
 ghost use Rattle.kernel.specs.Definition.Calls as calls;
 ghost use Rattle.kernel.specs.Definition.Bytes.{counts_of};
-ghost use Rattle.kernel.specs.Definition.Step.{step, completed, result};
+ghost use Rattle.kernel.specs.Definition.Step.{step, completed, result_of};
 
 use super::{Answer, Outcome, Tables};
 use line::ram::load;
@@ -15,7 +15,7 @@ use rows::segments::{DEVICE, FREE, SHARED, SYSTEM, USER, count_of, first_of};
 impl Tables {
     // The chain's last segment and the EXOS boundary.
     pub fn boundary(self, ram: &[u8]) -> Outcome
-        ensures* { λ r. ⌜ ((out : List ℕ) → result r ram.now out ≡ step self ram.now calls.boundary out) ⌝ }
+        ensures { (out : List ℕ) → result_of result ram.now out ≡ step self ram.now calls.boundary out }
     {
         if !self.is_ready(ram.len()) {
             return self.refuse(Answer::BadTables);
@@ -25,7 +25,7 @@ impl Tables {
 
     pub fn boundary_good(self) -> Outcome
         requires { Good self }
-        ensures* { λ r. ⌜ ((ram out : List ℕ) → result r ram out ≡ completed self (on_boundary self) ram out) ⌝ }
+        ensures { (ram out : List ℕ) → result_of result ram out ≡ completed self (on_boundary self) ram out }
     {
         let held = wide(self.held);
         let last = wide(self.chain[held - 1]);
@@ -40,7 +40,7 @@ impl Tables {
 
     // The user boundary set, in a shared segment, up to the EXOS boundary.
     pub fn set_user_boundary(self, ram: &[u8], value: u16) -> Outcome
-        ensures* { λ r. ⌜ ((out : List ℕ) → result r ram.now out ≡ step self ram.now (calls.set-user-boundary value) out) ⌝ }
+        ensures { (out : List ℕ) → result_of result ram.now out ≡ step self ram.now (calls.set-user-boundary value) out }
     {
         if !self.is_ready(ram.len()) {
             return self.refuse(Answer::BadTables);
@@ -50,7 +50,7 @@ impl Tables {
 
     pub fn set_user_boundary_good(self, value: u16) -> Outcome
         requires { Good self }
-        ensures* { λ r. ⌜ ((ram out : List ℕ) → result r ram out ≡ completed self (on_set_user_boundary self value) ram out) ⌝ }
+        ensures { (ram out : List ℕ) → result_of result ram out ≡ completed self (on_set_user_boundary self value) ram out }
     {
         let classes = self.classes;
         let segments = wide(self.segments);
@@ -71,7 +71,7 @@ impl Tables {
 
     // A segment for the user (0) or a device (1).
     pub fn allocate(self, ram: &[u8], caller: u8) -> Outcome
-        ensures* { λ r. ⌜ ((out : List ℕ) → result r ram.now out ≡ step self ram.now (calls.allocate caller) out) ⌝ }
+        ensures { (out : List ℕ) → result_of result ram.now out ≡ step self ram.now (calls.allocate caller) out }
     {
         if !self.is_ready(ram.len()) {
             return self.refuse(Answer::BadTables);
@@ -81,7 +81,7 @@ impl Tables {
 
     pub fn allocate_good(self, caller: u8) -> Outcome
         requires { Good self }
-        ensures* { λ r. ⌜ ((ram out : List ℕ) → result r ram out ≡ completed self (on_allocate self caller) ram out) ⌝ }
+        ensures { (ram out : List ℕ) → result_of result ram out ≡ completed self (on_allocate self caller) ram out }
     {
         if 1 < caller {
             return self.refuse(Answer::BadCall);
@@ -124,7 +124,7 @@ impl Tables {
 
     // A segment given back by the user (0) or a device (1).
     pub fn free(self, ram: &[u8], caller: u8, segment: u8) -> Outcome
-        ensures* { λ r. ⌜ ((out : List ℕ) → result r ram.now out ≡ step self ram.now (calls.free caller segment) out) ⌝ }
+        ensures { (out : List ℕ) → result_of result ram.now out ≡ step self ram.now (calls.free caller segment) out }
     {
         if !self.is_ready(ram.len()) {
             return self.refuse(Answer::BadTables);
@@ -134,7 +134,7 @@ impl Tables {
 
     pub fn free_good(self, caller: u8, segment: u8) -> Outcome
         requires { Good self }
-        ensures* { λ r. ⌜ ((ram out : List ℕ) → result r ram out ≡ completed self (on_free self caller segment) ram out) ⌝ }
+        ensures { (ram out : List ℕ) → result_of result ram out ≡ completed self (on_free self caller segment) ram out }
     {
         if 1 < caller {
             return self.refuse(Answer::BadCall);
@@ -171,7 +171,7 @@ impl Tables {
     // The counts of free, user, system, device and shared segments.
     fn counts(self) -> [u8; 5]
         requires { self.segments ≤ 32 }
-        ensures* { λ r. ⌜ r ≡ counts_of self ⌝ }
+        ensures { result ≡ counts_of self }
     {
         let classes = self.classes;
         let segments = wide(self.segments);
@@ -186,7 +186,7 @@ impl Tables {
 
     // The counts of the classes, to the output.
     pub fn status(self, ram: &[u8], out: &mut [u8]) -> Outcome
-        ensures* { λ r. ⌜ result r ram.now out.new ≡ step self ram.now calls.status out.old ⌝ }
+        ensures { result_of result ram.now out.new ≡ step self ram.now calls.status out.old }
     {
         if !self.is_ready(ram.len()) {
             return self.refuse(Answer::BadTables);
@@ -196,7 +196,7 @@ impl Tables {
 
     pub fn status_good(self, out: &mut [u8]) -> Outcome
         requires { Good self }
-        ensures* { λ r. ⌜ ((ram : List ℕ) → result r ram out.new ≡ completed self (on_status self (length out.old)) ram out.old) ⌝ }
+        ensures { (ram : List ℕ) → result_of result ram out.new ≡ completed self (on_status self (length out.old)) ram out.old }
     {
         if out.len() < 5 {
             return self.refuse(Answer::BadRange);
@@ -213,7 +213,7 @@ impl Tables {
 
 // The class that a caller's segment has: user for 0, device for 1.
 fn class_for(caller: u8) -> u8
-    ensures* { λ r. ⌜ r ≡ class_for caller ⌝ }
+    ensures { result ≡ class_for caller }
 {
     if caller == 0 { USER } else { DEVICE }
 }

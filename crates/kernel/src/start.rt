@@ -2,7 +2,7 @@
 ghost use Rattle.std.specs.Prelude.{◌≡◌, List, ℕ, ◌≤◌, length};
 ghost use Rattle.kernel.specs.Definition.Start.{start_test, started, no_tables};
 ghost use Rattle.kernel.specs.Definition.Calls as calls;
-ghost use Rattle.kernel.specs.Definition.Step.{step, result};
+ghost use Rattle.kernel.specs.Definition.Step.{step, result_of};
 
 use super::{Answer, Outcome, Tables};
 use line::ram::zero_all;
@@ -12,7 +12,7 @@ use rows::segments::{fresh_classes, lay, list_test};
 
 // The list, R and the length of the RAM are right.
 fn start_test(ram: usize, room: u16, list: &[u8]) -> bool
-    ensures* { λ r. ⌜ r ≡ start_test ram room list.now ⌝ }
+    ensures { result ≡ start_test ram room list.now }
 {
     let segments = list.len();
     if 32 < segments {
@@ -24,7 +24,7 @@ fn start_test(ram: usize, room: u16, list: &[u8]) -> bool
 // The tables after a start.
 fn fresh_tables(room: u16, list: &[u8]) -> Tables
     requires { (2 ≤ length list.now) × (length list.now ≤ 32) }
-    ensures* { λ r. ⌜ r ≡ started room list.now ⌝ }
+    ensures { result ≡ started room list.now }
 {
     let segments = list.len();
     let numbers = lay(list);
@@ -54,7 +54,7 @@ fn fresh_tables(room: u16, list: &[u8]) -> Tables
 impl Tables {
     // The tables before any start, which no call but start takes.
     pub fn none() -> Tables
-        ensures* { λ r. ⌜ r ≡ no_tables ⌝ }
+        ensures { result ≡ no_tables }
     {
         Tables {
             segments: 0,
@@ -76,7 +76,7 @@ impl Tables {
     }
 
     pub fn start(self, ram: &mut [u8], room: u16, list: &[u8]) -> Outcome
-        ensures* { λ r. ⌜ ((out : List ℕ) → result r ram.new out ≡ step self ram.old (calls.start room list.now) out) ⌝ }
+        ensures { (out : List ℕ) → result_of result ram.new out ≡ step self ram.old (calls.start room list.now) out }
     {
         if !start_test(ram.len(), room, list) {
             return self.refuse(Answer::BadStart);

@@ -1,4 +1,5 @@
 // The line of channel RAM: what lies at which place, and the moves that an open, a close and a link ask, a run at a time.
+#![tactic(auto)]
 ghost use Rattle.std.specs.Prelude.{◌≡◌, ◌+◌, ◌-◌, ◌*◌, ◌<◌, ◌≤◌, length, replicate};
 ghost use Rattle.line.specs.Definition.Ram.{filled};
 ghost use Rattle.line.specs.Within.Chains.{Chain};
@@ -13,7 +14,7 @@ pub mod ram;
 mod runs;
 
 // Where a buffer that is lent on starts in the RAM, if its bytes lie in one segment.
-#[derive(Drop)]
+#[derive(Clone, Copy)]
 pub enum Lent {
     Part { at: usize },
     Nothing,

@@ -9,7 +9,7 @@ use borrow.Author.Tests.{eq-eqb, ne_eqb}
 use Rattle.kernel.specs.Definition.Answers.{number_of, a_of, b_of, gives}
 use Rattle.kernel.specs.Definition.Good.{good_test}
 use Rattle.kernel.specs.Definition.Start.{no_tables}
-use Rattle.kernel.specs.Definition.Step.{Result, result}
+use Rattle.kernel.specs.Definition.Step.{Result, result_of}
 use Rattle.kernel.specs.declared.Tables.{Tables}
 use Rattle.kernel.specs.declared.Outcome.{Outcome}
 use Rattle.kernel.specs.declared.Answer.TheVariants.{BadTables}
@@ -34,7 +34,7 @@ lent-short segments kind size h l = lent-start segments kind size 0 h (omega ari
 
 -- "Before an accepted start every other kind answers 1."
 pub unstarted : (t : Tables) (ram : List ℕ) (kind : ℕ) (body out : List ℕ) (r : Outcome) → t ≡ no_tables → (kind ≡ 256 → ⊥) → r ≡ gives BadTables t
-    → result r ram out ≡ step_of t ram kind body out
+    → result_of r ram out ≡ step_of t ram kind body out
 unfolding no_tables good_test
 unstarted t ram kind body out r e n q = bad-tables t ram kind body out false (rw e) n refl r q
 
@@ -45,15 +45,15 @@ whole t ram out kind body n h = rw h
 
 -- what a call leaves of the four segments, and that it keeps the tables that are carried
 module _ (t : Tables) (ram out : List ℕ) (kind : ℕ) (body : List ℕ) (n : ℕ) (h : n ≡ lent_to t.segments kind (length body))
-    (o : Outcome) (ram' out' : List ℕ) (e : result o ram' out' ≡ step_of t (take n ram) kind body out) where
-  pub left : result o (ram' ++ drop n ram) out' ≡ log_step t ram out kind body
+    (o : Outcome) (ram' out' : List ℕ) (e : result_of o ram' out' ≡ step_of t (take n ram) kind body out) where
+  pub left : result_of o (ram' ++ drop n ram) out' ≡ log_step t ram out kind body
   left = ap (on_rest ram n) e ∙ whole t ram out kind body n h
 
   pub good-after : length ram ≡ 65536 → NoneOrGood t → NoneOrGood o.tables
   good-after s k = rw (ap (λ (v : Result). v.tables) left) (record-keeps t ram out kind body s k)
 
 -- what a record leaves, from what its call and its line leave
-pub stepped : (t : Tables) (ram out : List ℕ) (kind : ℕ) (body : List ℕ) (o : Outcome) (ram' out' : List ℕ) → result o ram' out' ≡ log_step t ram out kind body
+pub stepped : (t : Tables) (ram out : List ℕ) (kind : ℕ) (body : List ℕ) (o : Outcome) (ram' out' : List ℕ) → result_of o ram' out' ≡ log_step t ram out kind body
     → (text : List ℕ) (used x y z : ℕ) → x ≡ number_of o.answer → y ≡ a_of o.answer → z ≡ b_of o.answer
     → (text' : List ℕ) (used' : ℕ) → Put text text' used used' (line_of kind x y z out') → used' ≤ length text'
     → Stepped t ram out kind body text used o.tables ram' out' text' used'

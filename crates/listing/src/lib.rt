@@ -1,4 +1,5 @@
 // The listing: a log of event records to text.
+#![tactic(auto)]
 use kernel::Tables;
 
 pub mod lines; // one record's line, and `bad`
@@ -11,14 +12,14 @@ pub mod ends; // how a listing ends, and the byte that tells it
 const LONGEST: usize = 25 + 2 * 4096;
 
 // What one record leaves: the tables, and how much of the text is used.
-#[derive(Drop)]
+#[derive(Clone, Copy)]
 pub struct After {
     pub tables: Tables,
     pub used: usize,
 }
 
 // Why the lines of a buffer stop: more input is wanted, the text is full, or the log is bad.
-#[derive(Drop)]
+#[derive(Clone, Copy)]
 pub enum Stop {
     More,
     Full,
@@ -26,7 +27,7 @@ pub enum Stop {
 }
 
 // What the lines of a buffer leave: the tables, how much of the input is taken, how much of the text is used, and why they stop.
-#[derive(Drop)]
+#[derive(Clone, Copy)]
 pub struct Drained {
     pub tables: Tables,
     pub taken: usize,
@@ -35,14 +36,14 @@ pub struct Drained {
 }
 
 // The text of a whole log: so many bytes; or less than a longest line was left of the text.
-#[derive(Drop)]
+#[derive(Clone, Copy)]
 pub enum Listed {
     Text(usize),
     Over,
 }
 
 // How a listing ends: every record is listed, the log is bad, a read failed, a write failed, or the reader of the text has ended.
-#[derive(Drop)]
+#[derive(Clone, Copy)]
 pub enum End {
     Listed,
     BadLog,

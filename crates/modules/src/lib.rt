@@ -1,4 +1,5 @@
 // Relocatable modules: a stream of bits that holds items, judged and stored by one reader.
+#![tactic(auto)]
 
 mod bits; // what is held of the stream, bits of it, and how many an item wants
 mod location; // the location counter: relocation and moves
@@ -6,7 +7,7 @@ pub mod items; // an item of its bits, and what it does
 pub mod reader; // the reader
 
 // What a stream holds before its end item.
-#[derive(Drop)]
+#[derive(Clone, Copy)]
 pub enum Item {
     Byte(u8),
     Word(u16),
@@ -16,14 +17,14 @@ pub enum Item {
 }
 
 // The location counter: a page (0 to 3) and an offset (0 to 16,384, past the end).
-#[derive(Drop)]
+#[derive(Clone, Copy)]
 pub struct Counter {
     pub page: u8,
     pub offset: u16,
 }
 
 // Where a module goes: the row of its segment, the offset up to which the user may store there, and the start page.
-#[derive(Drop)]
+#[derive(Clone, Copy)]
 pub struct Target {
     pub row: usize,
     pub reach: usize,
@@ -31,7 +32,7 @@ pub struct Target {
 }
 
 // What a stream is judged to be: a whole module of so many bytes without fault, or what its first item at fault is refused for.
-#[derive(Drop)]
+#[derive(Clone, Copy)]
 pub enum Judged {
     Whole(u16),
     Module,
@@ -41,7 +42,7 @@ pub enum Judged {
 }
 
 // Why the reading broke off: the end item, an illegal item, the end of input, or what an item is refused for.
-#[derive(Drop)]
+#[derive(Clone, Copy)]
 pub enum Stop {
     End,
     Illegal,
@@ -52,7 +53,7 @@ pub enum Stop {
 }
 
 // What comes of an item: the next counter, or a stop.
-#[derive(Drop)]
+#[derive(Clone, Copy)]
 pub enum Act {
     Next(Counter),
     Halt(Stop),

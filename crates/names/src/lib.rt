@@ -1,4 +1,5 @@
 // Names (01, section Names): what a string of open says, and the names that link and default take.
+#![tactic(auto)]
 ghost use Rattle.std.specs.Prelude.{◌≡◌, ◌+◌, ◌*◌, ◌-◌, ◌≤◌, ◌<◌, min, take};
 ghost use Rattle.names.specs.Definition.Grammar.{All, Digit, value};
 ghost use Rattle.names.specs.Definition.Words.{upper, word_of};
@@ -9,7 +10,7 @@ ghost use Rattle.names.specs.Definition.Parts.{parts_of};
 ghost use Rattle.names.specs.Within.Steps.{OfDigits, OfRest, OfHead};
 
 // A kind of byte, of which a part of a name is a run.
-#[derive(Drop)]
+#[derive(Clone, Copy)]
 enum Kind {
     Capital,
     Letter,
@@ -18,7 +19,7 @@ enum Kind {
     BeforeColon,
 }
 
-#[derive(Drop)]
+#[derive(Clone, Copy)]
 pub enum UnitNumber {
     Given(u8),
     Absent,
@@ -26,7 +27,7 @@ pub enum UnitNumber {
 
 // What a string says, or the refusal NAME. The device's letters stand at the front of the string, and the file from
 // `file` to its end.
-#[derive(Drop)]
+#[derive(Clone, Copy)]
 pub enum Parts {
     Refused,
     Read {

@@ -11,7 +11,7 @@ use lib.Seq.{drop-drop, length-take-le}
 use Rattle.rows.specs.Laws.Lists.{and_right}
 use Rattle.kernel.specs.Definition.Tables.{ram_size}
 use Rattle.kernel.specs.Definition.Good.{Good, good_test}
-use Rattle.kernel.specs.Definition.Step.{Result, ready_test, result, completed, step}
+use Rattle.kernel.specs.Definition.Step.{Result, ready_test, result_of, completed, step}
 use Rattle.kernel.specs.Laws.Ready.{decided-ready}
 use Rattle.kernel.specs.declared.Tables.{Tables}
 use Rattle.kernel.specs.declared.Outcome.{Outcome}
@@ -25,7 +25,7 @@ pub tested-ready : (t : Tables) (ram : ℕ) (b : Bool) → b ≡ ready_test t ra
 tested-ready t ram b e g h = (g h, eqb-true ram (ram_size t) (and_right (good_test t) (eqb ram (ram_size t)) (sym e ∙ h)))
 
 pub stays-ready : (t : Tables) (ram : List ℕ) (kind : ℕ) (body out : List ℕ) (r : Outcome) (ram' out' : List ℕ) → Good t × (length ram ≡ ram_size t)
-    → length ram' ≡ length ram → result r ram' out' ≡ step_of t ram kind body out → Good r.tables × (length ram' ≡ ram_size r.tables)
+    → length ram' ≡ length ram → result_of r ram' out' ≡ step_of t ram kind body out → Good r.tables × (length ram' ≡ ram_size r.tables)
 unfolding step completed
 stays-ready t ram kind body out r ram' out' h l e =
     let k = decided-ready t (length ram) (length out) (call_in kind body) (record { good = h.0; size = h.1 }) in

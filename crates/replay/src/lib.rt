@@ -1,7 +1,8 @@
 // A buffer of event records, replayed: every whole record at its front, one after the other.
+#![tactic(auto)]
 ghost use Rattle.std.specs.Prelude.{◌≡◌, true, length};
 ghost use Rattle.kernel.specs.Definition.Good.{Good};
-ghost use Rattle.kernel.specs.Definition.Step.{result};
+ghost use Rattle.kernel.specs.Definition.Step.{result_of};
 ghost use Rattle.kernel.specs.Definition.Tables.{ram_size};
 ghost use Rattle.events.specs.Definition.Records.{step_of};
 ghost use Rattle.replay.specs.Definition.Replay.{records, bytes_of, replayed, before};
@@ -10,7 +11,7 @@ use events::Front;
 use events::records::front;
 use kernel::{Answer, Outcome, Tables};
 
-#[derive(Drop)]
+#[derive(Clone, Copy)]
 pub struct Replayed {
     // The last record's answer, the tables it left and the bytes it moved. Where there is no record: done, 0, 0, the tables that were given, and none.
     pub last: Outcome,
@@ -19,7 +20,7 @@ pub struct Replayed {
 }
 
 // What a record left, and whether the tables are known to be good, with RAM of their size.
-#[derive(Drop)]
+#[derive(Clone, Copy)]
 struct Turned {
     last: Outcome,
     good: bool,
@@ -27,7 +28,7 @@ struct Turned {
 
 // Whether tables are known to be good from here on: never, where they are not to be held.
 fn known(t: Tables, size: usize, hold: bool) -> bool
-    ensures* { λ r. ⌜ (r ≡ true → Good t × (size ≡ ram_size t)) ⌝ }
+    ensures { (result ≡ true → Good t × (size ≡ ram_size t)) }
 {
     if hold { t.is_ready(size) } else { false }
 }
@@ -43,7 +44,7 @@ fn turn(
     hold: bool,
 ) -> Turned
     requires { good ≡ true → Good t × (length ram.old ≡ ram_size t) }
-    ensures* { λ r. ⌜ (result r.last ram.new out.new ≡ step_of t ram.old kind body.now out.old) × (r.good ≡ true → Good r.last.tables × (length ram.new ≡ ram_size r.last.tables)) ⌝ }
+    ensures { (result_of result.last ram.new out.new ≡ step_of t ram.old kind body.now out.old) × (result.good ≡ true → Good result.last.tables × (length ram.new ≡ ram_size result.last.tables)) }
 {
     if good {
         let last = events::call_good(t, ram, kind, body, out);
@@ -58,7 +59,7 @@ fn turn(
 // Every whole record at the front of the input, up to its end, a cut record or a bad length. Good tables are tested once for all of them where
 // they are to be held, and else once a record.
 pub fn replay(t: Tables, ram: &mut [u8], out: &mut [u8], input: &[u8], hold: bool) -> Replayed
-    ensures* { λ r. ⌜ (result r.last ram.new out.new ≡ replayed (before t ram.old out.old) (records input.now)) × (r.taken ≡ bytes_of (records input.now)) ⌝ }
+    ensures { (result_of result.last ram.new out.new ≡ replayed (before t ram.old out.old) (records input.now)) × (result.taken ≡ bytes_of (records input.now)) }
 {
     let mut good = known(t, ram.len(), hold);
     let mut last = Outcome {

@@ -1,11 +1,12 @@
 // The rows of the tables: channels, devices and segments, and every loop over arrays that the kernel needs.
+#![tactic(auto)]
 pub mod numbers; // numbers of another width, differences
 pub mod sizes; // the chain's length and the EXOS boundary
 pub mod segments; // the list, the classes and the chain
 pub mod channels; // the rows of channels
 pub mod devices; // the rows of devices, and names
 
-#[derive(Drop)]
+#[derive(Clone, Copy)]
 pub struct Channel {
     pub number: u8,
     pub device: u8,
@@ -13,7 +14,7 @@ pub struct Channel {
     pub n: u16,
 }
 
-#[derive(Drop)]
+#[derive(Clone, Copy)]
 pub struct Device {
     pub name: [u8; 28],
     pub length: u8,
@@ -21,7 +22,7 @@ pub struct Device {
 }
 
 // What a lookup finds: the row, if there is one.
-#[derive(Drop)]
+#[derive(Clone, Copy)]
 pub enum Lookup {
     At(usize),
     Nowhere,

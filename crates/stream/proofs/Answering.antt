@@ -4,7 +4,7 @@ use mathlib.Core.List.{List, ◌++◌}
 use Prim.Native.Nat.{ℕ, zero, suc, ◌+◌, ◌≤◌}
 use lib.ListN.{length, take, drop, replicate}
 use lib.Seq.{take_at, drop_at, length-take-le}
-use Rattle.kernel.specs.Definition.Step.{Result, result}
+use Rattle.kernel.specs.Definition.Step.{Result, result_of}
 use Rattle.kernel.specs.declared.Tables.{Tables}
 use Rattle.kernel.specs.declared.Outcome.{Outcome}
 use Rattle.text.specs.Definition.Put.{Put}
@@ -30,11 +30,11 @@ behind ram part rest size seed h p =
     drop_at part rest size (ap length p ∙ seeded-length (length (take size ram)) seed ∙ l)
 
 pub replied : (first : ℕ) (t : Tables) (ram event out text : List ℕ) (at : ℕ) (blank : List ℕ) (o : Outcome) (ram' out' : List ℕ) (channel : ℕ) (text' : List ℕ) (r : ℕ)
-    → blank ≡ replicate (length out) 165 → result o ram' out' ≡ asked_of first t ram event blank
-    → channel ≡ channel_in event → Put text text' at r (reply_bytes (result o ram' out') channel) → r ≡ at + 50
+    → blank ≡ replicate (length out) 165 → result_of o ram' out' ≡ asked_of first t ram event blank
+    → channel ≡ channel_in event → Put text text' at r (reply_bytes (result_of o ram' out') channel) → r ≡ at + 50
     → Replied first t ram event out text at o.tables ram' out' text'
 replied first t ram event out text at blank o ram' out' channel text' r b s n p e =
-    let h : result o ram' out' ≡ asked_blank first t ram event (length out) = s ∙ rw b in
+    let h : result_of o ram' out' ≡ asked_blank first t ram event (length out) = s ∙ rw b in
     record {
       tables-is = ap (λ (x : Result). x.tables) h;
       ram-is = ap (λ (x : Result). x.ram) h;

@@ -6,7 +6,7 @@ use native.Mathlib.Omega.{arith}
 use borrow.Author.Tests.{eq-eqb, ne_eqb}
 use lib.ListN.{length, take, drop}
 use Rattle.kernel.specs.Definition.Answers.{gives}
-use Rattle.kernel.specs.Definition.Step.{result}
+use Rattle.kernel.specs.Definition.Step.{result_of}
 use Rattle.kernel.specs.declared.Tables.{Tables}
 use Rattle.kernel.specs.declared.Outcome.{Outcome}
 use Rattle.kernel.specs.declared.Answer.{Answer}
@@ -49,11 +49,11 @@ module _ (r heard : Reply) (e : r ≡ heard) where
 
 pub asked-write : (first : ℕ) (t : Tables) (ram event output : List ℕ) (answer : Answer) (output' : List ℕ) → first ≡ 2
     → (answer ≡ reply_answer (reply_from event (length output))) × (output' ≡ buffer_from event output)
-    → result (gives answer t) ram output' ≡ asked_of first t ram event output
+    → result_of (gives answer t) ram output' ≡ asked_of first t ram event output
 unfolding asked_of
 asked-write first t ram event output answer output' f h = rw (eq-eqb first 2 f, ← h.0, ← h.1)
 
 pub asked-event : (first : ℕ) (t : Tables) (ram event output : List ℕ) (kind : ℕ) (o : Outcome) (ram' output' : List ℕ) → (first ≡ 2 → ⊥) → kind ≡ u16_at event 0
-    → result o ram' output' ≡ step_of t ram kind (take (length event - 2) (drop 2 event)) output → result o ram' output' ≡ asked_of first t ram event output
+    → result_of o ram' output' ≡ step_of t ram kind (take (length event - 2) (drop 2 event)) output → result_of o ram' output' ≡ asked_of first t ram event output
 unfolding asked_of
 asked-event first t ram event output kind o ram' output' f k s = s ∙ rw (ne_eqb first 2 f, body_is event, k)

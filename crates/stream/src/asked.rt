@@ -1,6 +1,6 @@
 // What comes of a request's record: the call of an event, or the answer of the writer of modules.
 ghost use Rattle.std.specs.Prelude.{◌≡◌, ◌≤◌, ◌<◌, length};
-ghost use Rattle.kernel.specs.Definition.Step.{result};
+ghost use Rattle.kernel.specs.Definition.Step.{result_of};
 ghost use Rattle.writer.specs.Definition.Writing.{reply_from, buffer_from};
 ghost use Rattle.stream.specs.Definition.Asked.{written_answer, reply_answer, asked_of};
 ghost use Rattle.stream.specs.Within.{Small};
@@ -14,7 +14,7 @@ use writer::{Reply, Written};
 // The writer's answer as a call's.
 fn answer_of(written: Written) -> Answer
     requires { Small written }
-    ensures* { λ r. ⌜ r ≡ written_answer written ⌝ }
+    ensures { result ≡ written_answer written }
 {
     match written {
         Written::Done(n) => Answer::Done(0, n as u16),
@@ -26,7 +26,7 @@ fn answer_of(written: Written) -> Answer
 // Asks the writer, whose buffer is the output.
 fn write(record: &[u8], out: &mut [u8]) -> Answer
     requires { length out.old < 65536 }
-    ensures* { λ r. ⌜ (r ≡ reply_answer (reply_from «record».now (length out.old))) × (out.new ≡ buffer_from «record».now out.old) ⌝ }
+    ensures { (result ≡ reply_answer (reply_from «record».now (length out.old))) × (out.new ≡ buffer_from «record».now out.old) }
 {
     let reply = write_from(record, out);
     match reply {
@@ -39,7 +39,7 @@ fn write(record: &[u8], out: &mut [u8]) -> Answer
 // By the first byte of a request.
 pub fn ask(first: u8, t: Tables, ram: &mut [u8], record: &[u8], out: &mut [u8]) -> Outcome
     requires { (2 ≤ length «record».now) × (length out.old < 65536) }
-    ensures* { λ r. ⌜ result r ram.new out.new ≡ asked_of first t ram.old «record».now out.old ⌝ }
+    ensures { result_of result ram.new out.new ≡ asked_of first t ram.old «record».now out.old }
 {
     if first == 2 {
         let answer = write(record, out);

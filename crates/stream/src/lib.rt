@@ -1,4 +1,5 @@
 // A stream of requests and replies, to compare two implementations: a request has a call and may bring tables and RAM, or has a list of items for the writer of modules.
+#![tactic(auto)]
 use kernel::Tables;
 
 pub mod bytes; // numbers of four bytes
@@ -9,14 +10,14 @@ pub mod asked; // what comes of a request's record
 pub mod replies; // a request's call, and the reply to it
 
 // The tables, and the length of their RAM.
-#[derive(Drop)]
+#[derive(Clone, Copy)]
 pub struct Machine {
     pub tables: Tables,
     pub size: usize,
 }
 
 // A whole request: the output's length, and where the record starts and ends.
-#[derive(Drop)]
+#[derive(Clone, Copy)]
 pub struct Request {
     pub out: usize,
     pub start: usize,
@@ -24,7 +25,7 @@ pub struct Request {
 }
 
 // What bytes begin with.
-#[derive(Drop)]
+#[derive(Clone, Copy)]
 pub enum Found {
     Whole(Request),
     Part,

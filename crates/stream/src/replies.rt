@@ -1,6 +1,6 @@
 // What a request brings, and the reply to it.
 ghost use Rattle.std.specs.Prelude.{◌≡◌, ◌+◌, ◌≤◌, ◌<◌, length};
-ghost use Rattle.kernel.specs.Definition.Step.{result};
+ghost use Rattle.kernel.specs.Definition.Step.{result_of};
 ghost use Rattle.kernel.specs.Definition.Lend.{part_on};
 ghost use Rattle.text.specs.Definition.Put.{Put};
 ghost use Rattle.image.specs.Definition.Image.{image_of};
@@ -23,7 +23,7 @@ use kernel::{Outcome, Tables};
 use line::Lent;
 
 fn image_digest(t: Tables) -> u64
-    ensures* { λ r. ⌜ r ≡ digest_of (image_of t) ⌝ }
+    ensures { result ≡ digest_of (image_of t) }
 {
     let mut image = [0u8; SIZE];
     encode(t, &mut image);
@@ -32,7 +32,7 @@ fn image_digest(t: Tables) -> u64
 
 // A record's third byte.
 fn channel_in(record: &[u8]) -> u8
-    ensures* { λ r. ⌜ r ≡ channel_in «record».now ⌝ }
+    ensures { result ≡ channel_in «record».now }
 {
     if record.len() < 3 {
         return 0;
@@ -42,7 +42,7 @@ fn channel_in(record: &[u8]) -> u8
 
 // Where the part that is lent starts.
 fn start_of(lent: Lent) -> u64
-    ensures* { λ r. ⌜ r ≡ start_of lent ⌝ }
+    ensures { result ≡ start_of lent }
 {
     match lent {
         Lent::Part { at } => at as u64,
@@ -52,7 +52,7 @@ fn start_of(lent: Lent) -> u64
 
 // The digest of the buffer lent on.
 fn lent_digest(t: Tables, ram: &[u8], channel: u8) -> u64
-    ensures* { λ r. ⌜ r ≡ digest_of (part_on t ram.now channel) ⌝ }
+    ensures { result ≡ digest_of (part_on t ram.now channel) }
 {
     let part = t.lend(ram, channel);
     digest(part)
@@ -61,7 +61,7 @@ fn lent_digest(t: Tables, ram: &[u8], channel: u8) -> u64
 // Where a channel's buffer is lent on, and its digest.
 fn put_lent(t: Tables, ram: &[u8], channel: u8, text: &mut [u8], at: usize) -> usize
     requires { at + 16 ≤ length text.old }
-    ensures* { λ r. ⌜ Put text.old text.new at r (lent_bytes t ram.now channel) × (r ≡ at + 16) ⌝ }
+    ensures { Put text.old text.new at result (lent_bytes t ram.now channel) × (result ≡ at + 16) }
 {
     let m = put_u64(start_of(t.lent(ram, channel)), text, at);
     put_u64(lent_digest(t, ram, channel), text, m)
@@ -70,7 +70,7 @@ fn put_lent(t: Tables, ram: &[u8], channel: u8, text: &mut [u8], at: usize) -> u
 // The answer and the bytes moved, the digests of the image, of the RAM and of the output, and a channel's buffer lent on.
 fn put_reply(o: Outcome, ram: &[u8], out: &[u8], channel: u8, text: &mut [u8], at: usize) -> usize
     requires { at + 50 ≤ length text.old }
-    ensures* { λ r. ⌜ Put text.old text.new at r (reply_bytes (result o ram.now out.now) channel) × (r ≡ at + 50) ⌝ }
+    ensures { Put text.old text.new at result (reply_bytes (result_of o ram.now out.now) channel) × (result ≡ at + 50) }
 {
     let answer = o.answer;
     let next = o.tables;
@@ -92,7 +92,7 @@ pub fn reply(
     at: usize,
 ) -> Tables
     requires { (2 ≤ length «record».now) × (length out.old < 65536) × (at + 50 ≤ length text.old) }
-    ensures* { λ r. ⌜ Replied first t ram.old «record».now out.old text.old at r ram.new out.new text.new ⌝ }
+    ensures { Replied first t ram.old «record».now out.old text.old at result ram.new out.new text.new }
 {
     blank(out, 165);
     let o = ask(first, t, ram, record, out);
@@ -103,7 +103,7 @@ pub fn reply(
 // The tables of an image, and a RAM by its length and a seed.
 pub fn bring(ram: &mut [u8], bytes: &[u8]) -> Machine
     requires { (CALL ≤ length bytes.now) × (u32_at bytes.now RAM ≤ length ram.old) }
-    ensures* { λ r. ⌜ Brought ram.old bytes.now r ram.new ⌝ }
+    ensures { Brought ram.old bytes.now result ram.new }
 {
     let size = u32_at(bytes, RAM) as usize;
     fill(&mut ram[..size], u32_at(bytes, SEED));

@@ -1,4 +1,5 @@
 // The ten cases of 01, "Either side of the line", through the public calls: a line for each call, as the listing writes it.
+#![tactic(auto)]
 use kernel::{Outcome, Tables};
 use libc::STDOUT_FILENO;
 use text::fields;

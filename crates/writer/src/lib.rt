@@ -1,4 +1,5 @@
 // Writing relocatable modules: a list of items, judged by the loader's page rule, as the bits of a stream in a lent buffer.
+#![tactic(auto)]
 use modules::Item;
 
 mod entries; // a list of items as bytes, three each
@@ -8,7 +9,7 @@ mod packing; // bits put one behind the other, in whole bytes
 pub mod write; // the writer
 
 // Why three bytes are no item: there are not three, or the tag is none; or a byte is above 255, or a restore has a value.
-#[derive(Drop)]
+#[derive(Clone, Copy)]
 pub enum Why {
     Cut,
     Tag,
@@ -17,21 +18,21 @@ pub enum Why {
 }
 
 // What three bytes are.
-#[derive(Drop)]
+#[derive(Clone, Copy)]
 pub enum Entry {
     Is(Item),
     No(Why),
 }
 
 // The first of a list that is no item: its number, from 1, and why.
-#[derive(Drop)]
+#[derive(Clone, Copy)]
 pub struct Flaw {
     pub number: usize,
     pub why: Why,
 }
 
 // What the writer answers: the bytes written, or what it is refused for.
-#[derive(Drop)]
+#[derive(Clone, Copy)]
 pub enum Written {
     Done(usize),
     Page,
@@ -39,7 +40,7 @@ pub enum Written {
 }
 
 // What comes of bytes given to the writer: they have no start, or no list of items behind it, or they are answered.
-#[derive(Drop)]
+#[derive(Clone, Copy)]
 pub enum Reply {
     NoStart,
     NoList(Flaw),
@@ -47,14 +48,14 @@ pub enum Reply {
 }
 
 // Whether bytes are a list of items.
-#[derive(Drop)]
+#[derive(Clone, Copy)]
 pub enum Checked {
     Items,
     Flawed(Flaw),
 }
 
 // Where the next byte goes, and the bits behind it that are no whole byte yet: the lowest `count` of `held`.
-#[derive(Drop)]
+#[derive(Clone, Copy)]
 pub struct Pen {
     pub at: usize,
     pub held: usize,

@@ -6,7 +6,7 @@ use Rattle.std.proofs.lemmas.Bool.{false≢true}
 use Rattle.kernel.specs.Definition.Answers.{granted, gives, Decision}
 use Rattle.kernel.specs.Definition.Bytes.{moves_of}
 use Rattle.kernel.specs.Definition.Calls.{Call}
-use Rattle.kernel.specs.Definition.Step.{completed, result, step}
+use Rattle.kernel.specs.Definition.Step.{completed, result_of, step}
 use Rattle.kernel.specs.Laws.Effects.{Verdict, bars, drives, refuses, starts, does, verdict}
 use Rattle.kernel.specs.Laws.Refused.{refused-stays}
 use Rattle.kernel.specs.declared.Tables.{Tables}
@@ -26,6 +26,6 @@ module _ (t : Tables) (ram : List ℕ) (c : Call) (output : List ℕ) (e : grant
   unfolding step completed
   refused-values = values (verdict t (length ram) (length output) c) e
 
-  pub refused-changes-nothing : step t ram c output ≡ result (gives (step t ram c output).answer t) ram output
+  pub refused-changes-nothing : step t ram c output ≡ result_of (gives (step t ram c output).answer t) ram output
   unfolding step completed
   refused-changes-nothing = ap (λ (d : Decision). completed t d ram output) (refused-stays t (length ram) (length output) c e)

@@ -16,7 +16,7 @@ use Rattle.kernel.specs.Definition.Line.{record_at, total_of, size_at, room_for,
 use Rattle.kernel.specs.Definition.Answers.{granted, Decision}
 use Rattle.kernel.specs.Definition.Calls.{«open», close, on_close}
 use Rattle.kernel.specs.Definition.Bytes.{ram_opened, ram_closed, moves_closed, segment_at, ram_after, output_after, moves_of}
-use Rattle.kernel.specs.Definition.Step.{Result, result, heard, decided, completed, step}
+use Rattle.kernel.specs.Definition.Step.{Result, result_of, heard, decided, completed, step}
 use Rattle.kernel.specs.Laws.Changes.{Opened, opening-opens, opens_row, opens-total}
 use Rattle.kernel.specs.Laws.Effects.{Effect, opens}
 use Rattle.kernel.specs.Laws.Ready.{Ready, ready-test}
@@ -35,7 +35,7 @@ use Rattle.history.specs.NoMark.Spare.{opened-outside}
 
 -- a close of a channel that is open
 close-is : (s : State) → Sound s → (channel row : ℕ) → channel_at s.tables channel ≡ row → row < s.tables.opened → (output : List ℕ)
-    → step s.tables s.ram (close channel) output ≡ result (record { answer = Done 0 0; tables = closing s.tables row; moved = length (moves_closed s.tables row) }) (ram_closed s.tables s.ram row) output
+    → step s.tables s.ram (close channel) output ≡ result_of (record { answer = Done 0 0; tables = closing s.tables row; moved = length (moves_closed s.tables row) }) (ram_closed s.tables s.ram row) output
 unfolding step decided heard completed on_close ram_after output_after moves_of
 close-is s r channel row here known output = rw (ready-test r, here, lt-leb s.tables.opened row known)
 

@@ -11,6 +11,10 @@ put_same h p = rw h at p
 pub put-to : {d e : List ℕ} {at r s : ℕ} {xs : List ℕ} → r ≡ s → Put d e at r xs → Put d e at s xs
 put-to h p = rw h at p
 
+-- a run, one byte a turn
+pub run-put : {d e f : List ℕ} {at m r : ℕ} (xs : List ℕ) (i : ℕ) → i < length xs → Put d e at m (take i xs) → Put e f m r (get_or xs i 0 ∷ []) → Put d f at r (take (i + 1) xs)
+run-put xs i h p q = rw (add-one, take-suc xs i 0 h) (put_then p q)
+
 pub run-read : (a xs : List ℕ) (at i : ℕ) → i < length a → at + i < length xs → take i a ≡ take i (drop at xs) → take (i + 1) (set a i (get_or xs (at + i) 0)) ≡ take (i + 1) (drop at xs)
 run-read a xs at i h l e =
     let m : i < length (drop at xs) = rw length-drop (omega arith) in

@@ -52,8 +52,8 @@ pub record Result : Type 0 where
   pub moved : ℕ
 
 -- the answer, the tables and the bytes moved, with a RAM and an output
-abbrev pub result : Outcome → (ram output : List ℕ) → Result
-result o ram output = record { answer = o.answer; tables = o.tables; ram = ram; output = output; moved = o.moved }
+abbrev pub result_of : Outcome → (ram output : List ℕ) → Result
+result_of o ram output = record { answer = o.answer; tables = o.tables; ram = ram; output = output; moved = o.moved }
 
 -- what was decided, carried out on the bytes
 unfoldable pub completed : Tables → Decision → (ram output : List ℕ) → Result

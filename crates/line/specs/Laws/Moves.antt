@@ -23,7 +23,7 @@ use Rattle.line.specs.Laws.Makes.{closed_of, linked-none}
 length_up : (chain : List ℕ) (room gap p n : ℕ) → length (moves_up chain room gap p n) ≡ n
 unfolding moves_up
 length_up chain room gap p zero = refl
-length_up chain room gap p (suc n) = ap suc (length_up chain room gap _ n)
+length_up chain room gap p (suc n) = ap suc (length_up chain room gap (p + 1) n)
 
 -- the k-th of them
 up_at : (chain : List ℕ) (room gap p n k : ℕ) → k < n

@@ -6,7 +6,7 @@ use native.Mathlib.Omega.{arith}
 use lib.ListN.{length, drop}
 use borrow.Author.Rules.{rules}
 use Rattle.kernel.specs.Definition.Good.{Good}
-use Rattle.kernel.specs.Definition.Step.{result}
+use Rattle.kernel.specs.Definition.Step.{result_of}
 use Rattle.kernel.specs.Definition.Tables.{ram_size}
 use Rattle.events.specs.declared.Front.TheVariants.{Record}
 use Rattle.events.specs.Definition.Records.{front_of}
@@ -18,7 +18,7 @@ use Rattle.replay.proofs.replay.Tie as tie
 
 abbrev invariant-loop : tie.invariant-loop
 invariant-loop ram₀ out₀ input hold good₀ last₀ at₀ ram out good last at =
-    Goes (result last₀ ram₀ out₀) (result last ram out) input at × (good ≡ true → Good last.tables × (length ram ≡ ram_size last.tables))
+    Goes (result_of last₀ ram₀ out₀) (result_of last ram out) input at × (good ≡ true → Good last.tables × (length ram ≡ ram_size last.tables))
     × (length ram ≡ length ram₀) × (length out ≡ length out₀)
 
 abbrev decreases-loop : tie.decreases-loop

@@ -1,7 +1,7 @@
 -- The run of the definition over a buffer of event records: every whole record at its front, one after the other.
 use Rattle.std.specs.Prelude.{List, [], ◌∷◌, ℕ, zero, suc, ◌+◌, length}
 use Rattle.kernel.specs.Definition.Answers.{gives}
-use Rattle.kernel.specs.Definition.Step.{Result, result}
+use Rattle.kernel.specs.Definition.Step.{Result, result_of}
 use Rattle.kernel.specs.declared.Tables.{Tables}
 use Rattle.kernel.specs.declared.Answer.TheVariants.{Done}
 use Rattle.events.specs.declared.Front.{Front}
@@ -43,4 +43,4 @@ replayed m (r ∷ rs) = replayed (asked m r) rs
 
 -- where a replay starts: these tables, this RAM, this output, and no answer yet
 abbrev pub before : Tables → (ram output : List ℕ) → Result
-before t ram output = result (gives (Done 0 0) t) ram output
+before t ram output = result_of (gives (Done 0 0) t) ram output
