@@ -275,4 +275,5 @@ pub load-law : (t : Tables) (ram : List ℕ) → Ready t (length ram) → (f : �
     → Below (reach_of t row) puts → Holds f t (put_each (segment_at row) ram puts)
 load-law t ram r f holds row [] m h = holds
 load-law t ram r f holds row (p ∷ puts) m (l, h) =
-    load-law t _ (byte-ready t row m ram p r l) f (store-law t ram r f holds row p.offset (p.byte ∷ []) m (omega arith)) row puts m h
+    let next = put_at ram (segment_at row + p.offset) (p.byte ∷ []) in
+    load-law t next (byte-ready t row m ram p r l) f (store-law t ram r f holds row p.offset (p.byte ∷ []) m (omega arith)) row puts m h

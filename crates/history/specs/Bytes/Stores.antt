@@ -146,7 +146,7 @@ load-user t ram r a segment offset [] user m h = same (eqb a segment) _
     same true x = refl
     same false x = refl
 load-user t ram r a segment offset (p ∷ puts) user m (l, h) =
-    load-user t _ (byte-ready t (row_of t a) m ram p r l) a segment offset puts user m h
+    load-user t (put_at ram (segment_at (row_of t a) + p.offset) (p.byte ∷ [])) (byte-ready t (row_of t a) m ram p r l) a segment offset puts user m h
     ∙ byte-then (eqb a segment) puts offset _ _ _ (store-user t ram r a segment p.offset offset (p.byte ∷ []) user m (omega arith))
 
 -- every done call makes of the byte what `stored` says
