@@ -4,7 +4,7 @@ use Rattle.std.proofs.Common.{sym, ap, ◌∙◌, not-suc-le-zero, arith, eq-eqb
 use Rattle.std.proofs.Math.Bool.{true, false}
 use Rattle.std.proofs.Math.Decide.{dec_lt, ℕ_discrete}
 use Rattle.std.proofs.lemmas.List.{take-append-le, take-set-le}
-use Rattle.rows.specs.Definition.Lists.{at, without}
+use Rattle.rows.specs.Definition.Lists.{without}
 use Rattle.rows.specs.Definition.Classes.{SHARED}
 use Rattle.rows.specs.Laws.Lists.{neither-below}
 use Rattle.rows.specs.Definition.Channels.{zero_channel, sum_of}
