@@ -1,9 +1,10 @@
 // Reads and writes that tell an end from a failure; a call that a signal interrupts is made again. And a buffer whose rest is kept while more is read.
 #![tactic(auto)]
 
-ghost use Rattle.std.specs.Prelude.{◌≡◌, ◌+◌, ◌-◌, ◌≤◌, ◌<◌, length, take, drop};
+ghost use Rattle.std.specs.Prelude.{◌≡◌, ◌+◌, ◌-◌, ◌≤◌, ◌<◌, length, take, drop, IfSome};
 ghost use Rattle.files.specs.Definition.Outcomes.{Brings, count_of, Fills, ReadOn, Takes};
 
+use std::fs::{Files, OpenOptions, symlink_metadata};
 use std::io::{Error, ErrorKind, Read, Write};
 
 // What a read brought: so many bytes, the end of the input, or nothing, since it failed.
@@ -170,4 +171,17 @@ pub fn write_to<W: Write>(to: &mut W, bytes: &[u8]) -> Wrote
         return Wrote::Failed(done);
     }
     Wrote::All
+}
+
+// Writes all bytes to what a descriptor other than the standard three has open, by its name in /proc/self/fd: that is opened anew, and a file is
+// written at its end. None where nothing is written, since it is closed, can't be opened or was not opened for writing, as the name's permissions tell.
+pub fn write_named<F: Files>(files: &F, name: &str, bytes: &[u8]) -> Option<Wrote>
+    ensures { IfSome result (Takes (length bytes.now)) }
+{
+    let link = symlink_metadata(files, name).ok()?;
+    if link.permissions().readonly() {
+        return None;
+    }
+    let mut file = OpenOptions::new().append(true).open(files, name).ok()?;
+    Some(write_to(&mut file, bytes))
 }
