@@ -92,7 +92,7 @@ Along P s (c ∷ cs) = P (after s c lent) × Along P (after s c lent) cs
 runs : {P : State → Type 0} {first : State} (h : History) (s : State) (cs : List Call) → NoStarts cs → Along P s cs → Runs P first h s
     → Runs P first (tells h s cs) (leads s cs)
 runs h s [] f p r = r
-runs h s (c ∷ cs) (n, fs) (p, ps) r = runs _ _ cs fs ps (then r c lent (rw n) p)
+runs h s (c ∷ cs) (n, fs) (p, ps) r = runs (event s c lent ∷ h) (after s c lent) cs fs ps (then r c lent (rw n) p)
 
 anything : (s : State) (cs : List Call) → Along Any s cs
 anything s [] = tt
@@ -131,7 +131,7 @@ known_next {s} {t} k c n =
 
 known-all : {s : State} {t : Tables} → Known s t → (cs : List Call) → NoStarts cs → Known (leads s cs) (leaves t cs)
 known-all k [] f = k
-known-all k (c ∷ cs) (n, fs) = known-all (known_next k c n) cs fs
+known-all {s = s} k (c ∷ cs) (n, fs) = known-all {s = after s c lent} (known_next k c n) cs fs
 
 -- the calls and answers of its history are known too
 abbrev plain : History → Tables → List Call → History
@@ -144,7 +144,7 @@ data Alike : History → History → Type 0 where
 
 alike : {g h : History} {s : State} {t : Tables} → Alike g h → Known s t → (cs : List Call) → NoStarts cs → Alike (tells g s cs) (plain h t cs)
 alike a k [] f = a
-alike a k (c ∷ cs) (n, fs) = alike (both refl (known-answer k c) a) (known_next k c n) cs fs
+alike {g = g} {s = s} a k (c ∷ cs) (n, fs) = alike {g = event s c lent ∷ g} {s = after s c lent} (both refl (known-answer k c) a) (known_next k c n) cs fs
 
 alike-written : {g h : History} → Alike g h → (channel k : ℕ) → last_written g channel k ≡ last_written h channel k
 unfolding last_written
@@ -179,10 +179,10 @@ module _ (segment offset : ℕ) where
 
   users-all : {s : State} {t : Tables} → Known s t → (cs : List Call) → NoStarts cs → shared_all segment offset t cs ≡ true → Along (UsersIn segment offset) s cs
   users-all k [] f e = tt
-  users-all {t = t} k (c ∷ cs) (n, fs) e =
+  users-all {s = s} {t = t} k (c ∷ cs) (n, fs) e =
       let next = known_next k c n in
       let here = shared_test segment offset (answered t c).tables in
-      (users next (and_left here _ e), users-all next cs fs (and_right here _ e))
+      (users next (and_left here _ e), users-all {s = after s c lent} next cs fs (and_right here _ e))
 
 -- ---- the sequence
 

@@ -1,5 +1,6 @@
 // The line of channel RAM: what lies at which place, and the moves that an open, a close and a link ask, a run at a time.
 #![tactic(auto)]
+
 ghost use Rattle.std.specs.Prelude.{◌≡◌, ◌+◌, ◌-◌, ◌*◌, ◌<◌, ◌≤◌, length, replicate};
 ghost use Rattle.line.specs.Definition.Ram.{filled};
 ghost use Rattle.line.specs.Within.Chains.{Chain};

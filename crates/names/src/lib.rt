@@ -1,5 +1,6 @@
 // Names (01, section Names): what a string of open says, and the names that link and default take.
 #![tactic(auto)]
+
 ghost use Rattle.std.specs.Prelude.{◌≡◌, ◌+◌, ◌*◌, ◌-◌, ◌≤◌, ◌<◌, min, take};
 ghost use Rattle.names.specs.Definition.Grammar.{All, Digit, value};
 ghost use Rattle.names.specs.Definition.Words.{upper, word_of};

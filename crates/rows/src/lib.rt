@@ -1,5 +1,6 @@
 // The rows of the tables: channels, devices and segments, and every loop over arrays that the kernel needs.
 #![tactic(auto)]
+
 pub mod numbers; // numbers of another width, differences
 pub mod sizes; // the chain's length and the EXOS boundary
 pub mod segments; // the list, the classes and the chain

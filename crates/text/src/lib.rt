@@ -1,5 +1,6 @@
 // Numbers and bytes as text, put at a place of a lent text. Each function hands back the place after what it put.
 #![tactic(auto)]
+
 ghost use Rattle.std.specs.Prelude.{◌≡◌, [], ◌∷◌, ◌++◌, ◌+◌, ◌*◌, ◌≤◌, ◌<◌, length};
 ghost use Rattle.text.specs.Definition.Put.{Put};
 ghost use Rattle.text.specs.Definition.Text.{digit_of, glyph, decimal_of, hex_of, fields_of};

@@ -31,7 +31,7 @@ start_word BWord = 0
 start_word BytesWord = 0
 
 -- behind a record that is right no start is due
-behind : {s to : State} {kind : ℕ} {body : List ℕ} → Right s kind body to → start_due to.due ≡ 0
+behind : {s : State} {kind : ℕ} {body : List ℕ} {to : State} → Right s kind body to → start_due to.due ≡ 0
 behind (start e h) = refl
 behind (event e n) = refl
 behind (reply e k z q) = refl

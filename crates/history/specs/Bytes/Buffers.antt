@@ -4,7 +4,7 @@ use Rattle.std.proofs.Common.{sym, ap, ◌∙◌, not-suc-le-zero, arith, eq-eqb
 use Rattle.std.proofs.Math.Bool.{true, false}
 use Rattle.std.proofs.Math.Decide.{dec_lt, ℕ_discrete}
 use Rattle.std.proofs.lemmas.List.{take-append-le, take-set-le}
-use Rattle.rows.specs.Definition.Lists.{at, without}
+use Rattle.rows.specs.Definition.Lists.{without}
 use Rattle.rows.specs.Definition.Classes.{SHARED}
 use Rattle.rows.specs.Laws.Lists.{neither-below}
 use Rattle.rows.specs.Definition.Channels.{zero_channel, sum_of}
@@ -275,4 +275,5 @@ pub load-law : (t : Tables) (ram : List ℕ) → Ready t (length ram) → (f : �
     → Below (reach_of t row) puts → Holds f t (put_each (segment_at row) ram puts)
 load-law t ram r f holds row [] m h = holds
 load-law t ram r f holds row (p ∷ puts) m (l, h) =
-    load-law t _ (byte-ready t row m ram p r l) f (store-law t ram r f holds row p.offset (p.byte ∷ []) m (omega arith)) row puts m h
+    let next = put_at ram (segment_at row + p.offset) (p.byte ∷ []) in
+    load-law t next (byte-ready t row m ram p r l) f (store-law t ram r f holds row p.offset (p.byte ∷ []) m (omega arith)) row puts m h

@@ -97,7 +97,7 @@ run_holds z (then {h = h} {t = t} r c output n _) =
     (step-sound t c output b.0 n, next.0, next.1)
 
 -- a done read gives the bytes of its channel
-read_known : {t : Tables} {d : Decision} {channel offset asked : ℕ} → Effect t (read channel offset asked) d
+read_known : {t : Tables} {channel offset asked : ℕ} {d : Decision} → Effect t (read channel offset asked) d
     → (channel_at t channel < t.opened) × (d.answer ≡ Done 0 (given_of (size_at t (channel_at t channel)) offset asked))
     × (d.output ≡ from-buffer (channel_at t channel) offset (given_of (size_at t (channel_at t channel)) offset asked))
 read_known (reads h) = (h, refl, refl)

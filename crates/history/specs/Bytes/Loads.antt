@@ -60,7 +60,7 @@ module _ (segment : ℕ) (output : List ℕ) where
       (each-stored next puts (byte-ready s.tables (row s) m s.ram p r b) m below clear))
 
 -- a done load puts its bytes one by one
-load-known : {t : Tables} {d : Decision} {segment page offset : ℕ} {stream : List ℕ} (ram : List ℕ) → Effect t (load-module segment page offset stream) d
+load-known : {t : Tables} {segment page offset : ℕ} {stream : List ℕ} {d : Decision} (ram : List ℕ) → Effect t (load-module segment page offset stream) d
     → (may_reach t (row_of t segment) ≡ true) × Below (reach_of t (row_of t segment)) (puts_in page offset stream) × Clear (row_of t segment) (puts_in page offset stream)
     × (d.tables ≡ t) × (ram_after t d.tables ram d.ram ≡ put_each (segment_at (row_of t segment)) ram (puts_in page offset stream))
 unfolding ram_after

@@ -60,7 +60,7 @@ module _ (t : Tables) (row : ℕ) (m : may_reach t row ≡ true) where
 
   length-each : (ram : List ℕ) (puts : List Put) → Ready t (length ram) → Below (reach_of t row) puts → length (put_each (segment_at row) ram puts) ≡ length ram
   length-each ram [] r h = refl
-  length-each ram (p ∷ puts) r (l, h) = length-each _ puts (byte-ready ram p r l) h ∙ byte-length ram p r l
+  length-each ram (p ∷ puts) r (l, h) = length-each (put_at ram (segment_at row + p.offset) (p.byte ∷ [])) puts (byte-ready ram p r l) h ∙ byte-length ram p r l
 
 length-reset : (t : Tables) (ram : List ℕ) (four five : Bool)
     → length (let emptied = cond (four || five) (put_line t.chain t.room ram 0 (replicate (total_of t) 0)) ram in

@@ -131,8 +131,8 @@ store-user t ram r a segment o offset bytes user m h =
 -- one byte put there or elsewhere, and then the others
 byte-then : (b : Bool) (puts : List Put) (k here new old : ℕ) → here ≡ cond b new old
     → cond b (patched_each puts k here) here ≡ cond b (patched_each puts k new) old
-byte-then true puts k here new old e = ap (patched_each puts k) e
-byte-then false puts k here new old e = e
+byte-then true puts k here new _ e = ap (patched_each puts k) e
+byte-then false puts k here new _ e = e
 
 -- a load of a module puts its bytes there one by one, or elsewhere
 load-user : (t : Tables) (ram : List ℕ) → Ready t (length ram) → (a segment offset : ℕ) (puts : List Put)
@@ -146,7 +146,7 @@ load-user t ram r a segment offset [] user m h = same (eqb a segment) _
     same true x = refl
     same false x = refl
 load-user t ram r a segment offset (p ∷ puts) user m (l, h) =
-    load-user t _ (byte-ready t (row_of t a) m ram p r l) a segment offset puts user m h
+    load-user t (put_at ram (segment_at (row_of t a) + p.offset) (p.byte ∷ [])) (byte-ready t (row_of t a) m ram p r l) a segment offset puts user m h
     ∙ byte-then (eqb a segment) puts offset _ _ _ (store-user t ram r a segment p.offset offset (p.byte ∷ []) user m (omega arith))
 
 -- every done call makes of the byte what `stored` says

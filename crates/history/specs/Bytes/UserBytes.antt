@@ -71,7 +71,7 @@ module _ (ram : List ℕ) (from size : ℕ) (output : List ℕ) (fits : from + s
       rw e at (get_or-append-add (take size (drop from ram)) (drop size output) (i - size) 0)
 
 -- What a done load gives: bytes that are the user's, as they lie.
-load-known : {t : Tables} {d : Decision} {segment offset size : ℕ} → Effect t (load segment offset size) d
+load-known : {t : Tables} {segment offset size : ℕ} {d : Decision} → Effect t (load segment offset size) d
     → (may_reach t (row_of t segment) ≡ true) × (offset + size ≤ reach_of t (row_of t segment)) × (d.output ≡ from-segment (row_of t segment) offset size)
 load-known (loads m h) = (m, h, refl)
 

@@ -222,7 +222,7 @@ module _ (P : ℕ → Type 0) (was : List ℕ) where
 
   all-later : (s u : State) → u.tables ≡ s.tables → Alike P was s.tables u.ram s.ram → (rest : List Asked) → AlikeBut P was (after_all s rest) (after_all u rest)
   all-later s u e l [] = alike-but s u e l
-  all-later s u e l (a ∷ rest) = let n = next s u e l a.call a.output in all-later _ _ n.0 n.1 rest
+  all-later s u e l (a ∷ rest) = let n = next s u e l a.call a.output in all-later (after s a.call a.output) (after u a.call a.output) n.0 n.1 rest
 
 -- whether an index is a place of a record
 in-record : (t : Tables) (channel i : ℕ) → Dec (InRecord t channel i)

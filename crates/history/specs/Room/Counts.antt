@@ -2,7 +2,7 @@
 use Rattle.std.specs.Prelude.{◌≡◌, refl, Bool, true, false, cond, ◌||◌, ◌↔◌, List, [], ◌∷◌, ℕ, zero, suc, ◌+◌, ◌-◌, ◌*◌, ◌≤◌, ◌<◌, eqb, length, take}
 use Rattle.std.proofs.Common.{sym, ◌∙◌, arith, eq-eqb, ne_eqb, length-take, get_or-take}
 use Rattle.std.proofs.Math.Decide.{ℕ_discrete}
-use Rattle.rows.specs.Definition.Lists.{at, tally, sum_to}
+use Rattle.rows.specs.Definition.Lists.{tally, sum_to}
 use Rattle.rows.specs.Definition.Classes.{FREE, SHARED, in_chain, times_held}
 use Rattle.rows.specs.Definition.Channels.{sum_of}
 use Rattle.rows.specs.Laws.Lists.{or-none}

@@ -1,5 +1,5 @@
 -- Open and close keep good tables; the room rule lets the chain grow to what the line takes.
-use Rattle.std.specs.Prelude.{◌≡◌, refl, Bool, true, false, ℕ, suc, ◌+◌, ◌-◌, ◌≤◌, ◌<◌, length, get_or, take, set}
+use Rattle.std.specs.Prelude.{◌≡◌, refl, Bool, true, false, ℕ, suc, ◌+◌, ◌-◌, ◌≤◌, ◌<◌, get_or, take, set}
 use Rattle.std.proofs.Common.{ap, ◌∙◌, arith, length-set}
 use Rattle.rows.specs.Definition.Lists.{without}
 use Rattle.rows.specs.Definition.Classes.{FREE}

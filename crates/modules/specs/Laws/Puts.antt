@@ -1,5 +1,5 @@
 -- What an item stores, as the code does it: one law a branch.
-use Rattle.std.specs.Prelude.{◌≡◌, ℕ, ◌+◌, ◌/◌, ◌%◌, ◌<◌, ◌≤◌, List, [], ◌∷◌, length, take, drop, set, slice_set}
+use Rattle.std.specs.Prelude.{◌≡◌, ℕ, ◌+◌, ◌/◌, ◌%◌, ◌<◌, ◌≤◌, List, [], ◌∷◌, length, take, drop, slice_set}
 use Rattle.std.proofs.Common.{◌∙◌, append_assoc, arith, length-set}
 use Rattle.std.proofs.lemmas.List.Edits.{sets-eq}
 use Rattle.line.specs.Definition.Ram.{put_at}

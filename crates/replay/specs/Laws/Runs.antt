@@ -50,13 +50,13 @@ module _ (m : Result) (r : EventRecord) where
 -- from any state of a run, the records lead to a state of a run
 pub run_on : (h : History) (m : Result) (rs : List EventRecord) → Run h (state_of m) → Run (since h m rs) (state_of (replayed m rs))
 run_on h m [] run = run
-run_on h m (r ∷ rs) run = run_on _ (asked m r) rs (next-run m r h run)
+run_on h m (r ∷ rs) run = run_on (cond (accepted_start (event_of m r)) [] (event_of m r ∷ h)) (asked m r) rs (next-run m r h run)
 
 -- and from any tables, RAM and output, once one of them is an accepted start
 pub run-from : (h : History) (m : Result) (rs : List EventRecord) → HasAcceptedStart m rs → Run (since h m rs) (state_of (replayed m rs))
 run-from h m [] s = absurd s
 run-from h m (r ∷ rs) (inl e) = rw e (run_on [] (asked m r) rs (start-run (state_of m) (call_of r) m.output e))
-run-from h m (r ∷ rs) (inr s) = run-from _ (asked m r) rs s
+run-from h m (r ∷ rs) (inr s) = run-from (cond (accepted_start (event_of m r)) [] (event_of m r ∷ h)) (asked m r) rs s
 
 -- What `replay` leaves of a buffer with an accepted start is a state of a run: its history is the events since the last one.
 pub replay-run : (m : Result) (xs : List ℕ) → HasAcceptedStart m (records xs) → Run (since [] m (records xs)) (state_of (replayed m (records xs)))

@@ -1,0 +1,10 @@
+-- `line::clear` meets its contract. The invariant: positions start to p - 1 are zero. A turn zeroes a run.
+use Rattle.std.proofs.Common.{◌≡◌, ◌-◌, ◌≤◌, length, replicate}
+use Rattle.line.specs.Definition.Line.{put_line}
+use Rattle.line.proofs.clear.Given as goal
+
+abbrev pub invariant-loop-p : goal.invariant-loop-p
+invariant-loop-p l = (l.ram ≡ put_line l.chain l.room l.initial.ram l.start (replicate (l.p - l.start) 0)) × (l.start ≤ l.p) × (l.p ≤ l.end) × (length l.ram ≡ length l.initial.ram)
+
+abbrev pub decreases-loop-p : goal.decreases-loop-p
+decreases-loop-p l = l.end - l.p

@@ -1,0 +1,11 @@
+-- `line::ram::load` meets its contract. The invariant: the first i bytes are copied out.
+use Rattle.std.proofs.Common.{◌≡◌, ◌-◌, ◌≤◌, length}
+use Rattle.line.specs.Definition.Ram.{bytes_from, put_from}
+use Rattle.line.specs.Within.Runs.{rise}
+use Rattle.line.proofs.ram.load.Given as goal
+
+abbrev pub invariant-loop-i : goal.invariant-loop-i
+invariant-loop-i l = (l.out ≡ put_from (rise 0) l.initial.out 0 (bytes_from (rise l.at) l.ram 0 l.i)) × (l.i ≤ l.n) × (length l.out ≡ length l.initial.out)
+
+abbrev pub decreases-loop-i : goal.decreases-loop-i
+decreases-loop-i l = l.n - l.i

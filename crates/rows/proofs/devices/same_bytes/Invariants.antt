@@ -1,0 +1,11 @@
+-- `devices::same_bytes` meets its contract. The loop's invariant: `ok` is the test over the bytes passed.
+use Rattle.std.proofs.Common.{◌≡◌, ◌-◌, ◌≤◌}
+use Rattle.rows.specs.Definition.Devices.{same_bytes}
+use Rattle.rows.specs.Definition.Lists.{up_to}
+use Rattle.rows.proofs.devices.same_bytes.Given as goal
+
+abbrev pub invariant-loop-k : goal.invariant-loop-k
+invariant-loop-k l = (l.k ≤ 28) × (l.ok ≡ up_to l.k (same_bytes l.a l.b))
+
+abbrev pub decreases-loop-k : goal.decreases-loop-k
+decreases-loop-k l = 28 - l.k

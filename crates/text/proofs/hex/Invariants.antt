@@ -1,0 +1,11 @@
+-- `hex` writes two digits a byte. The invariant: the first i bytes are put.
+use Rattle.std.proofs.Common.{◌≡◌, ◌+◌, ◌*◌, ◌-◌, ◌≤◌, length, take}
+use Rattle.text.specs.Definition.Put.{Put}
+use Rattle.text.specs.Definition.Text.{hex_of}
+use Rattle.text.proofs.hex.Given as goal
+
+abbrev pub invariant-loop-i : goal.invariant-loop-i
+invariant-loop-i l = Put l.initial.text l.text l.at l.to (hex_of (take l.i l.bytes)) × (l.i ≤ length l.bytes) × (length l.text ≡ length l.initial.text) × (l.to ≡ l.at + 2 * l.i)
+
+abbrev pub decreases-loop-i : goal.decreases-loop-i
+decreases-loop-i l = length l.bytes - l.i
