@@ -1,12 +1,12 @@
 // Answers a stream of calls and of lists for the writer of modules: requests on standard input, replies on standard output. What fails it says on standard error.
 #![tactic(auto)]
+
 ghost use Rattle.std.specs.Prelude.{◌≡◌, ◌+◌, ◌≤◌, length};
 ghost use Rattle.stream.specs.Definition.Requests.{Spans, Brings};
 ghost use Rattle.exos_answer.specs.Within.{Ready};
 
 use files::{Got, Wrote, keep, read_from, write_to};
 use kernel::Tables;
-use libc::{STDERR_FILENO, STDIN_FILENO, STDOUT_FILENO};
 use stream::replies::{bring, reply};
 use stream::requests::request;
 use stream::{Found, Machine, Request};
@@ -64,18 +64,18 @@ fn answer(
 }
 
 // Reads once, after the first bytes of the buffer: how many bytes came, none where the input is over or the read failed.
-fn read_after(buf: &mut [u8], left: usize) -> usize
+fn read_after(rt: &HostRuntime, buf: &mut [u8], left: usize) -> usize
     requires { left ≤ length buf.old }
     ensures { left + result ≤ length buf.new }
 {
     let part = &mut buf[left..];
-    let got = read_from(STDIN_FILENO, part);
+    let got = read_from(&mut rt.stdin(), part);
     match got {
         Got::Bytes(n) => n,
         Got::Over => 0,
         Got::Failed => {
             write_to(
-                STDERR_FILENO,
+                &mut rt.stderr(),
                 b"exos_answer: standard input could not be read\n",
             );
             0
@@ -84,20 +84,20 @@ fn read_after(buf: &mut [u8], left: usize) -> usize
 }
 
 // Writes, and whether all was written.
-fn write_all(bytes: &[u8]) -> bool {
-    let wrote = write_to(STDOUT_FILENO, bytes);
+fn write_all(rt: &HostRuntime, bytes: &[u8]) -> bool {
+    let wrote = write_to(&mut rt.stdout(), bytes);
     match wrote {
         Wrote::All => true,
         Wrote::Failed(_) => {
             write_to(
-                STDERR_FILENO,
+                &mut rt.stderr(),
                 b"exos_answer: standard output could not be written\n",
             );
             false
         }
         Wrote::Closed(_) => {
             write_to(
-                STDERR_FILENO,
+                &mut rt.stderr(),
                 b"exos_answer: the reader of standard output has ended\n",
             );
             false
@@ -106,13 +106,13 @@ fn write_all(bytes: &[u8]) -> bool {
 }
 
 // Writes the replies that wait.
-fn flush(s: State, text: &[u8]) -> State
+fn flush(rt: &HostRuntime, s: State, text: &[u8]) -> State
     requires { Ready s × (length text.now ≡ 65536) }
     ensures { Ready result }
 {
     let used = s.used;
     let tables = s.tables;
-    let going = write_all(&text[..used]);
+    let going = write_all(rt, &text[..used]);
     State {
         tables,
         size: s.size,
@@ -124,7 +124,7 @@ fn flush(s: State, text: &[u8]) -> State
 }
 
 // Reads on, with the bytes that are left moved to the start; not where the replies could not be written.
-fn refill(s: State, buf: &mut [u8]) -> State
+fn refill(rt: &HostRuntime, s: State, buf: &mut [u8]) -> State
     requires { Ready s × (length buf.old ≡ 131072) }
     ensures { Ready result }
 {
@@ -135,7 +135,7 @@ fn refill(s: State, buf: &mut [u8]) -> State
     let left = s.filled - from;
     let tables = s.tables;
     keep(buf, from, left);
-    let n = read_after(buf, left);
+    let n = read_after(rt, buf, left);
     State {
         tables,
         size: s.size,
@@ -147,7 +147,14 @@ fn refill(s: State, buf: &mut [u8]) -> State
 }
 
 // Answers the next request of the buffer, or writes the replies and reads on.
-fn turn(s: State, ram: &mut [u8], out: &mut [u8], buf: &mut [u8], text: &mut [u8]) -> State
+fn turn(
+    rt: &HostRuntime,
+    s: State,
+    ram: &mut [u8],
+    out: &mut [u8],
+    buf: &mut [u8],
+    text: &mut [u8],
+) -> State
     requires { Ready s × (length ram.old ≡ 524288) × (length out.old ≡ 65535) × (length buf.old ≡ 131072) × (length text.old ≡ 65536) }
     ensures { Ready result }
 {
@@ -156,7 +163,7 @@ fn turn(s: State, ram: &mut [u8], out: &mut [u8], buf: &mut [u8], text: &mut [u8
     let used = s.used;
     let tables = s.tables;
     if 65536 < used + 50 {
-        return flush(s, text);
+        return flush(rt, s, text);
     }
     match request(&buf[from..filled]) {
         Found::Whole(q) => {
@@ -182,9 +189,9 @@ fn turn(s: State, ram: &mut [u8], out: &mut [u8], buf: &mut [u8], text: &mut [u8
                 going: true,
             }
         }
-        Found::Part => refill(flush(s, text), buf),
+        Found::Part => refill(rt, flush(rt, s, text), buf),
         Found::Bad => {
-            let done = flush(s, text);
+            let done = flush(rt, s, text);
             let tables = done.tables;
             State {
                 tables,
@@ -200,6 +207,7 @@ fn turn(s: State, ram: &mut [u8], out: &mut [u8], buf: &mut [u8], text: &mut [u8
 
 // The arrays as they are lent.
 fn whole_turn(
+    rt: &HostRuntime,
     s: State,
     ram: &mut [u8; 524288],
     out: &mut [u8; 65535],
@@ -209,10 +217,10 @@ fn whole_turn(
     requires { Ready s }
     ensures { Ready result }
 {
-    turn(s, ram, out, buf, text)
+    turn(rt, s, ram, out, buf, text)
 }
 
-fn main() {
+fn main(rt: HostRuntime) {
     let mut ram = [0u8; 524288];
     let mut out = [0u8; 65535];
     let mut buf = [0u8; 131072];
@@ -227,7 +235,7 @@ fn main() {
     };
     let mut turns = u64::MAX;
     while turns > 0 && s.going {
-        s = whole_turn(s, &mut ram, &mut out, &mut buf, &mut text);
+        s = whole_turn(&rt, s, &mut ram, &mut out, &mut buf, &mut text);
         turns -= 1;
     }
 }

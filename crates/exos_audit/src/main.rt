@@ -1,5 +1,6 @@
 // The auditing program: reads a maker's log from standard input, prints the verdict, and tells on descriptor 3 how it ended.
 #![tactic(auto)]
+
 ghost use Rattle.std.specs.Prelude.{◌≡◌, ◌+◌, ◌-◌, ◌≤◌, ◌<◌, ◌^◌, length, take, drop};
 ghost use Rattle.files.specs.declared.Wrote.{Wrote};
 ghost use Rattle.listing.specs.Definition.NoneOrGood.{NoneOrGood};
@@ -11,12 +12,11 @@ use audit::buffers::judge;
 use audit::logs::end;
 use audit::words::put_verdict;
 use audit::{Due, Stop, Verdict, Word};
-use files::{Got, Wrote, count_of, read_on, write_to};
+use files::{Got, Wrote, count_of, read_on, write_named, write_to};
 use kernel::Tables;
-use libc::{STDIN_FILENO, STDOUT_FILENO};
 
 // The descriptor on which the end is told, by one byte.
-const TOLD_FILENO: i32 = 3;
+const TOLD: &str = "/proc/self/fd/3";
 
 // The most turns, 2^47: so few that the number of a record fits 64 bits (docs/DECISIONS.md, 76).
 const TURNS: u64 = 140737488355328;
@@ -63,6 +63,7 @@ fn course_of(got: Got) -> Course
 
 // Keeps what is left of the buffer, and reads on.
 fn fetch(
+    rt: &HostRuntime,
     tables: Tables,
     due: Due,
     number: usize,
@@ -74,7 +75,7 @@ fn fetch(
     ensures { ((got : Got) × Fetched (take (filled - start) (drop start buf.old)) result buf.new got) × (result.tables ≡ tables) × (result.due ≡ due) × (result.number ≡ number) × Held result (length buf.new) }
 {
     let left = filled - start;
-    let got = read_on(STDIN_FILENO, buf, start, filled);
+    let got = read_on(&mut rt.stdin(), buf, start, filled);
     State {
         tables,
         due,
@@ -86,7 +87,13 @@ fn fetch(
 }
 
 // Judges the records of what is in the buffer, and reads on where one is not whole.
-fn turn(s: State, ram: &mut [u8; 65536], out: &mut [u8; 4090], buf: &mut [u8]) -> State
+fn turn(
+    rt: &HostRuntime,
+    s: State,
+    ram: &mut [u8; 65536],
+    out: &mut [u8; 4090],
+    buf: &mut [u8],
+) -> State
     requires { Held s (length buf.old) × (4098 ≤ length buf.old) × (s.number + length buf.old < 2 ^ 64) }
     ensures { Turned s ram.old out.old buf.old result ram.new out.new buf.new × Held result (length buf.new) × (result.number ≤ s.number + length buf.old) }
 {
@@ -101,7 +108,7 @@ fn turn(s: State, ram: &mut [u8; 65536], out: &mut [u8; 4090], buf: &mut [u8]) -
     let stop = j.stop;
     let start = from + taken;
     match stop {
-        Stop::More => fetch(tables, due, number, buf, start, filled),
+        Stop::More => fetch(rt, tables, due, number, buf, start, filled),
         Stop::Fault(word) => State {
             tables,
             due,
@@ -114,11 +121,17 @@ fn turn(s: State, ram: &mut [u8; 65536], out: &mut [u8; 4090], buf: &mut [u8]) -
 }
 
 // A turn on the program's own buffers: that for the input has room for 64 KiB behind the longest record.
-fn whole_turn(s: State, ram: &mut [u8; 65536], out: &mut [u8; 4090], buf: &mut [u8; 69634]) -> State
+fn whole_turn(
+    rt: &HostRuntime,
+    s: State,
+    ram: &mut [u8; 65536],
+    out: &mut [u8; 4090],
+    buf: &mut [u8; 69634],
+) -> State
     requires { Held s 69634 × (s.number + 69634 < 2 ^ 64) }
     ensures { Turned s ram.old out.old buf.old result ram.new out.new buf.new × Held result 69634 × (result.number ≤ s.number + 69634) }
 {
-    turn(s, ram, out, buf)
+    turn(rt, s, ram, out, buf)
 }
 
 // Whether there is a turn to make.
@@ -146,24 +159,24 @@ fn end_of(verdict: Verdict, wrote: Wrote) -> End
 }
 
 // Writes the line that is a verdict's, and hands back how that ended.
-fn hand(line: &[u8], verdict: Verdict) -> End
+fn hand(rt: &HostRuntime, line: &[u8], verdict: Verdict) -> End
     requires { line.now ≡ line_of verdict }
     ensures { (wrote : Wrote) × (result ≡ end_of verdict wrote) }
 {
-    end_of(verdict, write_to(STDOUT_FILENO, line))
+    end_of(verdict, write_to(&mut rt.stdout(), line))
 }
 
 // Prints a verdict.
-fn print(verdict: Verdict) -> End
+fn print(rt: &HostRuntime, verdict: Verdict) -> End
     ensures { (wrote : Wrote) × (result ≡ end_of verdict wrote) }
 {
     let mut text = [0u8; 28];
     let n = put_verdict(verdict, &mut text);
-    hand(&text[..n], verdict)
+    hand(rt, &text[..n], verdict)
 }
 
 // How the run ends, once its verdict, if it has one, is printed.
-fn last(s: State) -> End
+fn last(rt: &HostRuntime, s: State) -> End
     requires { s.from ≤ s.filled }
     ensures { (wrote : Wrote) × (result ≡ told s wrote) }
 {
@@ -172,8 +185,8 @@ fn last(s: State) -> End
     match course {
         Course::Going => End::ReadFailed,
         Course::Broken => End::ReadFailed,
-        Course::Over => print(end(s.number, due, s.filled - s.from)),
-        Course::Faulted(word) => print(Verdict::Fault(s.number, word)),
+        Course::Over => print(rt, end(s.number, due, s.filled - s.from)),
+        Course::Faulted(word) => print(rt, Verdict::Fault(s.number, word)),
     }
 }
 
@@ -201,7 +214,7 @@ fn byte_of(end: End) -> u8
 
 // Makes turns until one ends the run: such `Turns` have the verdict on what is read (`turns-verdict` in specs/Laws/Session.antt). Nothing says that the
 // input ends, so they are counted.
-fn main() {
+fn main(rt: HostRuntime) {
     let mut ram = [0u8; 65536];
     let mut out = [0u8; 4090];
     let mut buf = [0u8; 69634];
@@ -215,9 +228,9 @@ fn main() {
     };
     let mut turns = TURNS;
     while turns > 0 && is_going(s) {
-        s = whole_turn(s, &mut ram, &mut out, &mut buf);
+        s = whole_turn(&rt, s, &mut ram, &mut out, &mut buf);
         turns -= 1;
     }
-    let byte = [byte_of(last(s))];
-    write_to(TOLD_FILENO, &byte);
+    let byte = [byte_of(last(&rt, s))];
+    write_named(&rt, TOLD, &byte);
 }

@@ -1,20 +1,20 @@
 // The listing program: reads event records from standard input, prints a line a record, and tells on descriptor 3 how it ended.
 #![tactic(auto)]
+
 ghost use Rattle.std.specs.Prelude.{◌≡◌, ◌+◌, ◌-◌, ◌≤◌, ◌<◌, length, take, drop};
 ghost use Rattle.files.specs.declared.Wrote.{Wrote};
 ghost use Rattle.listing.specs.Definition.NoneOrGood.{NoneOrGood};
 ghost use Rattle.exos_list.specs.Definition.Turns.{Held, course_of, Fetched, Turned, end_after, told};
 
-use files::{Got, Wrote, count_of, read_on, write_to};
+use files::{Got, Wrote, count_of, read_on, write_named, write_to};
 use kernel::Tables;
-use libc::{STDIN_FILENO, STDOUT_FILENO};
 use listing::buffers::drain;
 use listing::ends::{byte_of, end_of};
 use listing::pieces::finish;
 use listing::{End, Stop};
 
 // The descriptor on which the end is told, by one byte.
-const TOLD_FILENO: i32 = 3;
+const TOLD: &str = "/proc/self/fd/3";
 
 // How the run goes on: with a turn, or the input is over, or it has ended.
 #[derive(Clone, Copy)]
@@ -56,12 +56,12 @@ fn end_after(wrote: Wrote, end: End) -> End
 }
 
 // Keeps what is left of the buffer, and reads on.
-fn fetch(tables: Tables, buf: &mut [u8], start: usize, filled: usize) -> State
+fn fetch(rt: &HostRuntime, tables: Tables, buf: &mut [u8], start: usize, filled: usize) -> State
     requires { NoneOrGood tables × (start ≤ filled) × (filled ≤ length buf.old) × (filled < start + length buf.old) }
     ensures { ((got : Got) × Fetched (take (filled - start) (drop start buf.old)) result buf.new got) × (result.tables ≡ tables) × Held result (length buf.new) }
 {
     let left = filled - start;
-    let got = read_on(STDIN_FILENO, buf, start, filled);
+    let got = read_on(&mut rt.stdin(), buf, start, filled);
     State {
         tables,
         from: 0,
@@ -72,6 +72,7 @@ fn fetch(tables: Tables, buf: &mut [u8], start: usize, filled: usize) -> State
 
 // Writes the lines of what is in the buffer, and reads on where a record is not whole.
 fn turn(
+    rt: &HostRuntime,
     s: State,
     ram: &mut [u8; 65536],
     out: &mut [u8; 4096],
@@ -89,7 +90,7 @@ fn turn(
     let used = d.used;
     let stop = d.stop;
     let start = from + taken;
-    let wrote = write_to(STDOUT_FILENO, &text[..used]);
+    let wrote = write_to(&mut rt.stdout(), &text[..used]);
     match wrote {
         Wrote::Failed(_) => State {
             tables,
@@ -104,7 +105,7 @@ fn turn(
             course: Course::Ended(End::ReaderEnded),
         },
         Wrote::All => match stop {
-            Stop::More => fetch(tables, buf, start, filled),
+            Stop::More => fetch(rt, tables, buf, start, filled),
             Stop::Full => State {
                 tables,
                 from: start,
@@ -123,6 +124,7 @@ fn turn(
 
 // A turn on the program's own buffers.
 fn whole_turn(
+    rt: &HostRuntime,
     s: State,
     ram: &mut [u8; 65536],
     out: &mut [u8; 4096],
@@ -132,7 +134,7 @@ fn whole_turn(
     requires { Held s 69634 }
     ensures { Turned s ram.old out.old buf.old result ram.new out.new buf.new text.new × Held result 69634 }
 {
-    turn(s, ram, out, buf, text)
+    turn(rt, s, ram, out, buf, text)
 }
 
 fn is_going(s: State) -> bool {
@@ -145,7 +147,7 @@ fn is_going(s: State) -> bool {
 }
 
 // How the run ends, with what is still to be written.
-fn last(s: State) -> End
+fn last(rt: &HostRuntime, s: State) -> End
     requires { s.from ≤ s.filled }
     ensures { (wrote : Wrote) × (result ≡ told s.course (s.filled - s.from) wrote) }
 {
@@ -157,14 +159,14 @@ fn last(s: State) -> End
             let left = s.filled - s.from;
             let mut text = [0u8; 4];
             let n = finish(left, &mut text, 0);
-            end_after(write_to(STDOUT_FILENO, &text[..n]), end_of(left))
+            end_after(write_to(&mut rt.stdout(), &text[..n]), end_of(left))
         }
     }
 }
 
 // The turns are those of a `Session` of listing's specs/Laws/Reading.antt (specs/Laws/Session.antt). Its `any-pieces` says that what is written
 // is the listing of what is read. Nothing says that the input ends, so the turns are counted: there are more than any input takes.
-fn main() {
+fn main(rt: HostRuntime) {
     let mut ram = [0u8; 65536];
     let mut out = [0u8; 4096];
     let mut buf = [0u8; 69634];
@@ -177,9 +179,9 @@ fn main() {
     };
     let mut turns = u64::MAX;
     while turns > 0 && is_going(s) {
-        s = whole_turn(s, &mut ram, &mut out, &mut buf, &mut text);
+        s = whole_turn(&rt, s, &mut ram, &mut out, &mut buf, &mut text);
         turns -= 1;
     }
-    let byte = [byte_of(last(s))];
-    write_to(TOLD_FILENO, &byte);
+    let byte = [byte_of(last(&rt, s))];
+    write_named(&rt, TOLD, &byte);
 }

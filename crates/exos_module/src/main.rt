@@ -1,5 +1,6 @@
 // The writing program: reads a start and a list of items from standard input, writes the module of them, and tells on descriptor 3 how it ended.
 #![tactic(auto)]
+
 ghost use Rattle.std.specs.Prelude.{◌≡◌, ◌∷◌, ◌≤◌, length};
 ghost use Rattle.files.specs.declared.Wrote.{Wrote};
 ghost use Rattle.text.specs.Definition.Put.{Put};
@@ -9,14 +10,13 @@ ghost use Rattle.exos_module.specs.Definition.Ends.{room, input_room, end_after,
 ghost use Rattle.exos_module.specs.Definition.Handed.{module_from};
 ghost use Rattle.exos_module.specs.Definition.Told.{letter_of, told_of};
 
-use files::{Filled, Wrote, read_all, write_to};
-use libc::{STDIN_FILENO, STDOUT_FILENO};
+use files::{Filled, Wrote, read_all, write_named, write_to};
 use text::{decimal, put};
 use writer::write::write_from;
 use writer::{Flaw, Reply, Why, Written};
 
 // The descriptor on which the end is told, by a word.
-const TOLD_FILENO: i32 = 3;
+const TOLD: &str = "/proc/self/fd/3";
 
 // How a run ends: the module is written, or its write failed, or the reader of it has ended; or nothing is written, since a read failed, the writer
 // refused, or the input has no start, too many items or one that is none.
@@ -89,41 +89,41 @@ fn module_size(reply: Reply) -> usize
 }
 
 // Writes the bytes that are the module of an input, none where it has no module. The input is lent for the contract alone.
-fn hand(bytes: &[u8], input: &[u8]) -> Wrote
+fn hand(rt: &HostRuntime, bytes: &[u8], input: &[u8]) -> Wrote
     requires { bytes.now ≡ module_from input.now room }
 {
-    write_to(STDOUT_FILENO, bytes)
+    write_to(&mut rt.stdout(), bytes)
 }
 
 // Writes the module of an input, and hands back how that ended.
-fn answer(input: &[u8], buffer: &mut [u8]) -> End
+fn answer(rt: &HostRuntime, input: &[u8], buffer: &mut [u8]) -> End
     requires { length buffer.old ≡ room }
     ensures { (wrote : Wrote) × (result ≡ end_of (reply_from input.now room) wrote) }
 {
     let reply = write_from(input, buffer);
     let size = module_size(reply);
-    let wrote = hand(&buffer[..size], input);
+    let wrote = hand(rt, &buffer[..size], input);
     end_of(reply, wrote)
 }
 
 // Reads the input and answers it. The last byte of `input` is there to see that there is more than the most items.
-fn run(input: &mut [u8], buffer: &mut [u8]) -> End
+fn run(rt: &HostRuntime, input: &mut [u8], buffer: &mut [u8]) -> End
     requires { (length input.old ≡ input_room) × (length buffer.old ≡ room) }
     ensures { Ran input.new result }
 {
-    let filled = read_all(STDIN_FILENO, input);
+    let filled = read_all(&mut rt.stdin(), input);
     match filled {
-        Filled::Over(n) => answer(&input[..n], buffer),
+        Filled::Over(n) => answer(rt, &input[..n], buffer),
         Filled::Full => End::TooMany,
         Filled::Failed => End::ReadFailed,
     }
 }
 
 // A run on the program's own buffers.
-fn whole_run(input: &mut [u8; 314575], buffer: &mut [u8; 65536]) -> End
+fn whole_run(rt: &HostRuntime, input: &mut [u8; 314575], buffer: &mut [u8; 65536]) -> End
     ensures { Ran input.new result }
 {
-    run(input, buffer)
+    run(rt, input, buffer)
 }
 
 // The letter that tells why an item is none.
@@ -169,21 +169,21 @@ fn put_told(end: End, text: &mut [u8]) -> usize
 }
 
 // Tells the word that is an end's. The end is given for the contract alone.
-fn say(word: &[u8], end: End)
+fn say(rt: &HostRuntime, word: &[u8], end: End)
     requires { word.now ≡ told_of end }
 {
-    write_to(TOLD_FILENO, word);
+    write_named(rt, TOLD, word);
 }
 
 // Tells an end.
-fn tell(end: End) {
+fn tell(rt: &HostRuntime, end: End) {
     let mut text = [0u8; 21];
     let n = put_told(end, &mut text);
-    say(&text[..n], end);
+    say(rt, &text[..n], end);
 }
 
-fn main() {
+fn main(rt: HostRuntime) {
     let mut input = [0u8; 314575];
     let mut buffer = [0u8; 65536];
-    tell(whole_run(&mut input, &mut buffer));
+    tell(&rt, whole_run(&rt, &mut input, &mut buffer));
 }

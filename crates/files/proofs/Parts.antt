@@ -1,12 +1,6 @@
 -- A read into a part of a buffer, and bytes that are moved to its front.
-use mathlib.Core.Path.{◌≡◌, sym, subst, ap, ◌∙◌}
-use mathlib.Core.List.{List, ◌++◌}
-use Prim.Native.Nat.{ℕ, suc, ◌+◌, ◌-◌, ◌<◌, ◌≤◌}
-use native.Mathlib.Numerals.{add-one}
-use native.Mathlib.Omega.{arith}
+use Rattle.std.proofs.Common.{◌≡◌, List, ◌++◌, ℕ, suc, ◌+◌, ◌-◌, ◌<◌, ◌≤◌, length, get_or, take, drop, set, sym, subst, ap, ◌∙◌, add-one, arith, length-drop, length-take-le, drop-drop, get_or-drop, take-suc-set, take-suc, drop-set-lt, take-add}
 use borrow.Rule.Slice.PartMut.{put_mid, mid_of, same_len_mid}
-use lib.ListN.{length, get_or, take, drop, set, length-drop}
-use lib.Seq.{length-take-le, drop-drop, get_or-drop, take-suc-set, take-suc, drop-set-lt, take-add}
 use Rattle.files.specs.declared.Got.{Got}
 use Rattle.files.specs.declared.Got.TheVariants.{Bytes, Over, Failed}
 use Rattle.files.specs.Definition.Outcomes.{Brings, count_of, ReadOn}

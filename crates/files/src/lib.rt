@@ -1,9 +1,11 @@
-// Reads and writes on descriptors that tell an end from a failure; a call that a signal interrupts is made again. And a buffer whose rest is kept while more is read.
+// Reads and writes that tell an end from a failure; a call that a signal interrupts is made again. And a buffer whose rest is kept while more is read.
 #![tactic(auto)]
-ghost use Rattle.std.specs.Prelude.{◌≡◌, ◌+◌, ◌-◌, ◌≤◌, ◌<◌, length, take, drop};
+
+ghost use Rattle.std.specs.Prelude.{◌≡◌, ◌+◌, ◌-◌, ◌≤◌, ◌<◌, length, take, drop, IfSome};
 ghost use Rattle.files.specs.Definition.Outcomes.{Brings, count_of, Fills, ReadOn, Takes};
 
-use libc::{EINTR, EPIPE};
+use std::fs::{Files, OpenOptions, symlink_metadata};
+use std::io::{Error, ErrorKind, Read, Write};
 
 // What a read brought: so many bytes, the end of the input, or nothing, since it failed.
 #[derive(Clone, Copy)]
@@ -37,56 +39,50 @@ enum Why {
     Failed,
 }
 
-fn reason(got: isize) -> Why {
-    if got == 0 {
-        return Why::Failed;
+fn reason(error: Error) -> Why {
+    match error.kind() {
+        ErrorKind::Interrupted => Why::Interrupted,
+        ErrorKind::BrokenPipe => Why::Closed,
+        _ => Why::Failed,
     }
-    let error = os::errno();
-    if error == EINTR {
-        return Why::Interrupted;
-    }
-    if error == EPIPE {
-        return Why::Closed;
-    }
-    Why::Failed
 }
 
 // Reads once, to the front of the buffer.
-pub fn read_from(fd: i32, buf: &mut [u8]) -> Got
+pub fn read_from<R: Read>(from: &mut R, buf: &mut [u8]) -> Got
     ensures { Brings (length buf.new) result }
 {
     let mut tries = u64::MAX;
     while tries > 0 {
-        let got = libc::read(fd, buf);
-        let n = io::count(got, buf);
-        if n > 0 {
-            return Got::Bytes(n);
-        }
-        if got == 0 {
-            return Got::Over;
-        }
-        match reason(got) {
-            Why::Interrupted => {
-                tries -= 1;
+        match from.read(buf) {
+            Ok(0) => {
+                return Got::Over;
             }
-            Why::Closed => {
-                return Got::Failed;
+            Ok(n) => {
+                return Got::Bytes(n);
             }
-            Why::Failed => {
-                return Got::Failed;
-            }
+            Err(error) => match reason(error) {
+                Why::Interrupted => {
+                    tries -= 1;
+                }
+                Why::Closed => {
+                    return Got::Failed;
+                }
+                Why::Failed => {
+                    return Got::Failed;
+                }
+            },
         }
     }
     Got::Failed
 }
 
 // Reads once, after the first `left` bytes of the buffer.
-pub fn read_after(fd: i32, buf: &mut [u8], left: usize) -> Got
+pub fn read_after<R: Read>(from: &mut R, buf: &mut [u8], left: usize) -> Got
     requires { left < length buf.old }
     ensures { Brings (length buf.new - left) result × (take left buf.new ≡ take left buf.old) }
 {
     let part = &mut buf[left..];
-    read_from(fd, part)
+    read_from(from, part)
 }
 
 // How many bytes a read brought.
@@ -113,22 +109,22 @@ pub fn keep(buf: &mut [u8], from: usize, n: usize)
 }
 
 // Keeps the bytes from `start` up to `filled` at the front of the buffer, and reads once behind them.
-pub fn read_on(fd: i32, buf: &mut [u8], start: usize, filled: usize) -> Got
+pub fn read_on<R: Read>(from: &mut R, buf: &mut [u8], start: usize, filled: usize) -> Got
     requires { (start ≤ filled) × (filled ≤ length buf.old) × (filled < start + length buf.old) }
     ensures { ReadOn (take (filled - start) (drop start buf.old)) (filled - start) buf.new result }
 {
     let left = filled - start;
     keep(buf, start, left);
-    read_after(fd, buf, left)
+    read_after(from, buf, left)
 }
 
 // Reads until the input ends, a read fails or the buffer is full, each time behind what is there, which stays (`read_after`).
-pub fn read_all(fd: i32, buf: &mut [u8]) -> Filled
+pub fn read_all<R: Read>(from: &mut R, buf: &mut [u8]) -> Filled
     ensures { Fills (length buf.new) result }
 {
     let mut filled: usize = 0;
     while filled < buf.len() {
-        let got = read_after(fd, buf, filled);
+        let got = read_after(from, buf, filled);
         match got {
             Got::Bytes(n) => {
                 filled += n;
@@ -145,17 +141,21 @@ pub fn read_all(fd: i32, buf: &mut [u8]) -> Filled
 }
 
 // Writes all bytes, as many at a time as a call takes.
-pub fn write_to(fd: i32, bytes: &[u8]) -> Wrote
+pub fn write_to<W: Write>(to: &mut W, bytes: &[u8]) -> Wrote
     ensures { Takes (length bytes.now) result }
 {
     let mut done: usize = 0;
     let mut tries = u64::MAX;
     while tries > 0 && done < bytes.len() {
         let part = &bytes[done..];
-        let got = libc::write(fd, part);
-        let n = io::count(got, part);
-        if n == 0 {
-            match reason(got) {
+        match to.write(part) {
+            Ok(0) => {
+                return Wrote::Failed(done);
+            }
+            Ok(n) => {
+                done += n;
+            }
+            Err(error) => match reason(error) {
                 Why::Interrupted => {}
                 Why::Closed => {
                     return Wrote::Closed(done);
@@ -163,13 +163,25 @@ pub fn write_to(fd: i32, bytes: &[u8]) -> Wrote
                 Why::Failed => {
                     return Wrote::Failed(done);
                 }
-            }
+            },
         }
-        done += n;
         tries -= 1;
     }
     if done < bytes.len() {
         return Wrote::Failed(done);
     }
     Wrote::All
+}
+
+// Writes all bytes to what a descriptor other than the standard three has open, by its name in /proc/self/fd: that is opened anew, and a file is
+// written at its end. None where nothing is written, since it is closed, can't be opened or was not opened for writing, as the name's permissions tell.
+pub fn write_named<F: Files>(files: &F, name: &str, bytes: &[u8]) -> Option<Wrote>
+    ensures { IfSome result (Takes (length bytes.now)) }
+{
+    let link = symlink_metadata(files, name).ok()?;
+    if link.permissions().readonly() {
+        return None;
+    }
+    let mut file = OpenOptions::new().append(true).open(files, name).ok()?;
+    Some(write_to(&mut file, bytes))
 }

@@ -1,8 +1,8 @@
 -- What owning tables and devices tells: the length of a name.
-use mathlib.Core.Path.{◌≡◌, sym, ◌∙◌}
-use mathlib.Core.List.{List, map}
+use mathlib.Core.Path.{◌≡◌}
+use mathlib.Core.List.{List}
 use Prim.Native.Nat.{ℕ}
-use lib.ListN.{length, length-map}
+use lib.ListN.{length}
 use mir.Val.{Val}
 use denote.Laws.{Is}
 use denote.Struct.Declared.{row}
@@ -11,11 +11,8 @@ use Rattle.kernel.specs.declared.Tables.{Tables}
 use Rattle.rows.specs.contracts.Device as device
 use Rattle.kernel.specs.contracts.Tables as tables
 
-field-length : (n : ℕ) (xs : List ℕ) → length (map (λ (v : ℕ). v) xs) ≡ n → length xs ≡ n
-field-length n xs e = sym (length-map xs (λ (v : ℕ). v)) ∙ e
-
 pub default-name : (t : Tables) (vs : List Val) → Is (row tables.the_type) t vs → length t.name ≡ 28
-default-name t vs h = field-length 28 t.name h.1.1.1.1.1.1.1.1.1.1.1.1.1.1.0.1.0.1
+default-name t vs h = h.1.1.1.1.1.1.1.1.1.1.1.1.1.1.0.1.0.1
 
 pub device-name : (d : Device) (vs : List Val) → Is (row device.the_type) d vs → length d.name ≡ 28
-device-name d vs h = field-length 28 d.name h.1.1.0.1.0.1
+device-name d vs h = h.1.1.0.1.0.1

@@ -1,5 +1,6 @@
 // Writing relocatable modules: a list of items, judged by the loader's page rule, as the bits of a stream in a lent buffer.
 #![tactic(auto)]
+
 use modules::Item;
 
 mod entries; // a list of items as bytes, three each
