@@ -1,6 +1,6 @@
 -- `exos_module::put_numbered` has room for the number.
 use Rattle.std.proofs.Common.{arith}
-use Rattle.text.specs.Laws.Text.{long}
+use Rattle.text.proofs.Numerals.{long}
 use Rattle.exos_module.proofs.put_numbered.Goals as goal
 
 pub decimal-requires : goal.decimal-requires

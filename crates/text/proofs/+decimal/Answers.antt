@@ -1,5 +1,6 @@
 use Rattle.std.proofs.Common.{◌≤◌, arith}
-use Rattle.text.specs.Laws.Text.{decimal-one, decimal-length, decimal-first, decimal-next}
+use Rattle.text.specs.Laws.Text.{decimal-one, decimal-first}
+use Rattle.text.proofs.Numerals.{decimal-length, decimal-next}
 use Rattle.text.proofs.+decimal.Goals as goal
 
 pub put-requires : goal.put-requires

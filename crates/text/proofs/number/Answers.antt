@@ -1,6 +1,6 @@
 -- `number` writes at most five digits.
 use Rattle.std.proofs.Common.{arith}
-use Rattle.text.specs.Laws.Text.{short}
+use Rattle.text.proofs.Numerals.{short}
 use Rattle.text.proofs.number.Goals as goal
 
 pub decimal-requires : goal.decimal-requires

@@ -1,7 +1,6 @@
 -- Laws of text put at a place, of numerals and of hexadecimal.
-use Rattle.std.specs.Prelude.{◌≡◌, refl, Bool, true, false, List, [], ◌∷◌, ◌++◌, ℕ, zero, suc, ◌+◌, ◌*◌, ◌/◌, ◌%◌, ◌^◌, ◌<◌, ◌≤◌, length, get_or, take, drop, set, ltb, ◌⊎◌}
-use Rattle.std.proofs.Common.{sym, ap, ◌∙◌, append_assoc, append-nil, arith, add-one, length-append, length-take, length-take-le, take-suc-set, take-suc, drop-set-lt, drop-drop, lt-ltb, le-ltb, ltb-true, ltb-false, inl, inr}
-use Rattle.std.proofs.Math.Numerals.{unary_clauses}
+use Rattle.std.specs.Prelude.{◌≡◌, refl, Bool, true, false, List, [], ◌∷◌, ◌++◌, ℕ, zero, suc, ◌+◌, ◌*◌, ◌/◌, ◌%◌, ◌<◌, ◌≤◌, length, get_or, take, drop, set, ◌⊎◌}
+use Rattle.std.proofs.Common.{sym, ap, ◌∙◌, append_assoc, append-nil, arith, add-one, length-append, length-take, length-take-le, take-suc-set, take-suc, drop-set-lt, drop-drop, lt-ltb, inl, inr}
 use Rattle.text.specs.Definition.Put.{Put}
 use Rattle.text.specs.Definition.Text.{fields_of, digit_of, decimal_in, decimal_of, glyph, hex_of}
 
@@ -32,22 +31,10 @@ pub split : (b : Bool) → (b ≡ true) ⊎ (b ≡ false)
 split true = inl refl
 split false = inr refl
 
-few : (k m n : ℕ) → n ≤ k → n ≤ m → decimal_in k n ≡ decimal_in m n
-unfolding decimal_in
-few zero zero n h g = refl
-few zero (suc m) n h g = rw (lt-ltb n 10 (omega arith))
-few (suc k) zero n h g = rw (lt-ltb n 10 (omega arith))
-few (suc k) (suc m) n h g = elim (split (ltb n 10)) [ inl e ↦ rw e | inr e ↦ let q : 10 ≤ n = ltb-false n 10 e in rw (e, few k m (n / 10) (omega arith) (omega arith)) ]
-
 pub decimal-one : (n : ℕ) → n < 10 → decimal_of n ≡ digit_of n ∷ []
 unfolding decimal_of decimal_in
 decimal-one zero h = refl
 decimal-one (suc n) h = rw (lt-ltb (suc n) 10 h)
-
-pub decimal-more : (n : ℕ) → 10 ≤ n → decimal_of n ≡ decimal_of (n / 10) ++ (digit_of n ∷ [])
-unfolding decimal_of decimal_in
-decimal-more zero h = absurd (omega (arith, h))
-decimal-more (suc n) h = rw (le-ltb (suc n) 10 h, few n (suc n / 10) (suc n / 10) (omega arith) (omega arith))
 
 pub hex-append : (xs ys : List ℕ) → hex_of (xs ++ ys) ≡ hex_of xs ++ hex_of ys
 hex-append [] ys = refl
@@ -64,32 +51,8 @@ pub hex-turn : (bytes : List ℕ) (i : ℕ) {t₀ t t₁ t₂ : List ℕ} {at to
     → Put t₀ t at to (hex_of (take i bytes)) → Put t t₁ to m (p ∷ []) → Put t₁ t₂ m r (q ∷ []) → Put t₀ t₂ at r (hex_of (take (i + 1) bytes))
 hex-turn bytes i h e f g a b d = rw (hex-more bytes i h, ← e, ← f, ← g) (put_then (put_then a b) d)
 
-pub decimal-length : (n : ℕ) → 10 ≤ n → length (decimal_of n) ≡ length (decimal_of (n / 10)) + 1
-decimal-length n h = rw (decimal-more n h, length-append)
-
 pub decimal-first : (d e : List ℕ) (n at r b : ℕ) → n < 10 → b ≡ digit_of n → Put d e at r (b ∷ []) → Put d e at r (decimal_of n)
 decimal-first d e n at r b h q p = rw (decimal-one n h, ← q) p
-
-pub decimal-next : (d e f : List ℕ) (n at m r b : ℕ) → 10 ≤ n → b ≡ digit_of n → Put d e at m (decimal_of (n / 10)) → Put e f m r (b ∷ []) → Put d f at r (decimal_of n)
-decimal-next d e f n at m r b h q p s = rw (decimal-more n h, ← q) (put_then p s)
-
--- a number below a power of ten has no more digits than that has zeros
-pub digits : (k n : ℕ) → n < 10 ^ suc k → length (decimal_of n) ≤ suc k
-digits zero n h = rw (decimal-one n h) (omega arith)
-digits (suc k) n h = elim (split (ltb n 10)) [
-  | inl e ↦ rw (decimal-one n (ltb-true n 10 e)) (omega arith)
-  | inr e ↦
-      let q : 10 ≤ n = ltb-false n 10 e in
-      let p : 10 ^ suc (suc k) ≡ 10 * 10 ^ suc k = simp unary_clauses (omega arith) in
-      omega (arith, decimal-length n q, digits k (n / 10) (omega (arith, h, p)))
-]
-
--- a u16 has at most five digits, a u64 at most twenty
-pub short : (n : ℕ) → n < 65536 → length (decimal_of n) ≤ 5
-short n h = digits 4 n (omega arith)
-
-pub long : (n : ℕ) → n < 2 ^ 64 → length (decimal_of n) ≤ 20
-long n h = digits 19 n (omega arith)
 
 pub four : {d e f g h : List ℕ} {at l m n r : ℕ} (kind answer a b : ℕ) → Put d e at l (decimal_of kind ++ (32 ∷ [])) → Put e f l m (decimal_of answer ++ (32 ∷ []))
     → Put f g m n (decimal_of a ++ (32 ∷ [])) → Put g h n r (decimal_of b) → Put d h at r (fields_of kind answer a b)

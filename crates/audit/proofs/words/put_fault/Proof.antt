@@ -1,6 +1,7 @@
 -- `audit::put_fault` meets its contract.
 use native.Mathlib.Omega.{arith}
-use Rattle.text.specs.Laws.Text.{put_then, put-within, long}
+use Rattle.text.specs.Laws.Text.{put_then, put-within}
+use Rattle.text.proofs.Numerals.{long}
 use borrow.Author.Rules.{rules}
 use Rattle.audit.proofs.words.put_fault.Statement.{statement}
 use Rattle.audit.proofs.words.put_fault.Tie as tie
