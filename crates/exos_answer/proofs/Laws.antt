@@ -1,10 +1,5 @@
 -- Where a request ends in the buffer.
-use mathlib.Core.Path.{◌≡◌}
-use mathlib.Core.List.{List}
-use Prim.Native.Nat.{ℕ, ◌+◌, ◌-◌, ◌≤◌}
-use native.Mathlib.Omega.{arith}
-use lib.ListN.{length, take, drop, length-drop}
-use lib.Seq.{length-take-le}
+use Rattle.std.proofs.Common.{◌≡◌, List, ℕ, ◌+◌, ◌-◌, ◌≤◌, arith, length, take, drop, length-drop, length-take-le}
 
 pub ends : (buf : List ℕ) (from filled end : ℕ) → from ≤ filled → filled ≤ length buf → end ≤ length (take (filled - from) (drop from buf)) → from + end ≤ filled
 ends buf from filled end h l e =

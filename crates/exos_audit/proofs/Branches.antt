@@ -1,10 +1,6 @@
 -- What is in hand after a read, and a turn, by why the records stopped.
-use mathlib.Core.Path.{◌≡◌, refl}
-use mathlib.Core.List.{List}
-use Prim.Native.Nat.{ℕ, ◌+◌, ◌-◌, ◌≤◌, ◌<◌}
+use Rattle.std.proofs.Common.{◌≡◌, refl, List, ℕ, ◌+◌, ◌-◌, ◌≤◌, ◌<◌, arith, length, take, drop}
 use native.Mathlib.Numerals.{unary_clauses}
-use native.Mathlib.Omega.{arith}
-use lib.ListN.{length, take, drop}
 use Rattle.events.specs.Laws.Front.{cut_short}
 use Rattle.files.specs.declared.Got.{Got}
 use Rattle.files.specs.Definition.Outcomes.{count_of, ReadOn}

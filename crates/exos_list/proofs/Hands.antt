@@ -1,10 +1,6 @@
 -- What is in hand of the buffer where a record is not whole, and after a read.
-use mathlib.Core.Path.{◌≡◌}
-use mathlib.Core.List.{List}
-use Prim.Native.Nat.{ℕ, ◌+◌, ◌-◌, ◌<◌, ◌≤◌}
-use native.Mathlib.Omega.{arith}
+use Rattle.std.proofs.Common.{◌≡◌, List, ℕ, ◌+◌, ◌-◌, ◌<◌, ◌≤◌, arith, length, take, drop}
 use native.Mathlib.Numerals.{unary_clauses}
-use lib.ListN.{length, take, drop}
 use Rattle.events.specs.declared.Front.TheVariants.{Cut}
 use Rattle.events.specs.Definition.Records.{front_of}
 use Rattle.events.specs.Laws.Front.{cut_short}
