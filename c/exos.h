@@ -1,5 +1,5 @@
 /* The proved kernel and the proved writer of modules over bytes, for C and C++: the library of crates/exos, x86-64.
- * `rt staticlib exos` builds it as target/staticlib/libexos.a, which is linked like any object:
+ * `rt lib` in crates/exos builds it as crates/exos/out/libexos.a, which is linked like any object:
  * cc -o program program.c libexos.a
  *
  * The library is written in Rattle, a systems language in which every function is proved to meet its contract. The

@@ -59,17 +59,14 @@ take_arguments() { # [ARGUMENT..]
   esac
 }
 
-# The kit that rt stands in has the loader and the C library that a program runs with, and, where the machine is not
-# x86-64, an emulator.
+# The kit that rt stands in. Its programs are for x86-64: another machine needs an emulator.
 find_kit() {
   rt=$(command -v rt) ||
-    die 1 "rt is not on the path: $runs is built and run with the Rattle kit, whose bin/ has rt"
-  kit=${RATTLE_HOME:-$(dirname -- "$(dirname -- "$(readlink -f -- "$rt")")")}
-  tools=$kit/on/$(uname -m)/toolchain
-  loader=$tools/lib/ld-linux-x86-64.so.2
-  emulator=$tools/bin/qemu-x86_64
-  [ -x "$emulator" ] || emulator=
-  [ -e "$loader" ] || die 1 "the kit at $kit has nothing to run a program with on this machine, $(uname -m)"
+    die 1 "rt is not on the path: $runs is built with the Rattle kit, whose bin/ has rt"
+  kit=$(dirname -- "$(dirname -- "$(readlink -f -- "$rt")")")
+  emulator=
+  [ "$(uname -m)" = x86_64 ] || emulator=$(command -v qemu-x86_64) ||
+    die 1 "qemu-x86_64 is not on the path: $runs is a program for x86-64, and this machine is $(uname -m)"
 }
 
 # The program's crate and those that it stands on, as crates.txt says.
@@ -83,7 +80,7 @@ crates_below() {
       print name
     }
     { sub(/#.*/, "") }
-    NF > 1 { gsub(/[ \t]/, "", $1); on[$1] = $2 }
+    NF > 1 { split($1, words, " "); on[words[1]] = $2 }
     END { visit(crate) }' "$here/crates.txt"
 }
 
@@ -93,14 +90,14 @@ sources() {
   {
     cat "$kit/KIT-ID" ../crates.txt
     # shellcheck disable=SC2086 # a word a crate
-    find $crates -type f ! -name '*.edit' -exec sha256sum {} + | LC_ALL=C sort
+    find $crates -name out -prune -o -type f ! -name '*.edit' -exec sha256sum {} + | LC_ALL=C sort
   } | sha256sum
 }
 
 # Whether the program is the one that was built, and of the sources that are there: so the record beside it says.
 is_current() { [ -x "$program" ] && [ "$(cat "$record" 2>/dev/null)" = "$(sources) $(sha256sum <"$program")" ]; }
 
-# Takes its turn to build, one for all scripts, since rt keeps none; the turn ends with descriptor 9.
+# Takes its turn to build, one for all scripts; the turn ends with descriptor 9.
 take_turn() {
   command -v flock >/dev/null || return 0
   flock -n 9 && return
@@ -108,45 +105,46 @@ take_turn() {
   flock 9
 }
 
-# What rt says as it proves and builds the program, and a last line with its status.
+# What rt says as it proves and builds the program, which it then runs, with no input; and a last line with its status.
 asked_rt() {
-  (cd "$here" && RT_CUT=${RT_CUT:-400} rt check "$crate") 2>&1 </dev/null
+  (cd "$here/crates/$crate" && rt run) 2>&1 >/dev/null </dev/null
   echo "ended $?"
 }
 
-# Of that, a line for each crate that it proves, and its own words where one fails. Ends with rt's status.
+# Of that, a line for each crate that it proves, by its place among all, and its own words where one fails. Ends with 0 where the
+# program was built, whatever a run of it with no input ended with.
 tell() {
-  began=$(date +%s) count=0 all=$(echo "$crates" | wc -l)
+  began=$(date +%s) all=$(echo "$crates" | wc -l) of='' ended=1
   while IFS= read -r line; do
-    proved=${line#rt: }
     case $line in
-      'rt: '*' proved (unchanged'*) count=$((count + 1)) ;;
-      'rt: '*' proved ('*)
-        count=$((count + 1))
-        say "$count of $all: ${proved%% *} proved, $(($(date +%s) - began)) s so far"
+      'crate '*': '*)
+        of=${line#crate }
+        of=${of%%:*}
         ;;
-      'rt: '*' ran'* | 'rt: ok, '*) ;;
-      'ended '*) exit "${line#ended }" ;;
-      'rt: '* | *error:*) say "$line" ;;
+      'logic=proved '*)
+        say "$(echo "$crates" | grep -nxF -e "$of" | cut -d: -f1) of $all: $of proved, $(($(date +%s) - began)) s so far"
+        ;;
+      'rt: running out/'*) ended=0 ;;
+      'ended '*) exit "$ended" ;;
+      'rt: chose --jobs '* | 'rt: nothing has changed '* | 'rt: rt '* | *': begins with what a check kept in '*) ;;
+      'logic=not-proved'*) say "$of is not proved" ;;
+      'rt: '* | *error:* | *error\[*) [ "$ended" -eq 0 ] || say "$line" ;;
     esac
   done
   exit 1
 }
 
-# Has rt prove and build the program. rt knows what it has proved, not what has become of a program since: one that is
-# gone, or that is another than was recorded of these sources, is built again.
+# Has rt prove and build the program. rt knows what it has proved and built; the record tells later runs, which need not ask it.
 build() {
   of=$(sources)
   if [ ! -x "$program" ]; then
     say "the program is not built: proving and building it, which takes some minutes"
-    rm -f "$here/target/stamp/$crate"
   elif [ ! -f "$record" ]; then
     say "nothing tells of what sources the program was built: asking rt"
   else
     say "the program is not what these sources give: proving and building what has changed"
-    case $(cat "$record") in "$of "*) rm -f "$here/target/stamp/$crate" ;; esac
   fi
-  log=$here/target/$script.log
+  log=$here/out/$script.log
   if ! asked_rt | tee "$log" | tell || [ ! -x "$program" ]; then
     die 1 "the program could not be built, and $nothing: $log has all that rt said"
   fi
@@ -157,19 +155,19 @@ build() {
 # Finds the program, built first where it is not current.
 have_program() {
   find_kit
-  program=$here/target/bin/$crate
-  record=$here/target/$script.built
+  program=$here/crates/$crate/out/$crate
+  record=$here/out/$script.built
   crates=$(crates_below)
   if ! is_current; then
-    mkdir -p "$here/target"
-    (take_turn && { is_current || build; }) 9>"$here/target/build.lock" || exit 1
+    mkdir -p "$here/out"
+    (take_turn && { is_current || build; }) 9>"$here/out/build.lock" || exit 1
   fi
 }
 
 # Runs the program. It tells its end by a word on descriptor 3: `end` is that word, and `status` the program's status.
 run_program() {
   exec 4>&1
-  end=$(${emulator:+"$emulator"} "$loader" --library-path "$tools/lib" "$program" 3>&1 >&4 4>&-)
+  end=$(${emulator:+"$emulator"} "$program" 3>&1 >&4 4>&-)
   status=$?
 }
 

@@ -1,5 +1,5 @@
-//! The other side: what answers a case. The proved program, run as the Rattle
-//! kit runs it.
+//! The other side: what answers a case. The proved program, as the Rattle kit
+//! built it.
 
 use crate::protocol::{Case, Reply, REPLY};
 use std::env;
@@ -172,14 +172,16 @@ pub fn find_program() -> io::Result<PathBuf> {
 /// repository.
 pub(crate) fn find_built(name: &str, variable: &str) -> io::Result<PathBuf> {
     let built = Path::new(env!("CARGO_MANIFEST_DIR"))
-        .join("../../target/bin")
+        .join("../../crates")
+        .join(name)
+        .join("out")
         .join(name);
     let path = env::var_os(variable).map_or(built, PathBuf::from);
     if path.is_file() {
         Ok(path)
     } else {
         Err(missing(&format!(
-            "there is no proved program at {}: run `rt check {name}`, or set {variable}",
+            "there is no proved program at {}: run `rt run` in crates/{name}, or set {variable}",
             path.display()
         )))
     }
@@ -189,36 +191,19 @@ fn missing(what: &str) -> io::Error {
     io::Error::new(ErrorKind::NotFound, what)
 }
 
-/// How the kit runs a program: under its own loader and C library, and on
-/// another processor than x86-64 under its emulator.
+/// How a program is run: as it stands, and on another processor than x86-64
+/// under an emulator.
 pub(crate) fn command(program: &Path) -> io::Result<Command> {
-    let tools = kit()?.join("on").join(env::consts::ARCH).join("toolchain");
-    let loader = tools.join("lib/ld-linux-x86-64.so.2");
-    let emulator = tools.join("bin/qemu-x86_64");
-    let mut command = if emulator.is_file() {
-        let mut command = Command::new(emulator);
-        command.arg(loader);
-        command
-    } else {
-        Command::new(loader)
-    };
-    command
-        .arg("--library-path")
-        .arg(tools.join("lib"))
-        .arg(program);
-    Ok(command)
-}
-
-/// The kit's folder: RATTLE_HOME, or the one above the folder of `rt`.
-fn kit() -> io::Result<PathBuf> {
-    if let Some(home) = env::var_os("RATTLE_HOME") {
-        return Ok(home.into());
+    if env::consts::ARCH == "x86_64" {
+        return Ok(Command::new(program));
     }
     let path = env::var_os("PATH").unwrap_or_default();
-    let rt = find(&path, "rt").ok_or_else(|| missing("rt, the Rattle kit, is not on the PATH"))?;
-    let rt = rt.canonicalize()?;
-    let home = rt.parent().and_then(Path::parent);
-    Ok(home.expect("a folder above bin/rt").to_path_buf())
+    let emulator = find(&path, "qemu-x86_64").ok_or_else(|| {
+        missing("qemu-x86_64, which a program for x86-64 needs here, is not on the PATH")
+    })?;
+    let mut command = Command::new(emulator);
+    command.arg(program);
+    Ok(command)
 }
 
 fn find(path: &OsStr, name: &str) -> Option<PathBuf> {

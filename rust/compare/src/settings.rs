@@ -20,10 +20,10 @@ usage: exos-compare [OPTION...]
   --table        also how often each kind got each answer and each edge was met,
                  or each fault was put in
 
-The proved program is target/bin/exos_answer, which rt check exos_answer builds,
+The proved program is crates/exos_answer/out/exos_answer, which rt run builds there,
 or EXOS_ANSWER. A difference is shrunk and told as a log in words, which exoslog
 encode reads; what the writer of modules is asked stands there in comments. The
-proved auditor is target/bin/exos_audit, which rt check exos_audit builds, or
+proved auditor is crates/exos_audit/out/exos_audit, which rt run builds there, or
 EXOS_AUDIT; its difference is told as the log in hex.
 
 exit status: 0 no difference, 1 a difference, 2 trouble.";

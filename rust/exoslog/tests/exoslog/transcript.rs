@@ -32,17 +32,17 @@ struct Proved {
 const PROVED: [Proved; 3] = [
     Proved {
         script: "exos-list",
-        program: "target/bin/exos_list",
+        program: "crates/exos_list/out/exos_list",
         input: "",
     },
     Proved {
         script: "exos-audit",
-        program: "target/bin/exos_audit",
+        program: "crates/exos_audit/out/exos_audit",
         input: r"\10\0\0\1\102\53\374\375\376\377\6\0\0\2\0\4\102\53",
     },
     Proved {
         script: "exos-module",
-        program: "target/bin/exos_module",
+        program: "crates/exos_module/out/exos_module",
         input: r"\0\0\0",
     },
 ];
