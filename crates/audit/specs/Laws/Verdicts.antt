@@ -9,7 +9,7 @@ use Rattle.events.specs.Laws.Front.{front-none, shorter}
 use Rattle.audit.specs.declared.Due.{Due}
 use Rattle.audit.specs.declared.Due.TheVariants.{Start, Event, Reply as ReplyTo}
 use Rattle.audit.specs.declared.Verdict.{Verdict}
-use Rattle.audit.specs.declared.Verdict.TheVariants.{Accepted as Ok, Fault}
+use Rattle.audit.specs.declared.Verdict.TheVariants.{Accepted as Passed, Fault}
 use Rattle.audit.specs.declared.Word.{Word}
 use Rattle.audit.specs.Definition.Log.{Mark, mark, first, Walks, stay, pass, Accepted, lacking_of, Stands, bad, whole, AtFault, stands, ends, FirstFault}
 use Rattle.audit.specs.Definition.Verdict.{Next, right, wrong, next, may_end, at_end, verdict_of, Means}
@@ -60,7 +60,7 @@ at-end log m w c = go _ _ refl refl
     fault : ((m.left ≡ []) × (m.state.due ≡ Event) → ⊥) → FirstFault (first log) m.number (lacking_of m.state.due)
     fault h = record { at = m; walks = w; number_is = refl; fault = ends c h }
 
-    go : (p q : Bool) → may_end m.state.due ≡ p → eqb (length m.left) 0 ≡ q → Means log (cond (p && q) Ok (Fault m.number (lacking_of m.state.due)))
+    go : (p q : Bool) → may_end m.state.due ≡ p → eqb (length m.left) 0 ≡ q → Means log (cond (p && q) Passed (Fault m.number (lacking_of m.state.due)))
     go false q e f = fault (λ h. false≢true (sym e ∙ ap may_end h.1))
     go true false e f = fault (λ h. eqb-false (length m.left) 0 f (ap length h.0))
     go true true e f = record { end = m; walks = w; over = no_bytes m.left (eqb-true _ 0 f); due = is-event m.state.due e }
@@ -82,7 +82,7 @@ verdict-means log =
       | inr (word, w) ↦ rw (e ∙ faulted w []) (record { at = d.at; walks = d.walks; number_is = refl; fault = stands w })
     ]
 
-accepted-end : (number : ℕ) (d : Due) (left : List ℕ) → left ≡ [] → d ≡ Event → at_end number d (length left) ≡ Ok
+accepted-end : (number : ℕ) (d : Due) (left : List ℕ) → left ≡ [] → d ≡ Event → at_end number d (length left) ≡ Passed
 accepted-end number d left e f = rw (e, f)
 
 fault-end : (number : ℕ) (d : Due) (left : List ℕ) → ((left ≡ []) × (d ≡ Event) → ⊥) → at_end number d (length left) ≡ Fault number (lacking_of d)
@@ -91,7 +91,7 @@ fault-end number (ReplyTo kind answer) left h = refl
 fault-end number Event left h = rw (ne_eqb (length left) 0 (λ e. h (no_bytes left e, refl)))
 
 -- an accepted log is found so
-accepted-verdict : (log : List ℕ) → Accepted log → verdict_of log ≡ Ok
+accepted-verdict : (log : List ℕ) → Accepted log → verdict_of log ≡ Passed
 accepted-verdict log p =
     let m = p.end in
     let c : front_of m.left ≡ Cut = rw p.over (sym (front-none [] (omega arith))) in
@@ -107,11 +107,11 @@ first-verdict log number word f = rw f.number_is (verdict-first log ∙ walked f
 
 -- exactly one verdict says what is so, for any bytes
 pub one-verdict : (log : List ℕ) (v : Verdict) → Means log v → v ≡ verdict_of log
-one-verdict log Ok p = sym (accepted-verdict log p)
+one-verdict log Passed p = sym (accepted-verdict log p)
 one-verdict log (Fault number word) f = sym (first-verdict log number word f)
 
 -- "It accepts exactly the logs that begin with an accepted start and whose every reply is the definition's."
-pub accepts-exactly : (log : List ℕ) → (verdict_of log ≡ Ok → Accepted log) × (Accepted log → verdict_of log ≡ Ok)
+pub accepts-exactly : (log : List ℕ) → (verdict_of log ≡ Passed → Accepted log) × (Accepted log → verdict_of log ≡ Passed)
 accepts-exactly log = (λ e. rw e at (verdict-means log), accepted-verdict log)
 
 -- "Otherwise it names the first record at fault"
