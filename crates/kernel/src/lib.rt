@@ -1,5 +1,6 @@
 // The kernel of document 01, with the orders of document 02 that have landed: its tables, its answers and its calls.
 #![tactic(auto)]
+
 use rows::{Channel, Device};
 
 pub mod answers; // the numbers and values of the answers, and a refusal

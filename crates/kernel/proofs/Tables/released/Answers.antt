@@ -1,0 +1,6 @@
+-- `Tables::released` meets its contract.
+use Rattle.kernel.proofs.Resetting.{segments-released}
+use Rattle.kernel.proofs.Tables.released.Goals as goal
+
+pub returns : goal.returns
+returns c = segments-released c.args.self _ c.release-classes.ensures

@@ -1,0 +1,6 @@
+-- `Tables::restored` meets its contract.
+use Rattle.kernel.proofs.Resetting.{devices-restored}
+use Rattle.kernel.proofs.Tables.restored.Goals as goal
+
+pub returns : goal.returns
+returns c = devices-restored c.args.self _ c.built_in-devices.ensures
