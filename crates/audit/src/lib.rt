@@ -1,5 +1,6 @@
 // The audit: a maker's log, event records each followed by a reply, to a verdict.
 #![tactic(auto)]
+
 use kernel::{Answer, Tables};
 
 pub mod replies; // one reply record against the definition's reply

@@ -1,5 +1,6 @@
 // The static library: the kernel and the writer of modules over bytes, for other languages. c/exos.h tells a C program what each argument is.
 #![tactic(auto)]
+
 ghost use Rattle.std.specs.Prelude.{◌≡◌, length};
 ghost use Rattle.kernel.specs.Definition.Answers as answers;
 ghost use Rattle.image.specs.Definition.Offsets.{SIZE};

@@ -1,5 +1,6 @@
 // The listing: a log of event records to text.
 #![tactic(auto)]
+
 use kernel::Tables;
 
 pub mod lines; // one record's line, and `bad`

@@ -1,5 +1,6 @@
 // A stream of requests and replies, to compare two implementations: a request has a call and may bring tables and RAM, or has a list of items for the writer of modules.
 #![tactic(auto)]
+
 use kernel::Tables;
 
 pub mod bytes; // numbers of four bytes

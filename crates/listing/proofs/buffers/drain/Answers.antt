@@ -41,8 +41,7 @@ loop-text-preserved c =
     let front : front_of (drop c.loop-text.at c.args.input.now) ≡ Record c.in-Record.kind c.in-Record.size = front_at c.args.input.now c.loop-text.at _ _ c.front-f.ensures c.in-Record.is in
     let fits : c.loop-text.at + 4 + c.in-Record.size ≤ length c.args.input.now = within c.args.input.now c.loop-text.at c.in-Record.kind c.in-Record.size front in
     let l = c.loop-text in
-    let r = c.record-r in
-    (
+    let r = c.record-r in (
       drain-at _ _ l.tables _ _ c.args.input.now l.at l.text l.used _ _ l.invariant.0 l.invariant.3 l.invariant.4 (omega arith) front _ _ _ _ _ r.ensures.0,
       r.ensures.1,
       omega (arith, fits),
