@@ -1,7 +1,6 @@
 -- What owning tables and devices tells: the length of a name.
 use mathlib.Core.Path.{◌≡◌}
 use mathlib.Core.List.{List}
-use Prim.Native.Nat.{ℕ}
 use lib.ListN.{length}
 use mir.Val.{Val}
 use denote.Laws.{Is}

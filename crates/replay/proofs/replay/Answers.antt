@@ -1,4 +1,4 @@
-use Rattle.std.proofs.Common.{◌≡◌, ◌∙◌, ◌+◌, ◌-◌, ◌≤◌, arith, length, drop}
+use Rattle.std.proofs.Common.{◌≡◌, ◌∙◌, ◌+◌, ◌≤◌, arith, length, drop}
 use Rattle.events.specs.declared.Front.TheVariants.{Record}
 use Rattle.events.specs.Definition.Records.{front_of}
 use Rattle.events.specs.Laws.Front.{front_at, within}

@@ -1,4 +1,4 @@
-use Rattle.std.proofs.Common.{◌≡◌, sym, ◌+◌, ◌-◌, ◌≤◌, arith, length, drop, length-take, length-drop}
+use Rattle.std.proofs.Common.{◌≡◌, sym, ◌+◌, ◌≤◌, arith, length, drop, length-take, length-drop}
 use Rattle.events.specs.declared.Front.TheVariants.{Record}
 use Rattle.events.specs.Definition.Records.{front_of}
 use Rattle.events.specs.Laws.Front.{front_at, front-none, whole, within}

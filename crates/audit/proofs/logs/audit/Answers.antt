@@ -1,5 +1,4 @@
 -- `audit::audit` meets its contract.
-use Rattle.listing.specs.Definition.NoneOrGood.{none}
 use Rattle.audit.proofs.Wholes.{log-over, log-fault}
 use Rattle.audit.proofs.logs.audit.Goals as goal
 

@@ -1,4 +1,4 @@
-use Rattle.std.proofs.Common.{◌-◌, arith}
+use Rattle.std.proofs.Common.{arith}
 use Rattle.audit.proofs.Bodies.{same_not, same-all}
 use Rattle.audit.proofs.replies.is_same.Goals as goal
 

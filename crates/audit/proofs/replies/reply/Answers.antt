@@ -1,5 +1,4 @@
 -- `audit::reply` meets its contract, test by test.
-use Rattle.std.proofs.Common.{◌-◌}
 use Rattle.audit.proofs.Bodies.{short-body, ill-body, answer-differs, a-differs, b-differs, bytes-differ, all_same}
 use Rattle.audit.proofs.replies.reply.Goals as goal
 

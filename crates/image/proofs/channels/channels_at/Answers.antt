@@ -1,4 +1,4 @@
-use Rattle.std.proofs.Common.{◌-◌, arith, length-set}
+use Rattle.std.proofs.Common.{arith, length-set}
 use Rattle.image.specs.Definition.Offsets.{CHANNEL}
 use Rattle.image.specs.Definition.Image.{channel_from}
 use Rattle.image.specs.Laws.Bytes.{row_read}

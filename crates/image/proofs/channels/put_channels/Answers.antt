@@ -1,4 +1,4 @@
-use Rattle.std.proofs.Common.{◌∙◌, ◌-◌, arith}
+use Rattle.std.proofs.Common.{◌∙◌, arith}
 use Rattle.rows.specs.Definition.Channels.{zero_channel}
 use Rattle.image.specs.Definition.Image.{channel_bytes}
 use Rattle.image.specs.Laws.Bytes.{row_put}

@@ -1,4 +1,4 @@
-use Rattle.std.proofs.Common.{◌-◌, arith, length-set}
+use Rattle.std.proofs.Common.{arith, length-set}
 use Rattle.image.specs.Definition.Offsets.{DEVICE}
 use Rattle.image.specs.Definition.Image.{device_from}
 use Rattle.image.specs.Laws.Bytes.{row_read}

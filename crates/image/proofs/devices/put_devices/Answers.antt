@@ -1,4 +1,4 @@
-use Rattle.std.proofs.Common.{◌∙◌, ◌-◌, arith}
+use Rattle.std.proofs.Common.{◌∙◌, arith}
 use Rattle.rows.specs.Definition.Devices.{beyond_devices}
 use Rattle.image.specs.Definition.Image.{device_bytes}
 use Rattle.image.specs.Laws.Bytes.{row_put}

@@ -1,4 +1,4 @@
-use Rattle.std.proofs.Common.{◌≡◌, ◌∙◌, ◌-◌, arith, take_all}
+use Rattle.std.proofs.Common.{◌≡◌, ◌∙◌, arith, take_all}
 use Rattle.image.specs.Definition.Image.{low_bytes}
 use Rattle.image.proofs.LowBytes.{length-low, low-put, low-rest}
 use Rattle.image.proofs.fields.put_low.Goals as goal

@@ -1,6 +1,5 @@
 -- `listing::list` meets its contract.
 use Rattle.std.proofs.Common.{refl, arith, length-take-le}
-use Rattle.listing.specs.Definition.NoneOrGood.{none}
 use Rattle.listing.proofs.Carries.{put-behind}
 use Rattle.listing.proofs.Wholes.{bad-first, more-first, room-left, put_first, never-full, fills, listed-bad, listed-over, listed-text}
 use Rattle.listing.proofs.pieces.list.Goals as goal

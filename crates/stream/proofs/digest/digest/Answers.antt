@@ -1,4 +1,4 @@
-use Rattle.std.proofs.Common.{◌-◌, arith}
+use Rattle.std.proofs.Common.{arith}
 use Rattle.stream.specs.Definition.Digest.{digest_of}
 use Rattle.stream.proofs.Laws.{digest-turn}
 use Rattle.stream.proofs.digest.digest.Goals as goal

@@ -1,5 +1,5 @@
 -- `fill::blank` lays a byte a turn. The invariant: the first i are laid, and the rest is to come.
-use Rattle.std.proofs.Common.{◌≡◌, ◌++◌, ◌+◌, ◌-◌, ◌≤◌, length, take, replicate}
+use Rattle.std.proofs.Common.{◌≡◌, ◌++◌, ◌-◌, ◌≤◌, length, take, replicate}
 use Rattle.stream.proofs.fill.blank.Given as goal
 
 abbrev pub invariant-loop-i : goal.invariant-loop-i

@@ -1,5 +1,5 @@
 -- `fill::fill` lays a byte a turn. The invariant: the first i are laid, and x gives the rest.
-use Rattle.std.proofs.Common.{◌≡◌, ◌++◌, ◌+◌, ◌-◌, ◌<◌, ◌≤◌, length, take}
+use Rattle.std.proofs.Common.{◌≡◌, ◌++◌, ◌-◌, ◌<◌, ◌≤◌, length, take}
 use Rattle.stream.specs.Definition.Seed.{seeded}
 use Rattle.stream.proofs.fill.fill.Given as goal
 
