@@ -34,11 +34,13 @@ def below(name):
 
 
 def link(one, other):
-    """Links a file that is never written to, and copies another."""
+    """Links a file that is never written to, where the room lies on its disk, and copies another."""
     if one.endswith(".oantt") or "/out/rlib/" in one:
-        os.link(one, other)
-    else:
-        shutil.copy2(one, other)
+        try:
+            return os.link(one, other)
+        except OSError:
+            pass
+    return shutil.copy2(one, other)
 
 
 def make(room, name, whole=False):
