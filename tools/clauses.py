@@ -1,8 +1,9 @@
 #!/usr/bin/env python3
-"""clauses.py [DIR]: takes the λ out of the clauses in which port.py leaves it, after tools/respell.py.
+"""clauses.py [DIR]: takes the λ out of the clauses in which port.py leaves it, and makes types Copy, after tools/respell.py.
 
 `ensures* { λ r. ⌜ P r ⌝ }` is `ensures { P result }`; the definition `result` of kernel, which that word would hide, is
-`result_of`, in clauses, imports, specs/ and proofs/. Run once in a repository (default: this folder).
+`result_of`, in clauses, imports, specs/ and proofs/. All types here are plain, and were copied before: they derive Clone and
+Copy in place of Drop. Run once in a repository (default: this folder).
 """
 import re
 import sys
@@ -46,7 +47,7 @@ def main(args):
     for pattern, turned in (("crates/*/src/**/*.rt", clause), ("crates/*/*/**/*.antt", definition)):
         for path in sorted(top.glob(pattern)):
             old = path.read_text(encoding="utf-8")
-            new = "\n".join(map(turned, old.split("\n")))
+            new = "\n".join(map(turned, old.split("\n"))).replace("#[derive(Drop)]", "#[derive(Clone, Copy)]")
             if new != old:
                 path.write_text(new, encoding="utf-8")
 

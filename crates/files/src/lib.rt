@@ -4,8 +4,9 @@
 ghost use Rattle.std.specs.Prelude.{◌≡◌, ◌+◌, ◌-◌, ◌≤◌, ◌<◌, length, take, drop, IfSome};
 ghost use Rattle.files.specs.Definition.Outcomes.{Brings, count_of, Fills, ReadOn, Takes};
 
-use std::fs::{Files, OpenOptions, symlink_metadata};
+use std::fs::{Files, OpenOptions, metadata, symlink_metadata};
 use std::io::{Error, ErrorKind, Read, Write};
+use std::os::unix::fs::FileTypeExt;
 
 // What a read brought: so many bytes, the end of the input, or nothing, since it failed.
 #[derive(Clone, Copy)]
@@ -175,6 +176,7 @@ pub fn write_to<W: Write>(to: &mut W, bytes: &[u8]) -> Wrote
 
 // Writes all bytes to what a descriptor other than the standard three has open, by its name in /proc/self/fd: that is opened anew, and a file is
 // written at its end. None where nothing is written, since it is closed, can't be opened or was not opened for writing, as the name's permissions tell.
+// A pipe is opened for reading too, since a named one whose reader has gone would have the program wait for another.
 pub fn write_named<F: Files>(files: &F, name: &str, bytes: &[u8]) -> Option<Wrote>
     ensures { IfSome result (Takes (length bytes.now)) }
 {
@@ -182,6 +184,11 @@ pub fn write_named<F: Files>(files: &F, name: &str, bytes: &[u8]) -> Option<Wrot
     if link.permissions().readonly() {
         return None;
     }
-    let mut file = OpenOptions::new().append(true).open(files, name).ok()?;
+    let is_pipe = metadata(files, name).ok()?.file_type().is_fifo();
+    let mut file = OpenOptions::new()
+        .read(is_pipe)
+        .append(true)
+        .open(files, name)
+        .ok()?;
     Some(write_to(&mut file, bytes))
 }

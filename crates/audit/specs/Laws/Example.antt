@@ -1,4 +1,4 @@
--- The customer's own case: a board that compares 256-byte pages grants a request four bytes too large. Its log is `logs/four_bytes.maker`, and its verdict `11 answer`.
+-- The customer's own case: a board that compares 256-byte pages grants a request four bytes too large. Its log is `logs/four-bytes.maker`, and its verdict `11 answer`.
 use Rattle.std.specs.Prelude.{◌≡◌, refl, List, [], ◌∷◌, ℕ, zero, suc, ◌+◌, ◌*◌, length, get_or, drop, replicate}
 use Rattle.std.proofs.Common.{ap, ◌∙◌, arith}
 use Rattle.std.proofs.lemmas.List.{length-replicate}
