@@ -4,9 +4,12 @@ A room has the crates that a check of one reads. Their texts are copies. The lib
 checked of it, are links to this repository's, which takes less time: rt and the prover put a new file in the place of such
 a one and write to none, as `shared` shows; those few that they do write to are copies.
 """
+import contextlib
+import fcntl
 import os
 import shutil
 import subprocess
+import tempfile
 from pathlib import Path
 
 TOP = Path(__file__).resolve().parent.parent
@@ -31,6 +34,24 @@ def below(name):
 
     visit(name)
     return found
+
+
+@contextlib.contextmanager
+def place(name):
+    """A folder for rooms, outside this repository, which is gone afterwards: always the same, since rt notes each folder in
+    which it kept work, unless another run is in it."""
+    top = Path(tempfile.gettempdir()) / f"exos-{name}-{os.getuid()}"
+    with open(f"{top}.lock", "w", encoding="ascii") as lock:
+        try:
+            fcntl.flock(lock, fcntl.LOCK_EX | fcntl.LOCK_NB)
+        except BlockingIOError:
+            top = Path(tempfile.mkdtemp(prefix=f"exos-{name}-"))
+        shutil.rmtree(top, ignore_errors=True)
+        top.mkdir(mode=0o700)
+        try:
+            yield top
+        finally:
+            shutil.rmtree(top, ignore_errors=True)
 
 
 def link(one, other):
