@@ -105,9 +105,10 @@ take_turn() {
   flock 9
 }
 
-# What rt says as it proves and builds the program, which it then runs, with no input; and a last line with its status.
+# What rt says as it proves and builds the program, which it then runs, with no input and nobody to tell its end; and a last line with its
+# status.
 asked_rt() {
-  (cd "$here/crates/$crate" && rt run) 2>&1 >/dev/null </dev/null
+  (cd "$here/crates/$crate" && rt run) 2>&1 >/dev/null </dev/null 3>&-
   echo "ended $?"
 }
 
