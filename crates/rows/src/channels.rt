@@ -1,11 +1,11 @@
 // The rows of channels, in line order.
-ghost use Rattle.std.specs.Prelude.{◌≡◌, ℕ, ◌≤◌, ◌<◌, take, get_or, replicate};
-ghost use Rattle.rows.specs.Definition.Lists.{without, up_to};
+ghost use Rattle.std.specs.Prelude.{◌≡◌, ◌≤◌, ◌<◌, ◌&&◌, drop, length};
+ghost use Rattle.std.specs.List.{list_all, enumerate_from};
+ghost use Rattle.rows.specs.Definition.Lists.{without};
 ghost use Rattle.rows.specs.Definition.Channels.{zero_channel, sum_of, row_in, found_at};
-ghost use Rattle.rows.specs.Definition.Tests.{empty_channel, rest_channel, channel_row, channel_test};
+ghost use Rattle.rows.specs.Definition.Tests.{empty_channel, lacks_number, channel_fits, channel_test};
 
-use super::numbers::{wide, wide16};
-use super::{Channel, Lookup};
+use super::Channel;
 
 // An unused row.
 pub const NO_CHANNEL: Channel = Channel {
@@ -15,112 +15,53 @@ pub const NO_CHANNEL: Channel = Channel {
     n: 0,
 };
 
-fn empty_channel(c: Channel) -> bool
-    ensures { result ≡ empty_channel c }
+// The length of the records.
+pub fn total(channels: &[Channel]) -> usize
+    requires { length channels.now ≤ 32 }
+    ensures { (result ≡ sum_of channels.now) × (result ≤ 2097632) }
 {
-    (c.number == 0) & (c.device == 0) & (c.unit == 0) & (c.n == 0)
+    channels.iter().map(|c| 16 + usize::from(c.n)).sum()
 }
 
-// The length of the first `count` records.
-pub fn total(channels: [Channel; 32], count: usize) -> usize
-    requires { count ≤ 32 }
-    ensures { (result ≡ sum_of (take count channels)) × (result ≤ 2097632) }
+// Where a channel stands.
+pub fn channel_row(channels: &[Channel], channel: u8) -> Option<usize>
+    ensures { result ≡ found_at (row_in channels.now channel) (length channels.now) }
 {
-    let mut sum: usize = 0;
-    let mut i: usize = 0;
-    while i < count {
-        let c = channels[i];
-        sum = sum + 16 + wide16(c.n);
-        i = i + 1;
-    }
-    sum
+    channels.iter().position(|c| c.number == channel)
 }
 
-// Where a channel stands among the first `opened` rows.
-pub fn channel_row(channels: [Channel; 32], opened: usize, channel: u8) -> Lookup
-    requires { opened ≤ 32 }
-    ensures { result ≡ found_at (row_in (take opened channels) channel) opened }
-{
-    let mut i: usize = 0;
-    while i < opened {
-        let c = channels[i];
-        if c.number == channel {
-            return Lookup::At(i);
-        }
-        i = i + 1;
-    }
-    Lookup::Nowhere
-}
-
-// The rows without the one at `i`, the later ones moved up, and an empty row at the end.
-pub fn without_row(channels: [Channel; 32], i: usize) -> [Channel; 32]
+// Takes out the row at `i`: the later ones move up, and an empty row comes at the end.
+pub fn remove_row(channels: &mut [Channel; 32], i: usize)
     requires { i < 32 }
-    ensures { result ≡ without i channels zero_channel }
+    ensures { channels.new ≡ without i channels.old zero_channel }
 {
-    let mut rows = channels;
-    let mut j = i;
-    while j < 31 {
-        let c = rows[j + 1];
-        rows[j] = c;
-        j = j + 1;
-    }
-    rows[j] = NO_CHANNEL;
-    rows
+    channels.copy_within(i + 1.., i);
+    channels[31] = NO_CHANNEL;
 }
 
-// The rows with the first `opened` empty, those behind them being empty already.
-pub fn emptied(channels: [Channel; 32], opened: usize) -> [Channel; 32]
-    requires { (opened ≤ 32) × ((i : ℕ) → opened ≤ i → i < 32 → get_or channels i zero_channel ≡ zero_channel) }
-    ensures { result ≡ replicate 32 zero_channel }
+fn empty(channels: &[Channel]) -> bool
+    ensures { result ≡ list_all empty_channel channels.now }
 {
-    let mut rows = channels;
-    let mut i: usize = 0;
-    while i < opened {
-        rows[i] = NO_CHANNEL;
-        i = i + 1;
-    }
-    rows
+    channels.iter().all(|c| *c == NO_CHANNEL)
 }
 
-// Rows from `opened` on are empty.
-fn empty_from(channels: [Channel; 32], opened: usize) -> bool
-    requires { opened ≤ 32 }
-    ensures { result ≡ up_to 32 (rest_channel channels opened) }
+fn lacks_number(channels: &[Channel], number: u8) -> bool
+    ensures { result ≡ lacks_number channels.now number }
 {
-    let mut ok = true;
-    let mut i = opened;
-    while i < 32 {
-        let c = channels[i];
-        ok = ok & empty_channel(c);
-        i = i + 1;
-    }
-    ok
+    channels.iter().all(|c| c.number != number)
 }
 
-// The first `opened` rows are channels, each with a number of its own and a device in the table.
-fn channels_fine(channels: [Channel; 32], opened: usize, known: usize) -> bool
-    requires { opened ≤ 32 }
-    ensures { result ≡ up_to opened (channel_row channels known) }
+// Each of these is a channel with a number of its own and a device in the table.
+fn channels_fine(channels: &[Channel], known: usize) -> bool
+    ensures { result ≡ list_all (λ x. channel_fits channels.now known x.0 x.1) (enumerate_from 0 channels.now) }
 {
-    let mut seen = [false; 256];
-    let mut ok = true;
-    let mut i: usize = 0;
-    while i < opened {
-        let c = channels[i];
-        let d = wide(c.device);
-        let k = wide(c.number);
-        ok = ok & ((c.number < 255) & (d < known) & !seen[k]);
-        seen[k] = true;
-        i = i + 1;
-    }
-    ok
+    channels.iter().enumerate().all(|(i, c)| {
+        c.number < 255 && usize::from(c.device) < known && lacks_number(&channels[..i], c.number)
+    })
 }
 
-pub fn channel_test(channels: [Channel; 32], opened: usize, known: usize) -> bool
-    ensures { result ≡ channel_test channels opened known }
+pub fn channel_test(channels: &[Channel; 32], opened: usize, known: usize) -> bool
+    ensures { result ≡ channel_test channels.now opened known }
 {
-    if 32 < opened {
-        return false;
-    }
-    channels_fine(channels, opened, known) & empty_from(channels, opened)
+    opened <= 32 && channels_fine(&channels[..opened], known) && empty(&channels[opened..])
 }

@@ -1,12 +1,13 @@
-// The rows of devices, and names: 28 bytes, of which the first n count.
-ghost use Rattle.std.specs.Prelude.{◌≡◌, false, ◌&&◌, ◌||◌, map, ◌≤◌, take, leb, ltb};
+// The rows of devices, and names: 28 bytes, of which the first n count, as the tables hold them.
+ghost use Rattle.std.specs.Prelude.{◌≡◌, map, ◌+◌, length, slice_range};
+ghost use Rattle.std.specs.List.{list_all, enumerate_from};
 ghost use Rattle.rows.specs.Definition.Lists.{up_to};
 ghost use Rattle.rows.specs.Definition.Channels.{found_at};
-ghost use Rattle.rows.specs.Definition.Devices.{new_device, enabling, built_in, same_name, same_bytes, disabled_by, has_name, device_in};
-ghost use Rattle.rows.specs.Definition.Tests.{letter_row, name_test, default_test, zero_row, empty_device, rest_device, device_row, built_test, device_test};
+ghost use Rattle.rows.specs.Definition.Devices.{new_device, built_in, same_name, disabled_by, has_name, device_in};
+ghost use Rattle.rows.specs.Definition.Tests.{capital, name_test, default_test, empty_device, lacks_name, device_fits, built_test, device_test};
 
-use super::numbers::wide;
-use super::{Device, Lookup};
+use super::Device;
+use super::segments::zeros;
 
 const VIDEO: [u8; 28] = *b"VIDEO\0\0\0\0\0\0\0\0\0\0\0\0\0\0\0\0\0\0\0\0\0\0\0";
 
@@ -43,193 +44,111 @@ pub fn built_in() -> [Device; 16]
     rows
 }
 
-fn same_bytes(a: [u8; 28], b: [u8; 28]) -> bool
-    ensures { result ≡ up_to 28 (same_bytes a b) }
-{
-    let mut ok = true;
-    let mut k: usize = 0;
-    while k < 28 {
-        ok = ok & (a[k] == b[k]);
-        k = k + 1;
+impl Device {
+    fn is_named(&self, name: &[u8; 28], n: u8) -> bool
+        ensures { result ≡ same_name self.now.name self.now.length name.now n }
+    {
+        self.length == n && self.name == *name
     }
-    ok
-}
 
-// Bytes are compared only where the lengths agree.
-fn same_name(a: [u8; 28], length_a: u8, b: [u8; 28], length_b: u8) -> bool
-    ensures { result ≡ same_name a length_a b length_b }
-{
-    if length_a != length_b {
-        return false;
+    // Enabled and so named. The empty name is no device's.
+    fn answers_to(&self, name: &[u8; 28], n: u8) -> bool
+        ensures { result ≡ has_name name.now n self.now }
+    {
+        0 < n && self.enabled && self.is_named(name, n)
     }
-    same_bytes(a, b)
-}
 
-// `d` is enabled and has this name, which is not empty.
-fn has_name(d: Device, name: [u8; 28], n: u8) -> bool
-    ensures { result ≡ has_name name n d }
-{
-    let other = d.name;
-    (0 < n) & (d.enabled & same_name(other, d.length, name, n))
-}
-
-// Where the first enabled device of this name stands among the first `known` rows.
-pub fn device_row(devices: [Device; 16], known: usize, name: [u8; 28], n: u8) -> Lookup
-    requires { known ≤ 16 }
-    ensures { result ≡ found_at (device_in (take known devices) name n) known }
-{
-    let mut i: usize = 0;
-    while i < known {
-        let d = devices[i];
-        if has_name(d, name, n) {
-            return Lookup::At(i);
-        }
-        i = i + 1;
+    fn is_empty(&self) -> bool
+        ensures { result ≡ empty_device self.now }
+    {
+        *self == NO_DEVICE
     }
-    Lookup::Nowhere
+
+    // It has a name, and is enabled exactly if no later device has its name.
+    fn fits(&self, later: &[Device]) -> bool
+        ensures { result ≡ device_fits self.now later.now }
+    {
+        1 <= self.length
+            && name_test(&self.name, self.length)
+            && self.enabled == lacks_name(later, self)
+    }
 }
 
-fn disabled(d: Device) -> Device
-    ensures { result ≡ enabling d false }
+// Where the first enabled device of this name stands.
+pub fn device_row(devices: &[Device], name: &[u8; 28], n: u8) -> Option<usize>
+    ensures { result ≡ found_at (device_in devices.now name.now n) (length devices.now) }
 {
-    let mut off = d;
-    off.enabled = false;
-    off
+    devices.iter().position(|d| d.answers_to(name, n))
 }
 
 // Each device of this name is disabled.
-pub fn disable(devices: [Device; 16], name: [u8; 28], n: u8) -> [Device; 16]
-    ensures { result ≡ map (disabled_by name n) devices }
+pub fn disable(devices: &mut [Device; 16], name: &[u8; 28], n: u8)
+    ensures { devices.new ≡ map (disabled_by name.now n) devices.old }
 {
-    let mut rows = devices;
-    let mut i: usize = 0;
-    while i < 16 {
-        let d = devices[i];
-        let other = d.name;
-        if same_name(other, d.length, name, n) {
-            rows[i] = disabled(d);
-        }
-        i = i + 1;
+    for d in devices {
+        d.enabled &= !d.is_named(name, n);
     }
-    rows
 }
 
-fn letters(name: [u8; 28], n: u8) -> bool
-    ensures { result ≡ up_to 28 (letter_row name n) }
+fn capitals(letters: &[u8]) -> bool
+    ensures { result ≡ list_all capital letters.now }
 {
-    let mut ok = true;
-    let mut i: u8 = 0;
-    while i < 28 {
-        let at = wide(i);
-        let c = name[at];
-        ok = ok & (((n <= i) & (c == 0)) | ((i < n) & (65 <= c) & (c <= 90)));
-        i = i + 1;
-    }
-    ok
+    letters.iter().all(|c| c.is_ascii_uppercase())
 }
 
 // A capital below the length, zero from it on.
-fn name_test(name: [u8; 28], n: u8) -> bool
-    ensures { result ≡ name_test name n }
+fn name_test(name: &[u8; 28], n: u8) -> bool
+    ensures { result ≡ name_test name.now n }
 {
-    (n <= 28) & letters(name, n)
-}
-
-pub fn default_test(name: [u8; 28], n: u8, unit: u8) -> bool
-    ensures { result ≡ default_test name n unit }
-{
-    name_test(name, n) & ((0 < n) | (unit == 0))
-}
-
-fn nameless(name: [u8; 28]) -> bool
-    ensures { result ≡ up_to 28 (zero_row name) }
-{
-    let mut ok = true;
-    let mut i: usize = 0;
-    while i < 28 {
-        ok = ok & (name[i] == 0);
-        i = i + 1;
-    }
-    ok
-}
-
-fn empty_device(d: Device) -> bool
-    ensures { result ≡ empty_device d }
-{
-    let name = d.name;
-    (d.length == 0) & !d.enabled & nameless(name)
-}
-
-// Rows from `known` on are empty.
-fn unused_from(devices: [Device; 16], known: usize) -> bool
-    requires { known ≤ 16 }
-    ensures { result ≡ up_to 16 (rest_device devices known) }
-{
-    let mut ok = true;
-    let mut i = known;
-    while i < 16 {
-        let d = devices[i];
-        ok = ok & empty_device(d);
-        i = i + 1;
-    }
-    ok
-}
-
-// The name of a row behind those that are built in. Their names are known.
-fn linked_named(i: usize, name: [u8; 28], n: u8) -> bool
-    ensures { result ≡ ltb i 3 || (leb 1 n && name_test name n) }
-{
-    if i < 3 {
-        return true;
-    }
-    (1 <= n) & name_test(name, n)
-}
-
-// The first `known` rows are devices, first those that are built in, each with a name, and enabled exactly if no later
-// one has its name. One function, since a call would copy all rows.
-fn devices_fine(devices: [Device; 16], known: usize) -> bool
-    requires { (3 ≤ known) × (known ≤ 16) }
-    ensures { result ≡ built_test devices && up_to known (device_row devices known) }
-{
-    let a = devices[0];
-    let b = devices[1];
-    let c = devices[2];
-    let x = a.name;
-    let y = b.name;
-    let z = c.name;
-    let built = same_name(x, a.length, VIDEO, 5)
-        & same_name(y, b.length, NET, 3)
-        & same_name(z, c.length, KEYBOARD, 8);
-    let mut ok = true;
-    let mut i: usize = 0;
-    while i < known {
-        let d = devices[i];
-        let name = d.name;
-        let n = d.length;
-        let on = d.enabled;
-        let fine = linked_named(i, name, n);
-        let mut last = true;
-        let mut j = i + 1;
-        while j < known {
-            let e = devices[j];
-            let other = e.name;
-            last = last & !same_name(other, e.length, name, n);
-            j = j + 1;
-        }
-        ok = ok & (fine & ((on & last) | (!on & !last)));
-        i = i + 1;
-    }
-    built & ok
-}
-
-pub fn device_test(devices: [Device; 16], known: usize) -> bool
-    ensures { result ≡ device_test devices known }
-{
-    if known < 3 {
+    if 28 < n {
         return false;
     }
-    if 16 < known {
-        return false;
-    }
-    devices_fine(devices, known) & unused_from(devices, known)
+    let n = usize::from(n);
+    capitals(&name[..n]) && zeros(&name[n..])
+}
+
+pub fn default_test(name: &[u8; 28], n: u8, unit: u8) -> bool
+    ensures { result ≡ default_test name.now n unit }
+{
+    name_test(name, n) && (0 < n || unit == 0)
+}
+
+fn unused(devices: &[Device]) -> bool
+    ensures { result ≡ list_all empty_device devices.now }
+{
+    devices.iter().all(|d| d.is_empty())
+}
+
+fn lacks_name(devices: &[Device], d: &Device) -> bool
+    ensures { result ≡ lacks_name devices.now d.now }
+{
+    devices.iter().all(|e| !e.is_named(&d.name, d.length))
+}
+
+// First come the devices that are built in.
+fn built_test(devices: &[Device; 16]) -> bool
+    ensures { result ≡ built_test devices.now }
+{
+    devices[0].is_named(&VIDEO, 5)
+        && devices[1].is_named(&NET, 3)
+        && devices[2].is_named(&KEYBOARD, 8)
+}
+
+fn devices_fine(devices: &[Device]) -> bool
+    ensures { result ≡ list_all (λ x. device_fits x.1 (slice_range devices.now (x.0 + 1) (length devices.now))) (enumerate_from 0 devices.now) }
+{
+    devices
+        .iter()
+        .enumerate()
+        .all(|(i, d)| d.fits(&devices[i + 1..]))
+}
+
+pub fn device_test(devices: &[Device; 16], known: usize) -> bool
+    ensures { result ≡ device_test devices.now known }
+{
+    3 <= known
+        && known <= 16
+        && built_test(devices)
+        && devices_fine(&devices[..known])
+        && unused(&devices[known..])
 }

@@ -1,9 +1,7 @@
 -- The rows of channels: the sum of their records, and the place of a channel.
-use Rattle.std.specs.Prelude.{cond, List, [], ◌∷◌, ℕ, ◌+◌, ltb, eqb}
+use Rattle.std.specs.Prelude.{cond, List, [], ◌∷◌, Option, Some, None, ℕ, ◌+◌, ltb, eqb}
 use Rattle.rows.specs.Definition.Lists.{first_where}
 use Rattle.rows.specs.declared.Channel.{Channel}
-use Rattle.rows.specs.declared.Lookup.{Lookup}
-use Rattle.rows.specs.declared.Lookup.TheVariants.{At, Nowhere}
 
 abbrev pub new_channel : (number device unit n : ℕ) → Channel
 new_channel number device unit n = record { number = number; device = device; unit = unit; n = n }
@@ -22,5 +20,5 @@ abbrev pub row_in : List Channel → ℕ → ℕ
 row_in rows channel = first_where (λ (row : Channel). eqb row.number channel) rows
 
 -- a place among the first n rows, as the code says it
-abbrev pub found_at : ℕ → ℕ → Lookup
-found_at i n = cond (ltb i n) (At i) Nowhere
+abbrev pub found_at : ℕ → ℕ → Option ℕ
+found_at i n = cond (ltb i n) (Some i) None

@@ -1,7 +1,6 @@
 -- Searches, counts and tests over lists, which antt computes.
-use Rattle.std.specs.Prelude.{Bool, true, cond, ◌&&◌, List, [], ◌∷◌, ◌++◌, ℕ, zero, suc, ◌+◌, ◌-◌, length, get_or, take, drop, replicate, eqb}
-use Rattle.rows.specs.declared.Lookup.{Lookup}
-use Rattle.rows.specs.declared.Lookup.TheVariants.{At, Nowhere}
+use Rattle.std.specs.List.{list_all, position_or_len}
+use Rattle.std.specs.Prelude.{Bool, true, cond, ◌&&◌, List, [], ◌∷◌, ◌++◌, Option, Some, None, ℕ, zero, suc, ◌+◌, ◌-◌, length, get_or, take, drop, replicate, eqb}
 
 -- what stands at a place of a list of numbers, 0 beyond its end
 abbrev pub at : List ℕ → ℕ → ℕ
@@ -17,26 +16,24 @@ without i xs z = (take i xs ++ drop (suc i) xs) ++ (z ∷ [])
 
 -- every element passes the test
 abbrev pub every : {A : Type 0} → (A → Bool) → List A → Bool
-every p [] = true
-every p (x ∷ xs) = p x && every p xs
+every p xs = list_all p xs
 
 -- the place of the first element that passes the test, or the length where there is none
 abbrev pub first_where : {A : Type 0} → (A → Bool) → List A → ℕ
-first_where p [] = 0
-first_where p (x ∷ xs) = cond (p x) 0 (suc (first_where p xs))
+first_where p xs = position_or_len p xs
 
 -- the place of the first k
 abbrev pub first_place : ℕ → List ℕ → ℕ
 first_place k xs = first_where (λ (x : ℕ). eqb x k) xs
 
 -- behind a first element: what was found there, one place further on, or the first element itself
-abbrev pub last_from : Lookup → (first : Bool) → Lookup
-last_from (At i) first = At (suc i)
-last_from Nowhere first = cond first (At 0) Nowhere
+abbrev pub last_from : Option ℕ → (first : Bool) → Option ℕ
+last_from (Some i) first = Some (suc i)
+last_from None first = cond first (Some 0) None
 
 -- the place of the last k, if there is one
-abbrev pub last_of : ℕ → List ℕ → Lookup
-last_of k [] = Nowhere
+abbrev pub last_of : ℕ → List ℕ → Option ℕ
+last_of k [] = None
 last_of k (x ∷ xs) = last_from (last_of k xs) (eqb x k)
 
 -- how many elements are k

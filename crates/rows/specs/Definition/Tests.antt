@@ -1,5 +1,6 @@
 -- The parts of good tables as tests that the code computes: every row of every array is asked.
 use Rattle.std.specs.Prelude.{Bool, cond, not, ◌&&◌, ◌||◌, List, ℕ, ◌+◌, ◌-◌, length, get_or, take, leb, ltb, eqb}
+use Rattle.std.specs.List.{list_all}
 use Rattle.rows.specs.Definition.Lists.{at, padded, up_to, tally}
 use Rattle.rows.specs.Definition.Classes.{FREE, SHARED, times_held}
 use Rattle.rows.specs.Definition.Channels.{zero_channel}
@@ -17,9 +18,13 @@ rise_row xs n i = leb n (i + 1) || ltb (at xs i) (at xs (i + 1))
 abbrev pub list_test : List ℕ → ℕ → Bool
 list_test xs n = leb 2 n && leb n 32 && up_to 31 (rise_row xs n) && ltb 7 (at xs 0) && eqb (at xs (n - 1)) 255 && up_to 32 (rest_row xs n)
 
--- row 0 has no class, each other row below n has one
+-- row 0 has no class, each other row has one
+abbrev pub class_fits : ℕ → ℕ → Bool
+class_fits i class = cond (eqb i 0) (eqb class 0) (leb FREE class && leb class SHARED)
+
+-- asked of the rows below n
 abbrev pub class_row : List ℕ → ℕ → ℕ → Bool
-class_row cs n i = leb n i || cond (eqb i 0) (eqb (at cs i) 0) (leb FREE (at cs i) && leb (at cs i) SHARED)
+class_row cs n i = leb n i || class_fits i (at cs i)
 
 abbrev pub class_test : List ℕ → ℕ → Bool
 class_test cs n = up_to 32 (class_row cs n) && up_to 32 (rest_row cs n)
@@ -29,8 +34,12 @@ abbrev pub chain_row : List ℕ → ℕ → ℕ → ℕ → Bool
 chain_row chain held n i = leb held i || ltb (at chain i) n
 
 -- row i, of this class, stands k times in the chain, as often as its class says; a shared one is the chain's last
+abbrev pub stands : ℕ → ℕ → ℕ → ℕ → Bool
+stands class k last i = eqb k (times_held class) && (not (eqb class SHARED) || eqb last i)
+
+-- asked of the rows below n
 abbrev pub stands_row : ℕ → ℕ → ℕ → ℕ → ℕ → Bool
-stands_row class k last n i = leb n i || (eqb k (times_held class) && (not (eqb class SHARED) || eqb last i))
+stands_row class k last n i = leb n i || stands class k last i
 
 abbrev pub exact_row : List ℕ → List ℕ → ℕ → ℕ → ℕ → ℕ → Bool
 exact_row cs chain held last n i = stands_row (at cs i) (tally i (take held chain)) last n i
@@ -62,8 +71,19 @@ abbrev pub channel_row : List Channel → ℕ → ℕ → Bool
 channel_row cs known i =
     ltb (get_or cs i zero_channel).number 255 && ltb (get_or cs i zero_channel).device known && up_to i (differ_row cs i)
 
+-- none of these has this number
+abbrev pub lacks_number : List Channel → ℕ → Bool
+lacks_number cs number = list_all (λ (c : Channel). not (eqb c.number number)) cs
+
+-- c, which is row i, has a number of its own and a device in the table
+abbrev pub channel_fits : List Channel → ℕ → ℕ → Channel → Bool
+channel_fits cs known i c = ltb c.number 255 && ltb c.device known && lacks_number (take i cs) c.number
+
 abbrev pub channel_test : List Channel → ℕ → ℕ → Bool
 channel_test cs opened known = leb opened 32 && up_to opened (channel_row cs known) && up_to 32 (rest_channel cs opened)
+
+abbrev pub capital : ℕ → Bool
+capital c = leb 65 c && leb c 90
 
 -- a capital below the length, zero from it on
 abbrev pub letter_row : List ℕ → ℕ → ℕ → Bool
@@ -97,6 +117,14 @@ abbrev pub device_row : List Device → ℕ → ℕ → Bool
 device_row ds known i =
     leb 1 (get_or ds i beyond_devices).length && name_test (get_or ds i beyond_devices).name (get_or ds i beyond_devices).length
     && agree (get_or ds i beyond_devices).enabled (up_to known (alias_row ds i))
+
+-- none of these has the name of d
+abbrev pub lacks_name : List Device → Device → Bool
+lacks_name ds d = list_all (λ (e : Device). not (same_name e.name e.length d.name d.length)) ds
+
+-- d, before these, has a name, and is enabled exactly if none of these has it
+abbrev pub device_fits : Device → List Device → Bool
+device_fits d later = leb 1 d.length && name_test d.name d.length && agree d.enabled (lacks_name later d)
 
 -- row i has the name s
 abbrev pub named_row : List Device → ℕ → List ℕ → Bool

@@ -1,10 +1,12 @@
 -- The channel rows: one more, one less, none.
-use Rattle.std.specs.Prelude.{◌≡◌, refl, cond, false, List, [], ◌∷◌, ◌++◌, ℕ, zero, suc, ◌+◌, ◌-◌, ◌≤◌, ◌<◌, eqb, ltb, length, get_or, take, drop, set, replicate}
-use Rattle.std.proofs.Common.{sym, ◌∙◌, add-one, le_of_suc-le-suc, not-suc-le-zero, arith, eq-eqb, lt-ltb, le-ltb, length-append, length-take, length-drop, take-suc, take-suc-set, get_or-set_same, get_or-set_other, get_or-take}
+use Rattle.std.specs.Prelude.{◌≡◌, cond, false, List, [], ◌∷◌, ◌++◌, ℕ, zero, suc, ◌+◌, ◌-◌, ◌≤◌, ◌<◌, eqb, ltb, length, get_or, take, drop, set, replicate}
+use Rattle.std.proofs.Common.{sym, ◌∙◌, add-one, le_of_suc-le-suc, not-suc-le-zero, arith, eq-eqb, lt-ltb, le-ltb, length-append, length-take, take-suc, take-suc-set, get_or-set_same, get_or-set_other, get_or-take}
 use Rattle.std.proofs.lemmas.Bool.{false≢true}
 use Rattle.std.proofs.Math.Decide.{dec_lt, ℕ_discrete}
 use Rattle.std.proofs.lemmas.List.{get_or-replicate, take-append-le}
 use Rattle.std.proofs.Math.ListN.{get_or-append}
+use Rattle.std.specs.List.{remove}
+use Rattle.std.proofs.lemmas.List.Edits.{length-remove, get_or-remove_below, get_or-remove_above}
 use Rattle.std.proofs.Math.Seq.{get_or-append_seam}
 use Rattle.rows.specs.Definition.Lists.{without}
 use Rattle.rows.specs.Laws.Lists.{where-absent}
@@ -33,34 +35,23 @@ from-rises i j k h =
     ]
 
 module _ {A : Type 0} (z d : A) where
-  without-low : (i : ℕ) (xs : List A) (j : ℕ) → j < i → i < length xs → get_or (without i xs z) j d ≡ get_or xs j d
-  without-low i [] j h l = absurd (not-suc-le-zero l)
-  without-low zero (x ∷ xs) j h l = absurd (not-suc-le-zero h)
-  without-low (suc i) (x ∷ xs) zero h l = refl
-  without-low (suc i) (x ∷ xs) (suc j) h l = without-low i xs j (le_of_suc-le-suc h) (le_of_suc-le-suc l)
-
-  without-high : (i : ℕ) (xs : List A) (j : ℕ) → i ≤ j → suc j < length xs → get_or (without i xs z) j d ≡ get_or xs (suc j) d
-  without-high i [] j h l = absurd (not-suc-le-zero l)
-  without-high zero (x ∷ xs) j h l = get_or-append xs (z ∷ []) d j (le_of_suc-le-suc l)
-  without-high (suc i) (x ∷ xs) zero h l = absurd (not-suc-le-zero h)
-  without-high (suc i) (x ∷ xs) (suc j) h l = without-high i xs j (le_of_suc-le-suc h) (le_of_suc-le-suc l)
-
   pub without_at : (i : ℕ) (xs : List A) (j : ℕ) → i < length xs → suc j < length xs → get_or (without i xs z) j d ≡ get_or xs (from i j) d
   without_at i xs j h l =
-      elim (dec_lt j i) [
-        | yes q ↦ rw (from_low i j q) (without-low i xs j q h)
-        | no q ↦ rw (from-high i j (omega arith)) (without-high i xs j (omega arith) l)
+      let long = length-remove xs i h in
+      get_or-append (remove xs i) (z ∷ []) d j (omega arith)
+      ∙ elim (dec_lt j i) [
+        | yes q ↦ rw (from_low i j q) (get_or-remove_below xs i d j q h)
+        | no q ↦ rw (from-high i j (omega arith)) (get_or-remove_above xs i d j (omega arith) h ∙ rw add-one)
       ]
 
   pub without_end : (i : ℕ) (xs : List A) (j : ℕ) → i < length xs → suc j ≡ length xs → get_or (without i xs z) j d ≡ z
-  without_end i [] j h l = absurd (not-suc-le-zero h)
-  without_end zero (x ∷ xs) j h l = let e : j ≡ length xs = omega arith in rw e (get_or-append_seam xs z [] d)
-  without_end (suc i) (x ∷ xs) zero h l = absurd (omega arith)
-  without_end (suc i) (x ∷ xs) (suc j) h l = without_end i xs j (le_of_suc-le-suc h) (omega arith)
+  without_end i xs j h l =
+      let long = length-remove xs i h in
+      let e : j ≡ length (remove xs i) = omega arith in
+      rw e (get_or-append_seam (remove xs i) z [] d)
 
   pub length_without : (i : ℕ) (xs : List A) → i < length xs → length (without i xs z) ≡ length xs
-  length_without i xs h =
-      omega (arith, length-append (take i xs ++ drop (suc i) xs) (z ∷ []), length-append (take i xs) (drop (suc i) xs), length-take i xs, length-drop (suc i) xs)
+  length_without i xs h = omega (arith, length-append (remove xs i) (z ∷ []), length-remove xs i h)
 
 -- the sum of the records: of two parts, without one, with one put behind
 pub sum-append : (xs ys : List Channel) → sum_of (xs ++ ys) ≡ sum_of xs + sum_of ys

@@ -1,11 +1,12 @@
 -- Counts: how often a number stands in a list, after a store, and over all rows.
-use Rattle.std.specs.Prelude.{◌≡◌, refl, Bool, true, false, cond, List, [], ◌∷◌, ◌++◌, ℕ, zero, suc, ◌+◌, ◌≤◌, ◌<◌, eqb, length, get_or, take, drop, set}
-use Rattle.std.proofs.Common.{ap, sym, ◌∙◌, suc-le-suc, le_of_suc-le-suc, not-suc-le-zero, arith, add-one, eq-eqb, ne_eqb, eqb-true, take-append-drop, take-suc}
+use Rattle.std.specs.Prelude.{◌≡◌, refl, Bool, true, false, cond, List, [], ◌∷◌, ◌++◌, Some, None, ℕ, zero, suc, ◌+◌, ◌≤◌, ◌<◌, eqb, length, get_or, take, drop, set}
+use Rattle.std.proofs.Common.{ap, sym, ◌∙◌, suc-le-suc, le_of_suc-le-suc, not-suc-le-zero, arith, eq-eqb, ne_eqb, eqb-true, take-append-drop, take-suc}
 use Rattle.std.proofs.lemmas.Bool.{false≢true}
+use Rattle.std.proofs.lemmas.List.Recursion.{is_sum_by}
 use Rattle.std.proofs.Math.Decide.{dec_le, ℕ_discrete}
+use Rattle.std.specs.List.{count_by}
 use Rattle.rows.specs.Definition.Lists.{tally, last_of, first_place, sum_to}
 use Rattle.rows.specs.Laws.Lists.{where_found, where-absent}
-use Rattle.rows.specs.declared.Lookup.TheVariants.{At, Nowhere}
 
 -- 1 if x is k
 abbrev pub one : ℕ → ℕ → ℕ
@@ -38,11 +39,11 @@ tally-some k (x ∷ xs) (suc i) h e = omega (arith, tally-some k xs i (le_of_suc
 -- where some k is, last_of says where
 pub record Found (k : ℕ) (xs : List ℕ) : Type 0 where
   pub place : ℕ
-  pub is : last_of k xs ≡ At place
+  pub is : last_of k xs ≡ Some place
   pub within : place < length xs
   pub here : get_or xs place 0 ≡ k
 
-pub last-zero : (k : ℕ) (xs : List ℕ) → tally k xs ≡ 0 → last_of k xs ≡ Nowhere
+pub last-zero : (k : ℕ) (xs : List ℕ) → tally k xs ≡ 0 → last_of k xs ≡ None
 last-zero k [] e = refl
 last-zero k (x ∷ xs) e =
     let z : tally k xs ≡ 0 = omega arith in
@@ -129,9 +130,6 @@ first_found k xs h = eqb-true (get_or xs (first_place k xs) 0) k (where_found (�
 pub first-none : (k : ℕ) (xs : List ℕ) → length xs ≤ first_place k xs → (i : ℕ) → i < length xs → get_or xs i 0 ≡ k → ⊥
 first-none k xs h i l e = false≢true (sym (where-absent (λ (x : ℕ). eqb x k) xs 0 h i l) ∙ eq-eqb (get_or xs i 0) k e)
 
--- one row further: it is k, or not
-pub tally-more : (k : ℕ) (xs : List ℕ) (i : ℕ) → i < length xs → get_or xs i 0 ≡ k → tally k (take (i + 1) xs) ≡ tally k (take i xs) + 1
-tally-more k xs i h e = rw (add-one i) (omega (arith, tally-suc k xs i h, one-yes k (get_or xs i 0) e))
-
-pub tally-same : (k : ℕ) (xs : List ℕ) (i : ℕ) → i < length xs → (get_or xs i 0 ≡ k → ⊥) → tally k (take (i + 1) xs) ≡ tally k (take i xs)
-tally-same k xs i h e = rw add-one (omega (arith, tally-suc k xs i h, one-no k (get_or xs i 0) e))
+-- a tally is std's count
+pub tally_is : (k : ℕ) (xs : List ℕ) → tally k xs ≡ count_by (λ x. eqb x k) xs
+tally_is k xs = is_sum_by (tally k) (λ x. cond (eqb x k) 1 0) refl (λ _ _. refl) xs

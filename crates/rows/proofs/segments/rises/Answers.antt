@@ -1,16 +1,19 @@
-use Rattle.std.proofs.Common.{rules, ◌≡◌, refl, ◌∙◌, ◌+◌, ◌-◌, arith, le-leb}
-use borrow.Author.Tests.{lt-leb}
-use Rattle.rows.specs.Definition.Lists.{up_to}
-use Rattle.rows.specs.Laws.Lists.{row_more, not-excused, up_to-rest}
-use Rattle.rows.specs.Definition.Tests.{rise_row}
+-- `segments::rises` meets its contract.
+use Rattle.std.proofs.Common.{rules, ◌≡◌, ◌∙◌, sym, ℕ, Bool, true, false, ltb, List, length, ◌-◌, ◌+◌, arith}
+use Rattle.std.specs.List.{IsAllAdjacentAnswer}
+use Rattle.std.proofs.lemmas.Fn.{always_returns_same}
+use Rattle.std.proofs.lemmas.Bool.{false≢true}
+use Rattle.rows.specs.Definition.Lists.{at, up_to}
+use Rattle.rows.specs.Laws.Lists.{up_to→all, all→up_to, is_false}
 use Rattle.rows.proofs.segments.rises.Goals as goal
 
-pub loop-i-init : goal.loop-i-init
-unfolding up_to
-loop-i-init c = (search rules, refl)
+abbrev rise : List ℕ → ℕ → Bool
+rise xs i = ltb (at xs i) (at xs (i + 1))
 
-pub loop-i-preserved : goal.loop-i-preserved
-loop-i-preserved c = (search rules, row_more (rise_row c.args.xs c.args.n) _ _ _ c.loop-i.invariant.1 (not-excused _ _ (lt-leb c.args.n (c.loop-i.i + 1) (omega arith))))
+-- each element and the next were asked, as far as one failed
+asked : (xs : List ℕ) (r : Bool) → IsAllAdjacentAnswer (λ x y b. b ≡ ltb x y) xs r → r ≡ up_to (length xs - 1) (rise xs)
+asked xs true h = sym (all→up_to (length xs - 1) (rise xs) (λ i l. sym (h i 0 (omega arith))))
+asked xs false (i, l, h) = sym (is_false _ (λ t. false≢true (h 0 ∙ up_to→all (length xs - 1) (rise xs) t i (omega arith))))
 
 pub returns : goal.returns
-returns c = let n = c.args.n in let e : c.loop-i.i ≡ n - 1 = omega arith in (rw e at c.loop-i.invariant.1) ∙ up_to-rest (n - 1) 31 _ (omega arith) (λ i a b. rw (le-leb n (i + 1) (omega arith)))
+returns c = asked c.args.list.now c.is_sorted_by.result (c.is_sorted_by.ensures.cases ltb (always_returns_same _ _ _ (λ a r q k. search rules)))
