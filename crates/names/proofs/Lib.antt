@@ -1,2 +1,2 @@
 -- Laws that the functions' proofs cite.
-pub mod Branches
+pub mod Steps

@@ -1,10 +1,21 @@
-use Rattle.std.proofs.Common.{rules}
-use Rattle.names.specs.Laws.Numbers.{value-step, value-ends, capped_le}
+use Rattle.std.proofs.Common.{◌≡◌, ◌<◌, ◌+◌, ◌-◌, ◌*◌, get_or, arith, ◌∙◌}
+use Rattle.names.specs.Laws.Numbers.{value-over, value-ends}
 use Rattle.names.proofs.value_of.Goals as goal
 
-pub loop-i-preserved : goal.loop-i-preserved
-loop-i-preserved c =
-    (search rules, rw c.with_digit-n.ensures (capped_le _), rw c.with_digit-n.ensures (value-step _ _ _ _ c.loop-i-test.true c.loop-i.invariant.2))
+pub returns-in_err-checked_mul : goal.returns-in_err-checked_mul
+returns-in_err-checked_mul c =
+    let l = c.loop-digit in
+    let over : l.n * 10 < 256 → ⊥ = c.in_err-checked_mul.ensures in
+    c.from_residual.ensures ∙ value-over c.args.digits.now l.digit-index l.n _ (omega arith) l.invariant.0 (omega arith)
+
+pub returns-in_err-n : goal.returns-in_err-n
+returns-in_err-n c =
+    let l = c.loop-digit in
+    let tens : (l.n * 10 < 256) × (c.in_ok-checked_mul.field-0 ≡ l.n * 10) = c.in_ok-checked_mul.ensures in
+    let over : c.in_ok-checked_mul.field-0 + (get_or c.args.digits.now l.digit-index 0 - 48) < 256 → ⊥ = c.in_err-n.ensures in
+    c.from_residual-in_err-n.ensures ∙ value-over c.args.digits.now l.digit-index l.n _ (omega arith) l.invariant.0 (omega arith)
 
 pub returns : goal.returns
-returns c = value-ends _ _ _ _ c.loop-i-test.false c.loop-i.invariant.1 c.loop-i.invariant.2
+returns c =
+    let l = c.loop-digit in
+    value-ends c.args.digits.now l.digit-index l.n _ (omega arith) (omega arith) l.invariant.0

@@ -1,11 +1,7 @@
--- `value_of` is the digits' value, capped. The loop's invariant: reading on from `n`, which is at most 256, gives the whole value, capped.
-use Rattle.std.proofs.Common.{◌≤◌, ◌-◌, ◌≡◌, length, drop}
+-- `value_of` reads on from `n`, and the value of the whole stays the same.
+use Rattle.std.proofs.Common.{◌≡◌, ◌≤◌, drop}
 use Rattle.names.specs.Definition.Grammar.{value}
-use Rattle.names.specs.Within.Capped.{capped}
 use Rattle.names.proofs.value_of.Given as goal
 
-abbrev pub invariant-loop-i : goal.invariant-loop-i
-invariant-loop-i l = (l.i ≤ length l.digits) × (l.n ≤ 256) × (capped (value l.n (drop l.i l.digits)) ≡ capped (value 0 l.digits))
-
-abbrev pub decreases-loop-i : goal.decreases-loop-i
-decreases-loop-i l = length l.digits - l.i
+abbrev pub invariant-loop-digit : goal.invariant-loop-digit
+invariant-loop-digit l = (value l.n (drop l.digit-index l.digits) ≡ value 0 l.digits) × (l.n ≤ 255)

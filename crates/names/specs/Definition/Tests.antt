@@ -1,5 +1,6 @@
 -- The rules on single bytes and on runs of them as tests that compute.
-use Rattle.std.specs.Prelude.{ℕ, suc, Bool, not, cond, ◌&&◌, ◌||◌, List, [], ◌∷◌, length, leb, eqb}
+use Rattle.std.specs.Prelude.{ℕ, Bool, not, ◌&&◌, ◌||◌, List, length, leb, eqb}
+use Rattle.std.specs.List.{take_while}
 use Rattle.names.specs.declared.Kind.{Kind}
 use Rattle.names.specs.declared.Kind.TheVariants.{Capital, Letter, Digit, FileByte, BeforeColon}
 
@@ -12,8 +13,7 @@ of_kind BeforeColon b = not (eqb b 58)
 
 -- how many bytes at the front are of the kind
 unfoldable pub run_of : Kind → List ℕ → ℕ
-run_of k [] = 0
-run_of k (b ∷ bs) = cond (of_kind k b) (suc (run_of k bs)) 0
+run_of k bs = length (take_while (of_kind k) bs)
 
 unfoldable pub all_of : Kind → List ℕ → Bool
 unfolding run_of

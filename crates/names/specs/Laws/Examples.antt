@@ -1,15 +1,13 @@
 -- The strings of 01's case 10, and those at the edges of the rules, by computation.
-use Rattle.std.specs.Prelude.{◌≡◌, refl, [], ◌∷◌, ◌++◌, replicate}
+use Rattle.std.specs.Prelude.{◌≡◌, refl, [], ◌∷◌, ◌++◌, replicate, Some, None}
 use Rattle.std.proofs.Math.Option.{none, some}
 use Rattle.names.specs.Definition.Grammar.{no-unit, plain, file-only, full}
 use Rattle.names.specs.Definition.Words.{word_of}
 use Rattle.names.specs.Definition.Read.{reading}
 use Rattle.names.specs.Definition.Parts.{parts_of}
-use Rattle.names.specs.declared.UnitNumber.TheVariants.{Given, Absent}
-use Rattle.names.specs.declared.Parts.TheVariants.{Read}
 
 -- "-3:"
-minus-three : parts_of (reading (45 ∷ 51 ∷ 58 ∷ [])) ≡ Read 0 (Given 3) 3
+minus-three : parts_of (reading (45 ∷ 51 ∷ 58 ∷ [])) ≡ Some (record { letters = 0; unit = Some 3; file = 3 })
 unfolding reading
 minus-three = refl
 
@@ -23,7 +21,7 @@ net-seven : reading (110 ∷ 101 ∷ 116 ∷ 48 ∷ 55 ∷ 58 ∷ []) ≡ some (
 unfolding reading
 net-seven = refl
 
-net-seven-parts : parts_of (reading (110 ∷ 101 ∷ 116 ∷ 48 ∷ 55 ∷ 58 ∷ [])) ≡ Read 3 (Given 7) 6
+net-seven-parts : parts_of (reading (110 ∷ 101 ∷ 116 ∷ 48 ∷ 55 ∷ 58 ∷ [])) ≡ Some (record { letters = 3; unit = Some 7; file = 6 })
 unfolding reading
 net-seven-parts = refl
 
@@ -58,7 +56,7 @@ unfolding reading
 two-colons = refl
 
 -- "255:" and "256:"
-highest-unit : parts_of (reading (50 ∷ 53 ∷ 53 ∷ 58 ∷ [])) ≡ Read 0 (Given 255) 4
+highest-unit : parts_of (reading (50 ∷ 53 ∷ 53 ∷ 58 ∷ [])) ≡ Some (record { letters = 0; unit = Some 255; file = 4 })
 unfolding reading
 highest-unit = refl
 
@@ -67,12 +65,12 @@ unfolding reading
 unit-too-high = refl
 
 -- 250 zeros and "7:"
-long-unit : parts_of (reading (replicate 250 48 ++ (55 ∷ 58 ∷ []))) ≡ Read 0 (Given 7) 252
+long-unit : parts_of (reading (replicate 250 48 ++ (55 ∷ 58 ∷ []))) ≡ Some (record { letters = 0; unit = Some 7; file = 252 })
 unfolding reading
 long-unit = refl
 
 -- 255 bytes are taken, and 256 are not
-longest : parts_of (reading (replicate 254 48 ++ (58 ∷ []))) ≡ Read 0 (Given 0) 255
+longest : parts_of (reading (replicate 254 48 ++ (58 ∷ []))) ≡ Some (record { letters = 0; unit = Some 0; file = 255 })
 unfolding reading
 longest = refl
 
@@ -81,7 +79,7 @@ unfolding reading
 too_long = refl
 
 -- 28 letters and 28 bytes of a file are taken, and 29 are not
-letters-28 : parts_of (reading (replicate 28 65 ++ (58 ∷ replicate 28 126))) ≡ Read 28 Absent 29
+letters-28 : parts_of (reading (replicate 28 65 ++ (58 ∷ replicate 28 126))) ≡ Some (record { letters = 28; unit = None; file = 29 })
 unfolding reading
 letters-28 = refl
 

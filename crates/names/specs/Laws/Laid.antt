@@ -1,7 +1,9 @@
 -- Laws of upper-casing and of words laid in 28 bytes.
-use Rattle.std.specs.Prelude.{ℕ, zero, suc, ◌+◌, ◌-◌, ◌≤◌, ◌<◌, min, ◌≡◌, refl, List, [], ◌∷◌, ◌++◌, map, length, get_or, take, set, replicate}
-use Rattle.std.proofs.Common.{sym, ap, ◌∙◌, append_assoc, length-take, take-suc, take_all, take-take, length-take-le, le-leb, arith, add-one, inl, inr}
-use Rattle.std.proofs.lemmas.List.{map-append, length-map, set_at}
+use Rattle.std.specs.Char.{to_ascii_uppercase}
+use Rattle.std.proofs.Common.{lt-ltb, le-ltb}
+use Rattle.std.specs.Prelude.{ℕ, zero, suc, ◌-◌, ◌≤◌, ◌<◌, min, ◌≡◌, refl, List, [], ◌∷◌, ◌++◌, map, length, take, drop, replicate}
+use Rattle.std.proofs.Common.{sym, ap, ◌∙◌, length-take, take_all, take-take, length-take-le, le-leb, arith, inl, inr}
+use Rattle.std.proofs.lemmas.List.{map-append, length-map, drop-replicate}
 use Rattle.std.proofs.lemmas.Bool.{lt-leb}
 use Rattle.std.proofs.Math.Decide.{dec_le}
 use Rattle.names.specs.Definition.Grammar.{All, Capital, Letter}
@@ -19,31 +21,27 @@ pub upper-small : (b : ℕ) → 97 ≤ b → b ≤ 122 → upper b ≡ b - 32
 unfolding upper
 upper-small b l h = rw (le-leb 97 b l, le-leb b 122 h)
 
--- ---- a word, laid byte by byte
+-- std's upper case
+pub upper-ascii : (b : ℕ) → to_ascii_uppercase b ≡ upper b
+upper-ascii b = go (dec_le 97 b) (dec_le b 122)
+  where
+    go : Dec (97 ≤ b) → Dec (b ≤ 122) → to_ascii_uppercase b ≡ upper b
+    go (no a) c = rw (upper-below b (omega arith), lt-ltb b 97 (omega arith))
+    go (yes a) (yes c) = rw (upper-small b a c, le-ltb b 97 a, lt-ltb b 123 (omega arith))
+    go (yes a) (no c) = rw (upper-above b a (omega arith), le-ltb b 97 a, le-ltb b 123 (omega arith))
 
-pub word-empty : (s : List ℕ) → replicate 28 0 ≡ word_of (take 0 s)
+-- ---- a word, laid in 28 bytes
+
+upper-zeros : (n : ℕ) → map upper (replicate n 0) ≡ replicate n 0
+unfolding upper
+upper-zeros zero = refl
+upper-zeros (suc n) = ap (λ (w : List ℕ). 0 ∷ w) (upper-zeros n)
+
+word-laid : (s : List ℕ) (n : ℕ) → n ≤ 28 → n ≤ length s → map upper (take n s ++ replicate (28 - n) 0) ≡ word_of (take n s)
 unfolding word_of upper_all
-word-empty s = refl
-
-word-front : (s : List ℕ) (i : ℕ) → i ≤ 28 → i ≤ length s → word_of (take i s) ≡ map upper (take i s) ++ replicate (28 - i) 0
-unfolding word_of upper_all
-word-front s i h l =
-    let n : length (take i s) ≡ i = length-take-le i s l in
-    rw (take_all 28 (take i s) (omega arith), n)
-
-pub word_more : (s : List ℕ) (i : ℕ) → i < 28 → i < length s → set (word_of (take i s)) i (upper (get_or s i 0)) ≡ word_of (take (i + 1) s)
-word_more s i h l =
-    let front = map upper (take i s) in
-    let b = upper (get_or s i 0) in
-    let n : 28 - i ≡ suc (28 - (i + 1)) = omega arith in
-    let long : length front ≡ i = length-map (take i s) upper ∙ length-take-le i s (omega arith) in
-    let more : map upper (take (i + 1) s) ≡ front ++ (b ∷ []) = rw (add-one, take-suc s i 0 l) (map-append upper (take i s) (get_or s i 0 ∷ [])) in
-    ap (λ (w : List ℕ). set w i b) (word-front s i (omega arith) (omega arith))
-    ∙ ap (λ (k : ℕ). set (front ++ replicate k 0) i b) n
-    ∙ set_at front 0 (replicate (28 - (i + 1)) 0) b i long
-    ∙ sym (append_assoc front (b ∷ []) (replicate (28 - (i + 1)) 0))
-    ∙ ap (λ (w : List ℕ). w ++ replicate (28 - (i + 1)) 0) (sym more)
-    ∙ sym (word-front s (i + 1) (omega arith) (omega arith))
+word-laid s n h l =
+    let long : length (take n s) ≡ n = length-take-le n s l in
+    rw (map-append, upper-zeros, take_all 28 (take n s) (omega arith), long)
 
 word-of-28 : (s : List ℕ) (n : ℕ) → 28 ≤ n → 28 ≤ length s → word_of (take 28 s) ≡ word_of (take n s)
 unfolding word_of upper_all
@@ -53,7 +51,7 @@ word-of-28 s n h l =
     rw (take-take 28 28 s (omega arith), take-take 28 n s h, a, b)
 
 -- only so many bytes count as there are, and as find room
-pub word-whole : (s : List ℕ) (n : ℕ) → word_of (take (min 28 (min n (length s))) s) ≡ word_of (take n s)
+word-whole : (s : List ℕ) (n : ℕ) → word_of (take (min 28 (min n (length s))) s) ≡ word_of (take n s)
 word-whole s n = go (dec_le n (length s)) (dec_le 28 n) (dec_le 28 (length s))
   where
     go : Dec (n ≤ length s) → Dec (28 ≤ n) → Dec (28 ≤ length s) → word_of (take (min 28 (min n (length s))) s) ≡ word_of (take n s)
@@ -63,6 +61,21 @@ word-whole s n = go (dec_le n (length s)) (dec_le 28 n) (dec_le 28 (length s))
     go (no a) b (no c) =
         let e : min 28 (min n (length s)) ≡ length s = omega arith in
         rw (e, take_all (length s) s (omega arith), take_all n s (omega arith))
+
+upper-all-ascii : (bs : List ℕ) → map to_ascii_uppercase bs ≡ map upper bs
+upper-all-ascii [] = refl
+upper-all-ascii (b ∷ bs) = rw (upper-ascii b, upper-all-ascii bs)
+
+-- the first n of 28 zeros are bytes of s, and all is in capitals
+pub word-copied : (s : List ℕ) (n count : ℕ) → n ≡ min (min count (length s)) 28
+    → map to_ascii_uppercase (take n s ++ drop n (replicate 28 0)) ≡ word_of (take count s)
+word-copied s n count e =
+    let m : n ≡ min 28 (min count (length s)) = omega arith in
+    upper-all-ascii (take n s ++ drop n (replicate 28 0))
+    ∙ ap (λ (z : List ℕ). map upper (take n s ++ z)) (drop-replicate n 28 0)
+    ∙ word-laid s n (omega arith) (omega arith)
+    ∙ ap (λ (k : ℕ). word_of (take k s)) m
+    ∙ word-whole s count
 
 -- ---- a word says which name it is
 

@@ -1,8 +1,9 @@
 -- The tests of Tests.antt hold exactly where the rules of Grammar.antt do; laws of runs.
-use Rattle.std.specs.Prelude.{ℕ, suc, ◌+◌, ◌≤◌, ◌<◌, ◌≡◌, refl, Bool, true, false, not, ◌&&◌, ◌||◌, ◌≢◌, ◌⊎◌, List, [], ◌∷◌, ◌++◌, length, get_or, take, drop, leb, eqb}
-use Rattle.std.proofs.Common.{ap, ◌∙◌, inl, inr, drop_of_length-le, drop-cons, le-leb, leb-true, eq-eqb, eqb-true, ne_eqb, arith, add-one}
+use Rattle.std.specs.Prelude.{ℕ, suc, ◌+◌, ◌≤◌, ◌<◌, ◌≡◌, refl, Bool, true, false, not, ◌&&◌, ◌≢◌, ◌⊎◌, List, [], ◌∷◌, ◌++◌, length, get_or, take, leb, eqb}
+use Rattle.std.proofs.Common.{ap, ◌∙◌, inl, inr, le-leb, leb-true, eq-eqb, eqb-true, ne_eqb, arith}
 use Rattle.std.proofs.Math.Bool.{and-eq-true_iff}
-use Rattle.std.proofs.lemmas.Bool.{eqb-false, not-true}
+use Rattle.std.proofs.lemmas.Bool.{eqb-false, not-true, or_cases, or_right, false_from_ne_true}
+use Rattle.std.specs.List.{prefix_len}
 use Rattle.names.specs.Definition.Grammar as grammar
 use Rattle.names.specs.Definition.Grammar.{All, FileRule}
 use Rattle.names.specs.Definition.Words.{LinkName, DefaultName}
@@ -17,14 +18,6 @@ KindRule Letter = grammar.Letter
 KindRule Digit = grammar.Digit
 KindRule FileByte = grammar.FileByte
 KindRule BeforeColon = λ b. b ≢ 58
-
-or_cases : (a b : Bool) → (a || b) ≡ true → (a ≡ true) ⊎ (b ≡ true)
-or_cases true b e = inl refl
-or_cases false b e = inr e
-
-or_right : (a b : Bool) → b ≡ true → (a || b) ≡ true
-or_right true b e = refl
-or_right false b e = e
 
 between-right : (a c b : ℕ) → (leb a b && leb b c) ≡ true → (a ≤ b) × (b ≤ c)
 between-right a c b e =
@@ -59,18 +52,16 @@ kind-finds Digit b h = between-finds 48 57 b h.0 h.1
 kind-finds FileByte b h = rw (between-finds 33 126 b h.0 h.1, ne_eqb b 58 h.2)
 kind-finds BeforeColon b h = rw (ne_eqb b 58 h)
 
-is_false : (t : Bool) → ¬ (t ≡ true) → t ≡ false
-is_false true h = absurd (h refl)
-is_false false h = refl
-
 kind-not : (k : Kind) (b : ℕ) → ¬ KindRule k b → of_kind k b ≡ false
-kind-not k b h = is_false (of_kind k b) (λ e. h (kind-right k b e))
+kind-not k b h = false_from_ne_true (of_kind k b) (λ e. h (kind-right k b e))
 
 -- ---- runs
 
 run-yes : (k : Kind) (b : ℕ) (bs : List ℕ) → of_kind k b ≡ true → run_of k (b ∷ bs) ≡ suc (run_of k bs)
 unfolding run_of
-run-yes k b bs e = rw e
+run-yes k b bs e =
+    let one : 1 + prefix_len (of_kind k) bs ≡ suc (prefix_len (of_kind k) bs) = omega arith in
+    rw (e, one)
 
 run-no : (k : Kind) (b : ℕ) (bs : List ℕ) → of_kind k b ≡ false → run_of k (b ∷ bs) ≡ 0
 unfolding run_of
@@ -139,25 +130,6 @@ all_right k bs e = all-run k bs (eqb-true (run_of k bs) (length bs) e)
 pub all-finds : (k : Kind) (bs : List ℕ) → All (KindRule k) bs → all_of k bs ≡ true
 unfolding all_of
 all-finds k bs h = eq-eqb (run_of k bs) (length bs) (run-all k bs h)
-
--- ---- a run, counted byte by byte
-
-pub run_step : (k : Kind) (bs : List ℕ) (i : ℕ) → i < length bs → of_kind k (get_or bs i 0) ≡ true → run_of k bs ≡ i + run_of k (drop i bs)
-    → run_of k bs ≡ i + 1 + run_of k (drop (i + 1) bs)
-run_step k bs i h e r =
-    let one : run_of k (drop i bs) ≡ suc (run_of k (drop (suc i) bs)) = rw (drop-cons bs i 0 h) (run-yes k _ _ e) in
-    rw (add-one i) (omega arith)
-
-pub run-stops : (k : Kind) (bs : List ℕ) (i : ℕ) → i < length bs → of_kind k (get_or bs i 0) ≡ false → run_of k bs ≡ i + run_of k (drop i bs)
-    → i ≡ run_of k bs
-run-stops k bs i h e r =
-    let none : run_of k (drop i bs) ≡ 0 = rw (drop-cons bs i 0 h) (run-no k _ _ e) in
-    omega arith
-
-pub run_ends : (k : Kind) (bs : List ℕ) (i : ℕ) → length bs ≤ i → run_of k bs ≡ i + run_of k (drop i bs) → i ≡ run_of k bs
-run_ends k bs i h r =
-    let none : run_of k (drop i bs) ≡ 0 = rw (drop_of_length-le bs h) (run-empty k) in
-    omega arith
 
 -- ---- the tests of parts
 
