@@ -1,11 +1,8 @@
--- `line::runs::put_fall` meets its contract. The invariant: the first i bytes are put.
-use Rattle.std.proofs.Common.{◌≡◌, ◌-◌, ◌≤◌, length}
-use Rattle.line.specs.Definition.Ram.{bytes_from, put_from}
-use Rattle.line.specs.Within.Runs.{fall, rise}
+-- `runs::put_fall` has put the first i bytes.
+use Rattle.std.proofs.Common.{◌≡◌, take}
+use Rattle.line.specs.Definition.Ram.{put_from}
+use Rattle.line.specs.Within.Runs.{fall}
 use Rattle.line.proofs.runs.put_fall.Given as goal
 
 abbrev pub invariant-loop-i : goal.invariant-loop-i
-invariant-loop-i l = (l.ram ≡ put_from (fall l.d) l.initial.ram 0 (bytes_from (rise l.k) l.xs 0 l.i)) × (l.i ≤ l.n) × (length l.ram ≡ length l.initial.ram)
-
-abbrev pub decreases-loop-i : goal.decreases-loop-i
-decreases-loop-i l = l.n - l.i
+invariant-loop-i l = l.ram ≡ put_from (fall l.d) l.initial.ram 0 (take l.i l.xs)
