@@ -1,6 +1,8 @@
 // Relocatable modules: a stream of bits that holds items, judged and stored by one reader.
 #![tactic(auto)]
 
+ghost use Rattle.std.specs.Prelude.{◌≡◌};
+
 mod bits; // what is held of the stream, bits of it, and how many an item wants
 mod location; // the location counter: relocation and moves
 pub mod items; // an item of its bits, and what it does
@@ -17,6 +19,7 @@ pub enum Item {
 }
 
 // The location counter: a page (0 to 3) and an offset (0 to 16,384, past the end).
+// Its range is a `requires`, `Counts`, and no invariant of the type: the definitions judge any start, one past its range too.
 #[derive(Clone, Copy)]
 pub struct Counter {
     pub page: u8,
@@ -31,10 +34,9 @@ pub struct Target {
     pub page: u8,
 }
 
-// What a stream is judged to be: a whole module of so many bytes without fault, or what its first item at fault is refused for.
+// What a stream is refused for: it is no module, or its first item is outside the page, above the user boundary or guarded.
 #[derive(Clone, Copy)]
-pub enum Judged {
-    Whole(u16),
+pub enum Refusal {
     Module,
     Page,
     Range,
@@ -47,14 +49,15 @@ pub enum Stop {
     End,
     Illegal,
     Exhausted,
-    Page,
-    Range,
-    Guard,
+    Refused(Refusal),
 }
 
-// What comes of an item: the next counter, or a stop.
-#[derive(Clone, Copy)]
-pub enum Act {
-    Next(Counter),
-    Halt(Stop),
+impl From<Refusal> for Stop {
+    ghost use Rattle.modules.specs.declared.Stop.TheVariants.{Refused};
+
+    ghost from_gives = { λ why stop. stop ≡ Refused why };
+
+    fn from(why: Refusal) -> Stop {
+        Stop::Refused(why)
+    }
 }

@@ -3,28 +3,29 @@ ghost use Rattle.std.specs.Prelude.{◌≡◌, ◌≤◌};
 ghost use Rattle.modules.specs.Definition.Counter.{value_of, relocated, landing};
 
 use super::Counter;
-use std::num::wrapping_add_u16;
 
-// The address of the counter.
-fn value(c: Counter) -> u16
-    requires { c.page ≤ 3 }
-    ensures { result ≡ value_of c }
-{
-    wrapping_add_u16(16384 * (c.page as u16), c.offset)
-}
+impl Counter {
+    // The address of the counter.
+    fn value(self) -> u16
+        requires { self.page ≤ 3 }
+        ensures { result ≡ value_of self }
+    {
+        (16384 * u16::from(self.page)).wrapping_add(self.offset)
+    }
 
-// "relocation adds the location counter and drops any carry out of 16 bits"
-pub fn relocate(c: Counter, word: u16) -> u16
-    requires { c.page ≤ 3 }
-    ensures { result ≡ relocated c word }
-{
-    wrapping_add_u16(word, value(c))
-}
+    // "relocation adds the location counter and drops any carry out of 16 bits"
+    pub(crate) fn relocate(self, word: u16) -> u16
+        requires { self.page ≤ 3 }
+        ensures { result ≡ relocated self word }
+    {
+        word.wrapping_add(self.value())
+    }
 
-// "A move adds 16 bits likewise": the address where it lands.
-pub fn land(c: Counter, x: u16) -> u16
-    requires { c.page ≤ 3 }
-    ensures { result ≡ landing c x }
-{
-    wrapping_add_u16(value(c), x)
+    // "A move adds 16 bits likewise": the address where it lands.
+    pub(crate) fn land(self, x: u16) -> u16
+        requires { self.page ≤ 3 }
+        ensures { result ≡ landing self x }
+    {
+        self.value().wrapping_add(x)
+    }
 }

@@ -1,85 +1,90 @@
 // The reader of a module's stream: it judges the stream, or stores its items.
-ghost use Rattle.std.specs.Prelude.{◌≡◌, ◌+◌, ◌*◌, ◌%◌, ◌<◌, ◌≤◌, length, drop};
-ghost use Rattle.modules.specs.Definition.Reading.{looked_at, stream_bits};
+ghost use Rattle.std.specs.Prelude.{◌≡◌, ◌+◌, ◌*◌, ◌%◌, ◌<◌, ◌≤◌, length, drop, IfOk};
+ghost use Rattle.modules.specs.Definition.Bits.{bits_in};
+ghost use Rattle.modules.specs.Definition.Reading.{looked_at};
 ghost use Rattle.modules.specs.Definition.Judging.{judged};
 ghost use Rattle.modules.specs.Within.Codes.{item_of};
 ghost use Rattle.modules.specs.Definition.Counter.{Counts};
-ghost use Rattle.modules.specs.Within.Acts.{Counting, act_of, act_puts, put_where, settled};
+ghost use Rattle.modules.specs.Within.Acts.{act_of, act_puts, put_where, settled};
 ghost use Rattle.modules.specs.Within.Scan.{stored_before};
 
 use super::bits::{bits_of, wanted, window};
-use super::items::{item_of, judge_item, store_where};
-use super::{Act, Counter, Judged, Stop, Target};
+use super::items::{item_of, judge_item, store_item};
+use super::{Counter, Refusal, Stop, Target};
 
 // What comes of an item once all its bits are there, and its bytes stored where the reading stores.
-fn perform(code: usize, c: Counter, target: Target, storing: bool, ram: &mut [u8]) -> Act
+#[tactic(auto, using(crate::specs::Laws::Acts::item_paged), unfolding(crate::specs::Within::Acts::act_of))]
+fn perform(
+    code: usize,
+    c: Counter,
+    target: Target,
+    storing: bool,
+    ram: &mut [u8],
+) -> Result<Counter, Stop>
     requires { Counts c × (target.page ≤ 3) × (16384 * target.row + 16384 ≤ length ram.old) }
     ensures acts { result ≡ act_of target c code }
-    ensures counts { Counting result }
+    ensures counts { IfOk result (λ d. Counts d) }
     ensures stores { ram.new ≡ put_where storing (16384 * target.row) ram.old (act_puts result c (item_of code)) }
 {
-    if code == 14 {
-        return Act::Halt(Stop::End);
-    }
-    if code == 15 {
-        return Act::Halt(Stop::Illegal);
+    match code {
+        14 => return Err(Stop::End),
+        15 => return Err(Stop::Illegal),
+        _ => {}
     }
     let item = item_of(code);
-    let act = judge_item(item, c, target);
-    match act {
-        Act::Next(_) => {
-            store_where(storing, ram, 16384 * target.row, c, item);
-        }
-        Act::Halt(_) => {}
+    let next = judge_item(item, c, target)?;
+    if storing {
+        store_item(ram, 16384 * target.row, c, item);
     }
-    act
+    Ok(next)
 }
 
-// How many bytes of the stream are looked at.
-fn looked(stream: &[u8]) -> usize
-    ensures { (result ≡ length (looked_at stream.now)) × (result ≤ 65535) × (result ≤ length stream.now) }
+// The bytes of the stream that are looked at.
+fn looked(stream: &[u8]) -> &[u8]
+    ensures { (result.now ≡ looked_at stream.now) × (length result.now ≤ 65535) }
 {
-    if stream.len() < 65535 {
-        stream.len()
-    } else {
-        65535
-    }
+    &stream[..stream.len().min(65535)]
 }
 
 // What the stop that the reading yields is judged to be.
-fn settle(stream: &[u8], at: usize, stop: Stop) -> Judged
-    requires { at ≤ 8 * length (looked_at stream.now) }
-    ensures { result ≡ settled (length (looked_at stream.now)) stop (drop at (stream_bits stream.now)) }
+fn settle(seen: &[u8], at: usize, stop: Stop) -> Result<u16, Refusal>
+    requires { (at ≤ 8 * length seen.now) × (length seen.now ≤ 65535) }
+    ensures { result ≡ settled (length seen.now) stop (drop at (bits_in seen.now)) }
 {
     match stop {
         Stop::End => {
-            let left = (8 - at % 8) % 8;
-            if bits_of(window(stream, at / 8), 32 - at % 8 - left, left) == 0 {
-                Judged::Whole(((at + 7) / 8) as u16)
+            let end = at.next_multiple_of(8);
+            if bits_of(window(seen, at / 8), 8 * (at / 8) + 32 - end, end - at) == 0 {
+                Ok((end / 8) as u16)
             } else {
-                Judged::Module
+                Err(Refusal::Module)
             }
         }
-        Stop::Illegal => Judged::Module,
-        Stop::Exhausted => Judged::Module,
-        Stop::Page => Judged::Page,
-        Stop::Range => Judged::Range,
-        Stop::Guard => Judged::Guard,
+        Stop::Illegal | Stop::Exhausted => Err(Refusal::Module),
+        Stop::Refused(why) => Err(why),
     }
 }
 
 // Reads items "until the end item, an illegal item or the end of input breaks off the reading".
-pub fn read(stream: &[u8], start: Counter, target: Target, storing: bool, ram: &mut [u8]) -> Judged
+// `storing` is a flag and no closure: a closure would say in clauses of its own again what it leaves in the RAM.
+pub fn read(
+    stream: &[u8],
+    start: Counter,
+    target: Target,
+    storing: bool,
+    ram: &mut [u8],
+) -> Result<u16, Refusal>
     requires { Counts start × (target.page ≤ 3) × (16384 * target.row + 16384 ≤ length ram.old) }
     ensures judges { result ≡ judged target start stream.now }
     ensures stores { ram.new ≡ put_where storing (16384 * target.row) ram.old (stored_before target start stream.now) }
 {
-    let end = 8 * looked(stream);
+    let seen = looked(stream);
+    let end = 8 * seen.len();
     let mut at: usize = 0;
     let mut c = start;
     let stop = 'reader: loop {
         let first = at / 8;
-        let held = window(stream, first);
+        let held = window(seen, first);
         let mut code: usize = 1;
         let mut left: usize = 3;
         while 0 < left {
@@ -91,15 +96,10 @@ pub fn read(stream: &[u8], start: Counter, target: Target, storing: bool, ram: &
             at = next;
             left = wanted(code);
         }
-        let act = perform(code, c, target, storing, ram);
-        match act {
-            Act::Next(next) => {
-                c = next;
-            }
-            Act::Halt(why) => {
-                break why;
-            }
+        match perform(code, c, target, storing, ram) {
+            Ok(next) => c = next,
+            Err(why) => break why,
         }
     };
-    settle(stream, at, stop)
+    settle(seen, at, stop)
 }

@@ -9,8 +9,8 @@ use Rattle.modules.specs.declared.Item.{Item}
 use Rattle.modules.specs.declared.Item.TheVariants.{Move}
 use Rattle.modules.specs.declared.Counter.{Counter}
 use Rattle.modules.specs.declared.Target.{Target}
-use Rattle.modules.specs.declared.Judged.{Judged}
-use Rattle.modules.specs.declared.Judged.TheVariants.{Module, Page, Range, Guard}
+use Rattle.modules.specs.declared.Refusal.{Refusal}
+use Rattle.modules.specs.declared.Refusal.TheVariants.{Module, Page, Range, Guard}
 
 -- "input that runs out": no whole item stands first
 pub record RunsOut (bits : List Bit) : Type 0 where
@@ -57,7 +57,7 @@ pub record Begins (bits : List Bit) (i : Item) (rest : List Bit) : Type 0 where
   pub are : bits ≡ item_bits i ++ rest
 
 -- the bits are refused, from this counter on: "The first item at fault decides; at one item that order."
-pub data Refused (g : Target) : Counter → List Bit → Judged → Type 0 where
+pub data Refused (g : Target) : Counter → List Bit → Refusal → Type 0 where
   -- 19 MODULE "for an illegal item, input that runs out or bad padding"
   illegal : {c : Counter} {bits : List Bit} (rest : List Bit) → bits ≡ illegal_bits ++ rest → Refused g c bits Module
   runs-out : {c : Counter} {bits : List Bit} → RunsOut bits → Refused g c bits Module
@@ -67,5 +67,5 @@ pub data Refused (g : Target) : Counter → List Bit → Judged → Type 0 where
   guard : {c : Counter} {bits : List Bit} {i : Item} {rest : List Bit} → Begins bits i rest → ¬ Outside c i → ¬ Above g c i → Touches g c i
       → Refused g c bits Guard
   -- an item without fault stands first
-  behind : {c : Counter} {bits : List Bit} {i : Item} {rest : List Bit} {f : Judged} → Begins bits i rest → Faultless g c i → Refused g (after g.page c i) rest f
+  behind : {c : Counter} {bits : List Bit} {i : Item} {rest : List Bit} {f : Refusal} → Begins bits i rest → Faultless g c i → Refused g (after g.page c i) rest f
       → Refused g c bits f

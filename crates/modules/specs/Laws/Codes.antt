@@ -1,28 +1,17 @@
 -- How many bits a code wants, and the item it is.
-use Rattle.std.specs.Prelude.{◌≡◌, ℕ, ◌+◌, ◌-◌, ◌*◌, ◌/◌, ◌%◌, ◌^◌, ◌<◌, ◌≤◌, Bool, true, false, ◌==◌, ◌≢◌, nat_lt, refl}
+use Rattle.std.specs.Prelude.{◌≡◌, ℕ, ◌+◌, ◌-◌, ◌*◌, ◌%◌, ◌^◌, ◌<◌, ◌≤◌, Bool, true, false, ◌==◌, ◌≢◌, nat_lt, refl}
 use Rattle.std.proofs.Common.{mul-le-mul_right, pow_mono, pow-add}
-use Rattle.std.proofs.Math.Decide.{dec_le, dec_lt}
+use Rattle.std.proofs.Math.Decide.{dec_le}
 use native.Mathlib.Omega.{arith}
 use borrow.Author.Tests.{lt-ltb, le-ltb, ltb-true, ne_eqb, eqb-true}
 use Rattle.modules.specs.Within.Codes.{wants, item_of, Coded}
-use Rattle.modules.specs.declared.Item.TheVariants.{Byte, Word, SetPage, Restore, Move}
+use Rattle.modules.specs.declared.Item.TheVariants.{Byte, Word, SetPage, Move}
 
 pub wants-left : (code left : ℕ) → 0 < left → left ≡ wants code left
 unfolding wants
 wants-left code left h = rw (lt-ltb 0 left h)
 
-pub wants-few : (code : ℕ) → code ≤ 12 → 6 + 10 * (code / 12) ≡ wants code 0
-unfolding wants
-wants-few code h =
-    elim (dec_lt code 12) [
-      | yes l ↦ let z : code / 12 ≡ 0 = omega arith in rw (lt-ltb code 12 l, z)
-      | no l ↦ let e : code ≡ 12 = omega arith in rw e
-    ]
-
-pub wants-key : (code k r : ℕ) → code ≡ k → r ≡ wants k 0 → r ≡ wants code 0
-wants-key code k r e q = rw e q
-
-pub wants-none : (code : ℕ) → 12 < code → (code ≢ 13) → (code ≢ 52) → (code ≢ 54) → (code ≢ 55) → 0 ≡ wants code 0
+wants-none : (code : ℕ) → 12 < code → (code ≢ 13) → (code ≢ 52) → (code ≢ 54) → (code ≢ 55) → 0 ≡ wants code 0
 unfolding wants
 wants-none code h a b d e =
     let l : 12 ≤ code = omega arith in
@@ -33,10 +22,6 @@ pub wants-high : (code : ℕ) → 56 ≤ code → wants code 0 ≡ 0
 wants-high code h = rw (← wants-none code (omega arith) (λ q. omega arith) (λ q. omega arith) (λ q. omega arith) (λ q. omega arith))
 
 module _ (code : ℕ) where
-  pub item-restore : code ≡ 53 → Restore ≡ item_of code
-  unfolding item_of
-  item-restore e = rw e
-
   module _ (a : code ≡ 53 → ⊥) where
     pub item-page : code < 256 → SetPage (code % 4) ≡ item_of code
     unfolding item_of
@@ -84,9 +69,6 @@ module _ (taken code left : ℕ) (h : Coded taken code left) (some : 0 < left) w
 
   pub shifted-is : code * 2 ^ left % 18446744073709551616 ≡ code * 2 ^ left
   shifted-is = omega (arith, shifted-few)
-
-  pub shifted_fits : code * 2 ^ left % 18446744073709551616 ≤ 3604480
-  shifted_fits = omega (arith, shifted-few)
 
   -- an item with those it wants has at most 21 bits
   pub taken-few : taken + left ≤ 21

@@ -1,5 +1,5 @@
 -- Small modules and bad streams, by computation: as they are read, as their items' bits, and as they are judged.
-use Rattle.std.specs.Prelude.{◌≡◌, ℕ, List, [], ◌∷◌, ◌++◌, replicate}
+use Rattle.std.specs.Prelude.{◌≡◌, ℕ, List, [], ◌∷◌, ◌++◌, replicate, Ok, Err}
 use Rattle.std.proofs.Math.Path.{refl}
 use Rattle.modules.specs.Definition.Bits.{Bit, O, bits_in}
 use Rattle.modules.specs.Definition.Items.{item_bits, end_bits, all_bits}
@@ -10,7 +10,7 @@ use Rattle.modules.specs.declared.Item.{Item}
 use Rattle.modules.specs.declared.Item.TheVariants.{Byte, Word, SetPage, Restore, Move}
 use Rattle.modules.specs.declared.Counter.{Counter}
 use Rattle.modules.specs.declared.Target.{Target}
-use Rattle.modules.specs.declared.Judged.TheVariants.{Whole, Module, Page}
+use Rattle.modules.specs.declared.Refusal.TheVariants.{Module, Page}
 
 -- one item, the end item and so many zeros
 abbrev alone : Item → (padding : ℕ) → Taken
@@ -75,41 +75,41 @@ move-bits = refl
 
 -- from any counter, for any target
 module _ (g : Target) (c : Counter) where
-  empty-whole : judged g c (192 ∷ []) ≡ Whole 1
+  empty-whole : judged g c (192 ∷ []) ≡ Ok 1
   unfolding judged taken_in bits_in
   empty-whole = refl
 
   -- C0h FFh: bytes behind the end item's last are not looked at
-  more-behind : judged g c (192 ∷ 255 ∷ []) ≡ Whole 1
+  more-behind : judged g c (192 ∷ 255 ∷ []) ≡ Ok 1
   unfolding judged taken_in bits_in
   more-behind = refl
 
   -- C1h: a bit of the padding is not zero
-  bad-padding : judged g c (193 ∷ []) ≡ Module
+  bad-padding : judged g c (193 ∷ []) ≡ Err Module
   unfolding judged taken_in bits_in
   bad-padding = refl
 
   -- E0h
-  illegal-item : judged g c (224 ∷ []) ≡ Module
+  illegal-item : judged g c (224 ∷ []) ≡ Err Module
   unfolding judged taken_in bits_in
   illegal-item = refl
 
-  nothing : judged g c [] ≡ Module
+  nothing : judged g c [] ≡ Err Module
   unfolding judged taken_in bits_in
   nothing = refl
 
   -- 00h: a byte whose last bit is missing
-  cut-byte : judged g c (0 ∷ []) ≡ Module
+  cut-byte : judged g c (0 ∷ []) ≡ Err Module
   unfolding judged taken_in bits_in
   cut-byte = refl
 
 -- 4000h on from page 3 is page 0
-next-page : (g : Target) → judged g (counter 3 0) (180 ∷ 0 ∷ 12 ∷ []) ≡ Page
+next-page : (g : Target) → judged g (counter 3 0) (180 ∷ 0 ∷ 12 ∷ []) ≡ Err Page
 unfolding judged taken_in bits_in
 next-page g = refl
 
 -- 16,384 is past the end: a move by 0 from there, B0h 00h 0Ch, is none within the page
-past_the_end : (g : Target) → judged g (counter 0 16384) (176 ∷ 0 ∷ 12 ∷ []) ≡ Page
+past_the_end : (g : Target) → judged g (counter 0 16384) (176 ∷ 0 ∷ 12 ∷ []) ≡ Err Page
 unfolding judged taken_in bits_in
 past_the_end g = refl
 
@@ -135,7 +135,7 @@ back-and-again : puts_in 0 5 (85 ∷ 95 ∷ 255 ∷ 250 ∷ 239 ∷ 0 ∷ []) �
 unfolding taken_in bits_in
 back-and-again = refl
 
-back-and-again-whole : judged (record { row = 1; reach = 16384; page = 0 }) (counter 0 5) (85 ∷ 95 ∷ 255 ∷ 250 ∷ 239 ∷ 0 ∷ []) ≡ Whole 6
+back-and-again-whole : judged (record { row = 1; reach = 16384; page = 0 }) (counter 0 5) (85 ∷ 95 ∷ 255 ∷ 250 ∷ 239 ∷ 0 ∷ []) ≡ Ok 6
 unfolding judged taken_in bits_in
 back-and-again-whole = refl
 
@@ -154,6 +154,6 @@ set-then-moved : puts_in 0 5 (167 ∷ 127 ∷ 255 ∷ 224 ∷ 28 ∷ []) ≡ put
 unfolding taken_in bits_in
 set-then-moved = refl
 
-set-then-moved-whole : judged (record { row = 1; reach = 16384; page = 0 }) (counter 0 5) (167 ∷ 127 ∷ 255 ∷ 224 ∷ 28 ∷ []) ≡ Whole 5
+set-then-moved-whole : judged (record { row = 1; reach = 16384; page = 0 }) (counter 0 5) (167 ∷ 127 ∷ 255 ∷ 224 ∷ 28 ∷ []) ≡ Ok 5
 unfolding judged taken_in bits_in
 set-then-moved-whole = refl

@@ -1,11 +1,10 @@
 -- The bits from a position of a stream on, out of four bytes.
-use Rattle.std.specs.Prelude.{◌≡◌, ℕ, zero, suc, ◌+◌, ◌-◌, ◌*◌, ◌/◌, ◌%◌, ◌^◌, ◌<◌, ◌≤◌, List, [], ◌∷◌, ◌++◌, length, take, drop, slice_index, slice_index_or, refl}
-use Rattle.std.proofs.Common.{sym, ap, ◌∙◌, append_assoc, arith, length-take, length-drop, length-append, take-append-drop, shr-shr, get_or-drop, drop-drop, take_at, take_all, length-take-le}
-use Rattle.std.proofs.lemmas.List.{drop-append-le, take-append-le}
+use Rattle.std.specs.Prelude.{◌≡◌, ℕ, zero, suc, ◌+◌, ◌-◌, ◌*◌, ◌/◌, ◌%◌, ◌^◌, ◌<◌, ◌≤◌, min, List, [], ◌∷◌, ◌++◌, length, take, drop, slice_index, slice_index_or, refl}
+use Rattle.std.proofs.Common.{sym, ap, ◌∙◌, append_assoc, arith, length-take, length-drop, length-append, shr-shr, get_or-drop, drop-drop, take_at}
+use Rattle.std.proofs.lemmas.List.{take_min, drop-append-le, take-append-le}
 use Rattle.modules.specs.Definition.Bits.{Bit, bits_of, bits_in, number_of}
-use Rattle.modules.specs.Definition.Reading.{looked_at, stream_bits}
 use Rattle.modules.specs.Within.Windows.{window_at, Window}
-use Rattle.modules.specs.Laws.Numbers.{bits-length, number-bits, bits_back, bytes-length, bytes-append, bytes_take, bytes_drop}
+use Rattle.modules.specs.Laws.Numbers.{bits-length, number-bits, bits_back, bytes-length, bytes-append, bytes_drop}
 
 -- ---- the bits of a number, in parts
 
@@ -103,24 +102,14 @@ module _ (s : List ℕ) (i at k : ℕ) (h : at + k ≤ 8 * length s) (from : 8 *
       rw w.is
       (sym (ap (λ (bits : List Bit). number_of 0 bits) (bits-window w.second w.third w.fourth) ∙ bits-within skipped k low 32 (window_at s i) (omega arith)))
 
+-- the bits that are left from a position on
+pub rest-length : (bytes : List ℕ) (at : ℕ) → length (drop at (bits_in bytes)) ≡ 8 * length bytes - at
+rest-length bytes at = rw (length-drop at (bits_in bytes), bytes-length bytes)
+
 -- ---- of the bytes that are looked at
 
-pub looked-within : (stream : List ℕ) → (length (looked_at stream) ≤ length stream) × (length (looked_at stream) ≤ 65535)
-looked-within stream = let n = length-take 65535 stream in (omega arith, omega arith)
-
-pub looked-short : (stream : List ℕ) → length stream < 65535 → length stream ≡ length (looked_at stream)
-looked-short stream h = rw (take_all 65535 stream (omega arith))
-
-pub looked-long : (stream : List ℕ) → 65535 ≤ length stream → 65535 ≡ length (looked_at stream)
-looked-long stream h = sym (length-take-le 65535 stream h)
-
-pub looked-bits : (stream : List ℕ) (at k : ℕ) → at + k ≤ 8 * length (looked_at stream) → take k (drop at (bits_in stream)) ≡ take k (drop at (stream_bits stream))
-looked-bits stream at k h =
-    let n = bytes-length (looked_at stream) in
-    let s = bits_in stream in
-    let e : stream_bits stream ++ drop (8 * 65535) s ≡ s = rw (bytes_take 65535 stream) (take-append-drop (8 * 65535) s) in
-    ap (λ (bits : List Bit). take k (drop at bits)) (sym e) ∙ part-append at k (stream_bits stream) (drop (8 * 65535) s) (omega arith)
-
--- the bits that are left from a position on
-pub rest-length : (stream : List ℕ) (at : ℕ) → length (drop at (stream_bits stream)) ≡ 8 * length (looked_at stream) - at
-rest-length stream at = rw (length-drop at (stream_bits stream), bytes-length (looked_at stream))
+pub at_most : (n : ℕ) (bytes : List ℕ) → (take (min (length bytes) n) bytes ≡ take n bytes) × (length (take (min (length bytes) n) bytes) ≤ n)
+at_most n bytes =
+    let e : min (length bytes) n ≡ min n (length bytes) = omega arith in
+    let l = length-take (min (length bytes) n) bytes in
+    (rw e (take_min n bytes), omega arith)

@@ -1,34 +1,32 @@
--- What an item stores, as the code does it: one law a branch.
-use Rattle.std.specs.Prelude.{◌≡◌, ℕ, ◌+◌, ◌/◌, ◌%◌, ◌<◌, ◌≤◌, List, [], ◌∷◌, length, take, drop, slice_set}
-use Rattle.std.proofs.Common.{◌∙◌, append_assoc, arith, length-set}
-use Rattle.std.proofs.lemmas.List.Edits.{sets-eq}
+-- What a word stores, as the code does it: both bytes at once.
+use Rattle.std.specs.Prelude.{◌≡◌, ℕ, suc, ◌+◌, ◌/◌, ◌%◌, ◌≤◌, List, [], ◌∷◌, length, take, drop}
+use Rattle.std.proofs.Common.{sym, add-one, ap₂, ◌∙◌, append_assoc, arith, length-set}
+use Rattle.std.proofs.lemmas.List.Edits.{sets, sets-eq}
+use Rattle.std.specs.Int.{w16, to_le_bytes}
 use Rattle.line.specs.Definition.Ram.{put_at}
-use Rattle.modules.specs.Definition.Counter.{size_of, relocated, puts_at, put_each}
+use Rattle.modules.specs.Definition.Counter.{page_size, size_of, relocated, puts_at, put_each}
 use Rattle.modules.specs.declared.Item.{Item}
-use Rattle.modules.specs.declared.Item.TheVariants.{Byte, Word}
+use Rattle.modules.specs.declared.Item.TheVariants.{Word}
 use Rattle.modules.specs.declared.Counter.{Counter}
 
--- one byte put is one element set
-set-put : (ram : List ℕ) (at x : ℕ) → at < length ram → slice_set ram at x ≡ put_at ram at (x ∷ [])
+-- bytes put are elements set one by one
+sets-put : (xs ram : List ℕ) (at : ℕ) → at + length xs ≤ length ram → sets ram at xs ≡ put_at ram at xs
 unfolding put_at
-set-put ram at x h = sets-eq (x ∷ []) ram at (omega arith) ∙ append_assoc (take at ram) (x ∷ []) (drop (at + 1) ram)
+sets-put xs ram at h = sets-eq xs ram at h ∙ append_assoc (take at ram) xs (drop (at + length xs) ram)
 
-module _ (c : Counter) (i : Item) where
-  module _ (ram : List ℕ) (base from : ℕ) (q : from ≡ c.offset) (inside : c.offset + size_of i ≤ 16384) (room : base + 16384 ≤ length ram) where
-    pub byte-room : (x : ℕ) → i ≡ Byte x → base + from < length ram
-    byte-room x e = let h : c.offset + 1 ≤ 16384 = rw e at inside in omega arith
+-- two bytes one after the other
+put-two : (ram : List ℕ) (at a b : ℕ) → at + 2 ≤ length ram → put_at ram at (a ∷ b ∷ []) ≡ put_at (put_at ram at (a ∷ [])) (at + 1) (b ∷ [])
+put-two ram at a b h =
+    let first = sets-put (a ∷ []) ram at (omega arith) in
+    let n = length-set ram at a in
+    let second = sets-put (b ∷ []) (sets ram at (a ∷ [])) (suc at) (omega arith) in
+    sym (sets-put (a ∷ b ∷ []) ram at h) ∙ rw (add-one, ← first) second
 
-    pub byte_put : (x : ℕ) → i ≡ Byte x → slice_set ram (base + from) x ≡ put_each base ram (puts_at c i)
-    byte_put x e = rw (e, ← q) (set-put ram (base + from) x (byte-room x e))
-
-    pub word_room : (x : ℕ) → i ≡ Word x → base + from + 1 < length ram
-    word_room x e = let h : c.offset + 2 ≤ 16384 = rw e at inside in omega arith
-
-    pub word-put : (x w : ℕ) → i ≡ Word x → w ≡ relocated c x → slice_set (slice_set ram (base + from) (w % 256)) (base + from + 1) (w / 256) ≡ put_each base ram (puts_at c i)
-    word-put x w e z =
-        let r = word_room x e in
-        let first = set-put ram (base + from) (w % 256) (omega arith) in
-        let n = length-set ram (base + from) (w % 256) in
-        let second = set-put (slice_set ram (base + from) (w % 256)) (base + from + 1) (w / 256) (omega arith) in
-        let s : base + (from + 1) ≡ base + from + 1 = omega arith in
-        rw (e, ← z, ← q, s, ← first) second
+module _ (c : Counter) (i : Item) (x w : ℕ) (ram ram' : List ℕ) (base from : ℕ) where
+  pub word-put : i ≡ Word x → c.offset + size_of i ≤ page_size → base + page_size ≤ length ram → from ≡ c.offset → w ≡ relocated c x
+      → ram' ≡ put_at ram (base + from) (to_le_bytes w16 w) → ram' ≡ put_each base ram (puts_at c i)
+  word-put e inside room f z q =
+      let h : c.offset + 2 ≤ page_size = rw e at inside in
+      let bytes : to_le_bytes w16 w ≡ w % 256 ∷ w / 256 ∷ [] = ap₂ (λ (a b : ℕ). a ∷ b ∷ []) (omega arith) (omega arith) in
+      let s : base + (c.offset + 1) ≡ base + c.offset + 1 = omega arith in
+      q ∙ rw (bytes, e, ← z, s, f) (put-two ram (base + c.offset) (w % 256) (w / 256) (omega arith))

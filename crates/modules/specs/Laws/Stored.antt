@@ -1,5 +1,5 @@
 -- A module without fault: what its items pass, all that they store has; it lies below what the user reaches.
-use Rattle.std.specs.Prelude.{◌≡◌, ℕ, ◌+◌, ◌<◌, ◌≤◌, Bool, true, false, cond, List, [], ◌∷◌, ◌++◌, ◌==◌, refl}
+use Rattle.std.specs.Prelude.{◌≡◌, ℕ, ◌+◌, ◌<◌, ◌≤◌, Bool, true, false, cond, List, [], ◌∷◌, ◌++◌, ◌==◌, refl, Result, Ok, Err}
 use Rattle.std.proofs.Common.{sym, arith, ltb-false}
 use Rattle.std.proofs.lemmas.Bool.{false≢true}
 use Rattle.modules.specs.Definition.Reading.{taken_of}
@@ -9,8 +9,8 @@ use Rattle.modules.specs.declared.Item.{Item}
 use Rattle.modules.specs.declared.Item.TheVariants.{Byte, Word, SetPage, Restore, Move}
 use Rattle.modules.specs.declared.Counter.{Counter}
 use Rattle.modules.specs.declared.Target.{Target}
-use Rattle.modules.specs.declared.Judged.{Judged}
-use Rattle.modules.specs.declared.Judged.TheVariants.{Whole, Module, Page, Range, Guard}
+use Rattle.modules.specs.declared.Refusal.{Refusal}
+use Rattle.modules.specs.declared.Refusal.TheVariants.{Module, Page, Range, Guard}
 
 -- every byte put has P
 abbrev pub Every : (Put → Type 0) → List Put → Type 0
@@ -22,27 +22,27 @@ every_append P [] qs a b = b
 every_append P (p ∷ ps) qs a b = (a.0, every_append P ps qs a.1 b)
 
 -- an item's fault, by the tests on the way: where there is none, all three passed and what follows is without fault
-pub record Passed (g : Target) (c : Counter) (i : Item) (else : Judged) : Type 0 where
+pub record Passed (g : Target) (c : Counter) (i : Item) (else : Result ℕ Refusal) : Type 0 where
   pub inside : outside c i ≡ false
   pub below : above g c i ≡ false
   pub clear : touches g c i ≡ false
   pub else-whole : refusal_of else ≡ 0
 
-passed-by : (o a t : Bool) (else : Judged) → refusal_of (cond o Page (cond a Range (cond t Guard else))) ≡ 0
+passed-by : (o a t : Bool) (else : Result ℕ Refusal) → refusal_of (cond o (Err Page) (cond a (Err Range) (cond t (Err Guard) else))) ≡ 0
     → (o ≡ false) × (a ≡ false) × (t ≡ false) × (refusal_of else ≡ 0)
 passed-by true a t else e = absurd (omega arith)
 passed-by false true t else e = absurd (omega arith)
 passed-by false false true else e = absurd (omega arith)
 passed-by false false false else e = (refl, refl, refl, e)
 
-pub passed : (g : Target) (c : Counter) (i : Item) (else : Judged) → refusal_of (fault_or g c i else) ≡ 0 → Passed g c i else
+pub passed : (g : Target) (c : Counter) (i : Item) (else : Result ℕ Refusal) → refusal_of (fault_or g c i else) ≡ 0 → Passed g c i else
 passed g c i else e =
     let h = passed-by (outside c i) (above g c i) (touches g c i) else e in
     record { inside = h.0; below = h.1; clear = h.2; else-whole = h.3 }
 
 -- what every item that passed gives its bytes, all bytes have
 module _ (P : Put → Type 0) (g : Target) (item-has : (c : Counter) (i : Item) → above g c i ≡ false → touches g c i ≡ false → Every P (puts_at c i)) where
-  items-have : (c : Counter) (items : List Item) (else : Judged) → refusal_of (judged_or g c items else) ≡ 0 → Every P (puts_of g.page c items)
+  items-have : (c : Counter) (items : List Item) (else : Result ℕ Refusal) → refusal_of (judged_or g c items else) ≡ 0 → Every P (puts_of g.page c items)
   unfolding judged_or
   items-have c [] else e = tt
   items-have c (i ∷ items) else e =
@@ -69,10 +69,10 @@ pub stored-below : (g : Target) (c : Counter) (stream : List ℕ) → refusal_of
 stored-below g c stream e = stored-have (λ p. p.offset < g.reach) g (λ c i h _. item-below g c i h) c stream e
 
 -- what is refused for none of the four numbers is whole
-pub none-refuses : (j : Judged) → (refusal_of j == 13) ≡ false → (refusal_of j == 14) ≡ false → (refusal_of j == 19) ≡ false → (refusal_of j == 20) ≡ false
+pub none-refuses : (j : Result ℕ Refusal) → (refusal_of j == 13) ≡ false → (refusal_of j == 14) ≡ false → (refusal_of j == 19) ≡ false → (refusal_of j == 20) ≡ false
     → refusal_of j ≡ 0
-none-refuses (Whole b) range guard bad page = refl
-none-refuses Module range guard bad page = absurd (false≢true (sym bad))
-none-refuses Page range guard bad page = absurd (false≢true (sym page))
-none-refuses Range range guard bad page = absurd (false≢true (sym range))
-none-refuses Guard range guard bad page = absurd (false≢true (sym guard))
+none-refuses (Ok b) range guard bad page = refl
+none-refuses (Err Module) range guard bad page = absurd (false≢true (sym bad))
+none-refuses (Err Page) range guard bad page = absurd (false≢true (sym page))
+none-refuses (Err Range) range guard bad page = absurd (false≢true (sym range))
+none-refuses (Err Guard) range guard bad page = absurd (false≢true (sym guard))

@@ -1,5 +1,5 @@
 -- The reading bit by bit judges what the definition judges, and stores what stands before the item at fault.
-use Rattle.std.specs.Prelude.{◌≡◌, ℕ, zero, suc, ◌≤◌, Bool, true, false, List, [], ◌∷◌, length}
+use Rattle.std.specs.Prelude.{◌≡◌, ℕ, zero, suc, ◌≤◌, Bool, true, false, List, [], ◌∷◌, length, Result}
 use Rattle.std.proofs.Math.Path.{refl, ap}
 use Rattle.std.proofs.Common.{◌∙◌, arith}
 use Rattle.modules.specs.Definition.Bits.{Bit}
@@ -13,13 +13,13 @@ use Rattle.modules.specs.Laws.Stored.{passed}
 use Rattle.modules.specs.declared.Item.{Item}
 use Rattle.modules.specs.declared.Counter.{Counter}
 use Rattle.modules.specs.declared.Target.{Target}
-use Rattle.modules.specs.declared.Judged.{Judged}
+use Rattle.modules.specs.declared.Refusal.{Refusal}
 
 -- what is taken, judged and put
 abbrev taking : (n : ℕ) → Target → Counter → Taken → Scan
 taking n g c t = record { judged = judged_or g c t.items (judged_at n t.break); puts = puts_before g c t.items }
 
-with_item_lem : (g : Target) (c : Counter) (i : Item) (o a t : Bool) → outside c i ≡ o → above g c i ≡ a → touches g c i ≡ t → (j : Judged) (items : List Item)
+with_item_lem : (g : Target) (c : Counter) (i : Item) (o a t : Bool) → outside c i ≡ o → above g c i ≡ a → touches g c i ≡ t → (j : Result ℕ Refusal) (items : List Item)
     → with_item g c i (record { judged = j; puts = puts_before g (after g.page c i) items }) ≡ record { judged = fault_or g c i j; puts = puts_before g c (i ∷ items) }
 unfolding puts_before
 with_item_lem g c i true a t p q r j items = rw p
@@ -53,7 +53,7 @@ unfolding judged
 scan-stream g c stream = scan-in (length (looked_at stream)) g (length (stream_bits stream)) c (stream_bits stream) (omega arith)
 
 -- where no item is at fault, all is stored
-before-all : (g : Target) (c : Counter) (items : List Item) (else : Judged) → refusal_of (judged_or g c items else) ≡ 0 → puts_before g c items ≡ puts_of g.page c items
+before-all : (g : Target) (c : Counter) (items : List Item) (else : Result ℕ Refusal) → refusal_of (judged_or g c items else) ≡ 0 → puts_before g c items ≡ puts_of g.page c items
 unfolding puts_before judged_or
 before-all g c [] else e = refl
 before-all g c (i ∷ items) else e =

@@ -1,5 +1,5 @@
 -- A stream has one reading, and what the loader accepts is exactly a module without fault.
-use Rattle.std.specs.Prelude.{◌≡◌, ℕ, zero, suc, pred, ◌+◌, ◌-◌, ◌*◌, ◌/◌, ◌%◌, ◌<◌, ◌≤◌, Bool, true, false, cond, List, [], ◌∷◌, ◌++◌, length, take, drop, replicate, refl}
+use Rattle.std.specs.Prelude.{◌≡◌, ℕ, zero, suc, pred, ◌+◌, ◌-◌, ◌*◌, ◌/◌, ◌%◌, ◌<◌, ◌≤◌, Bool, true, false, cond, List, [], ◌∷◌, ◌++◌, length, take, drop, replicate, refl, Result, Ok, Err}
 use Rattle.std.proofs.Common.{sym, ap, ◌∙◌, append_assoc, not-suc-le-zero, le_of_suc-le-suc, le_refl, arith, length-append, length-drop, take-append-drop, length-take-le, take_at}
 use Rattle.std.proofs.lemmas.Bool.{false≢true}
 use Rattle.std.proofs.lemmas.List.{length-replicate}
@@ -18,8 +18,8 @@ use Rattle.modules.specs.Laws.Tests.{says-fails, outside-says, above-says, touch
 use Rattle.modules.specs.declared.Item.{Item}
 use Rattle.modules.specs.declared.Counter.{Counter}
 use Rattle.modules.specs.declared.Target.{Target}
-use Rattle.modules.specs.declared.Judged.{Judged}
-use Rattle.modules.specs.declared.Judged.TheVariants.{Whole, Module}
+use Rattle.modules.specs.declared.Refusal.{Refusal}
+use Rattle.modules.specs.declared.Refusal.TheVariants.{Module}
 
 -- ---- a module's bits are read as its items
 
@@ -102,17 +102,17 @@ record EndsWhole (m : ℕ) (at : Break) (b : ℕ) : Type 0 where
   clean : zeros (take (length rest % 8) rest) ≡ true
   used : m - length rest / 8 ≡ b
 
-whole-ended : (m : ℕ) (at : Break) (b : ℕ) → judged_at m at ≡ Whole b → EndsWhole m at b
+whole-ended : (m : ℕ) (at : Break) (b : ℕ) → judged_at m at ≡ Ok b → EndsWhole m at b
 whole-ended m (end rest) b e = go (zeros (take (length rest % 8) rest)) refl e
   where
-    go : (z : Bool) → zeros (take (length rest % 8) rest) ≡ z → cond z (Whole (m - length rest / 8)) Module ≡ Whole b → EndsWhole m (end rest) b
+    go : (z : Bool) → zeros (take (length rest % 8) rest) ≡ z → cond z (Ok (m - length rest / 8)) (Err Module) ≡ Ok b → EndsWhole m (end rest) b
     go true q w = record { rest = rest; ends = refl; clean = q; used = cc }
     go false q w = record { rest = rest; ends = refl; clean = cc; used = cc }
 whole-ended m illegal-item b e = record { rest = []; ends = cc; clean = refl; used = cc }
 whole-ended m end-of-input b e = record { rest = []; ends = cc; clean = refl; used = cc }
 
 -- whole is what is behind all items
-whole-else : (g : Target) (c : Counter) (items : List Item) (else : Judged) (b : ℕ) → judged_or g c items else ≡ Whole b → else ≡ Whole b
+whole-else : (g : Target) (c : Counter) (items : List Item) (else : Result ℕ Refusal) (b : ℕ) → judged_or g c items else ≡ Ok b → else ≡ Ok b
 unfolding judged_or
 whole-else g c [] else b e = e
 whole-else g c (i ∷ items) else b e =
@@ -147,14 +147,14 @@ module-of stream items rest b fit are clean used = record { fit = fit; within = 
           zeros-only (length rest % 8) rest (omega arith) clean,
         ) (append_assoc (all_bits items) end_bits (replicate (length rest % 8) O))
 
-pub whole-module : (g : Target) (c : Counter) (stream : List ℕ) (b : ℕ) → judged g c stream ≡ Whole b → IsModule (looked_at stream) (taken_of stream).items b
+pub whole-module : (g : Target) (c : Counter) (stream : List ℕ) (b : ℕ) → judged g c stream ≡ Ok b → IsModule (looked_at stream) (taken_of stream).items b
 unfolding judged
 whole-module g c stream b e =
     let w = whole-ended (length (looked_at stream)) (taken_of stream).break b (whole-else g c (taken_of stream).items _ b e) in
     let (fit, are) = taken-ended (length (stream_bits stream)) (stream_bits stream) w.rest w.ends in
     module-of (looked_at stream) (taken_of stream).items w.rest b fit are w.clean w.used
 
-items-faultless : (g : Target) (c : Counter) (items : List Item) (else : Judged) → refusal_of (judged_or g c items else) ≡ 0
+items-faultless : (g : Target) (c : Counter) (items : List Item) (else : Result ℕ Refusal) → refusal_of (judged_or g c items else) ≡ 0
     → FaultlessFrom g c items
 unfolding judged_or
 items-faultless g c [] else e = tt
@@ -168,7 +168,7 @@ items-faultless g c (i ∷ items) else e =
     (l, items-faultless g (after g.page c i) items else p.else-whole)
 
 -- and its items are without fault
-pub whole-faultless : (g : Target) (c : Counter) (stream : List ℕ) (b : ℕ) → judged g c stream ≡ Whole b
+pub whole-faultless : (g : Target) (c : Counter) (stream : List ℕ) (b : ℕ) → judged g c stream ≡ Ok b
     → FaultlessFrom g c (taken_of stream).items
 unfolding judged
 whole-faultless g c stream b e = items-faultless g c (taken_of stream).items _ (ap refusal_of e)
@@ -182,14 +182,14 @@ module-items stream items b m = ap (λ (t : Taken). t.items) (module-taken (look
 pub module-read : (stream : List ℕ) (items : List Item) (b : ℕ) → IsModule stream items b → (taken_in (length (bits_in stream)) (bits_in stream)).items ≡ items
 module-read stream items b m = ap (λ (t : Taken). t.items) (module-taken stream items b m (length (bits_in stream)) (le_refl _))
 
-faultless-else : (g : Target) (c : Counter) (items : List Item) (else : Judged) → FaultlessFrom g c items → judged_or g c items else ≡ else
+faultless-else : (g : Target) (c : Counter) (items : List Item) (else : Result ℕ Refusal) → FaultlessFrom g c items → judged_or g c items else ≡ else
 unfolding judged_or
 faultless-else g c [] else l = refl
 faultless-else g c (i ∷ items) else l =
     none-at g c i _ l.0 ∙ faultless-else g (after g.page c i) items else l.1
 
 -- bits behind an end item that are zeros and whole bytes
-padded-whole : (n k p b : ℕ) (bits : List Bit) → p < 8 → length bits ≡ 8 * k → n - k ≡ b → judged_at n (end (replicate p O ++ bits)) ≡ Whole b
+padded-whole : (n k p b : ℕ) (bits : List Bit) → p < 8 → length bits ≡ 8 * k → n - k ≡ b → judged_at n (end (replicate p O ++ bits)) ≡ Ok b
 padded-whole n k p b bits h e q =
     let size : length (replicate p O ++ bits) ≡ p + 8 * k = length-append (replicate p O) bits ∙ rw (length-replicate p O, e) in
     let left : (p + 8 * k) % 8 ≡ p = omega arith in
@@ -197,7 +197,7 @@ padded-whole n k p b bits h e q =
     rw (size, left, bytes, take_at (replicate p O) bits p (length-replicate p O), only-zeros p, q)
 
 pub module-whole : (g : Target) (c : Counter) (stream : List ℕ) (items : List Item) (b : ℕ) → IsModule (looked_at stream) items b
-    → FaultlessFrom g c items → judged g c stream ≡ Whole b
+    → FaultlessFrom g c items → judged g c stream ≡ Ok b
 unfolding judged
 module-whole g c stream items b m l =
     let seen = looked_at stream in

@@ -1,5 +1,5 @@
 -- The reading bit by bit, to which the reader's fetches of several bits come.
-use Rattle.std.specs.Prelude.{ℕ, ◌-◌, cond, List, [], ◌∷◌, ◌++◌, ◌==◌}
+use Rattle.std.specs.Prelude.{ℕ, ◌-◌, cond, List, [], ◌∷◌, ◌++◌, ◌==◌, Result, Err}
 use Rattle.modules.specs.Definition.Bits.{Bit}
 use Rattle.modules.specs.Definition.Reading.{end, illegal-item, end-of-input, taken_of}
 use Rattle.modules.specs.Definition.Counter.{after, Put, puts_at}
@@ -8,22 +8,22 @@ use Rattle.modules.specs.Within.Codes.{with_bit, wants, item_of}
 use Rattle.modules.specs.declared.Item.{Item}
 use Rattle.modules.specs.declared.Counter.{Counter}
 use Rattle.modules.specs.declared.Target.{Target}
-use Rattle.modules.specs.declared.Judged.{Judged}
-use Rattle.modules.specs.declared.Judged.TheVariants.{Page, Range, Guard}
+use Rattle.modules.specs.declared.Refusal.{Refusal}
+use Rattle.modules.specs.declared.Refusal.TheVariants.{Page, Range, Guard}
 
 -- what is judged, and what is stored before the item at fault
 pub record Scan : Type 0 where
-  pub judged : Judged
+  pub judged : Result ℕ Refusal
   pub puts : List Put
 
-abbrev pub stops : Judged → Scan
+abbrev pub stops : Result ℕ Refusal → Scan
 stops j = record { judged = j; puts = [] }
 
 abbrev pub with_item : Target → Counter → Item → Scan → Scan
 with_item g c i more =
-    cond (outside c i) (stops Page)
-    (cond (above g c i) (stops Range)
-    (cond (touches g c i) (stops Guard)
+    cond (outside c i) (stops (Err Page))
+    (cond (above g c i) (stops (Err Range))
+    (cond (touches g c i) (stops (Err Guard))
     (record { judged = more.judged; puts = puts_at c i ++ more.puts })))
 
 -- all bits of an item are there; `n` is the stream's bytes, and `rest` the bits behind
