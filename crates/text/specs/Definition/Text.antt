@@ -1,12 +1,10 @@
 -- Numbers and bytes as text: "in decimal, one space between", "the bytes in lower-case hex".
-use Rattle.std.specs.Prelude.{cond, List, [], ◌∷◌, ◌++◌, ℕ, zero, suc, ◌+◌, ◌/◌, ◌%◌, ltb}
-use Prim.Native.Char.{code}
-use Prim.Native.String.{String, [] as []ˢ, ◌∷◌ as ◌∷ˢ◌}
+use Rattle.std.specs.Prelude.{codes, cond, List, [], ◌∷◌, ◌++◌, ℕ, zero, suc, ◌+◌, ◌/◌, ◌%◌, ltb}
+use Prim.Native.String.{String}
 
 -- a text as the numbers of its letters
 abbrev pub letters : String → List ℕ
-letters []ˢ = []
-letters (c ∷ˢ s) = code c ∷ letters s
+letters s = codes s
 
 abbrev pub digit_of : ℕ → ℕ
 digit_of n = 48 + n % 10

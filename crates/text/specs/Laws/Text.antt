@@ -1,8 +1,10 @@
 -- Laws of text put at a place, of numerals and of hexadecimal.
 use Rattle.std.specs.Prelude.{◌≡◌, refl, Bool, true, false, List, [], ◌∷◌, ◌++◌, ℕ, zero, suc, ◌+◌, ◌*◌, ◌/◌, ◌%◌, ◌<◌, ◌≤◌, length, get_or, take, drop, set, ◌⊎◌}
-use Rattle.std.proofs.Common.{sym, ap, ◌∙◌, append_assoc, append-nil, arith, add-one, length-append, length-take, length-take-le, take-suc-set, take-suc, drop-set-lt, drop-drop, lt-ltb, inl, inr}
-use Rattle.text.specs.Definition.Put.{Put}
-use Rattle.text.specs.Definition.Text.{fields_of, digit_of, decimal_in, decimal_of, glyph, hex_of}
+use Rattle.std.proofs.Common.{sym, ap, ◌∙◌, append_assoc, append-nil, arith, add-one, length-append, length-take, length-take-le, take-suc-set, take-suc, drop-set-lt, drop-drop, lt-ltb}
+use Rattle.std.proofs.lemmas.Bool.{cases_Bool}
+use Rattle.text.specs.Definition.Put.{Put, Puts, Room}
+use Rattle.text.specs.declared.Cursor.{Cursor}
+use Rattle.text.specs.Definition.Text.{digit_of, decimal_in, decimal_of, glyph, hex_of}
 
 pub put-none : (d : List ℕ) (at : ℕ) → Put d d at at []
 put-none d at = record { stop = omega arith; text = sym (append-nil (take at d)); behind = refl }
@@ -19,17 +21,30 @@ put_then {d} {e} {f} {at} {m} {r} {xs} {ys} p q =
       behind = q.behind ∙ sym (passed e) ∙ ap (drop (length ys)) p.behind ∙ passed d;
     }
 
--- a run, one byte a turn
-pub run-put : {d e f : List ℕ} {at m r : ℕ} (xs : List ℕ) (i : ℕ) → i < length xs → Put d e at m (take i xs) → Put e f m r (get_or xs i 0 ∷ []) → Put d f at r (take (i + 1) xs)
-run-put xs i h p q = rw (add-one, take-suc xs i 0 h) (put_then p q)
-
 -- what is put ends within the buffer
 pub put-within : {d e : List ℕ} {at r : ℕ} {xs : List ℕ} → at ≤ length d → Put d e at r xs → r ≤ length e
 put-within {d} {e} {at} {r} {xs} h p = omega (arith, ap length p.text, length-take r e, length-append (take at d) xs, length-take-le at d h, p.stop)
 
+-- of a cursor
+pub puts_none : (c : Cursor) → Puts c c []
+puts_none c = record { same = refl; long = refl; put = put-none c.text.now c.at }
+
+pub puts_then : {c d e : Cursor} {xs ys : List ℕ} → Puts c d xs → Puts d e ys → Puts c e (xs ++ ys)
+puts_then p q = record { same = q.same ∙ p.same; long = q.long ∙ p.long; put = put_then p.put q.put }
+
+pub puts_within : {c d : Cursor} {xs : List ℕ} → Puts c d xs → c.at ≤ length c.text.now → d.at ≤ length d.text.now
+puts_within p h = put-within h p.put
+
+-- what room is left behind at most k bytes that are put
+pub room-left : {c d : Cursor} {xs : List ℕ} → Puts c d xs → (k n : ℕ) → length xs ≤ k → Room c (k + n) → Room d n
+room-left p k n h room = omega (arith, p.put.stop, p.long)
+
+-- what a cursor leaves of the text that it was lent
+pub handed : {c d : Cursor} {xs after : List ℕ} → Puts c d xs → (c.text.ghost_name ≡ d.text.ghost_name → after ≡ d.text.now) → Put c.text.now after c.at d.at xs
+handed p back = rw (back (sym p.same)) p.put
+
 pub split : (b : Bool) → (b ≡ true) ⊎ (b ≡ false)
-split true = inl refl
-split false = inr refl
+split = cases_Bool
 
 pub decimal-one : (n : ℕ) → n < 10 → decimal_of n ≡ digit_of n ∷ []
 unfolding decimal_of decimal_in
@@ -46,15 +61,3 @@ hex-more xs i h = rw (add-one, take-suc xs i 0 h, hex-append, append_assoc)
 pub hex-length : (xs : List ℕ) → length (hex_of xs) ≡ 2 * length xs
 hex-length [] = refl
 hex-length (x ∷ xs) = rw (hex-length xs) (omega arith)
-
-pub hex-turn : (bytes : List ℕ) (i : ℕ) {t₀ t t₁ t₂ : List ℕ} {at to m r x p q : ℕ} → i < length bytes → x ≡ get_or bytes i 0 → p ≡ glyph (x / 16) → q ≡ glyph (x % 16)
-    → Put t₀ t at to (hex_of (take i bytes)) → Put t t₁ to m (p ∷ []) → Put t₁ t₂ m r (q ∷ []) → Put t₀ t₂ at r (hex_of (take (i + 1) bytes))
-hex-turn bytes i h e f g a b d = rw (hex-more bytes i h, ← e, ← f, ← g) (put_then (put_then a b) d)
-
-pub decimal-first : (d e : List ℕ) (n at r b : ℕ) → n < 10 → b ≡ digit_of n → Put d e at r (b ∷ []) → Put d e at r (decimal_of n)
-decimal-first d e n at r b h q p = rw (decimal-one n h, ← q) p
-
-pub four : {d e f g h : List ℕ} {at l m n r : ℕ} (kind answer a b : ℕ) → Put d e at l (decimal_of kind ++ (32 ∷ [])) → Put e f l m (decimal_of answer ++ (32 ∷ []))
-    → Put f g m n (decimal_of a ++ (32 ∷ [])) → Put g h n r (decimal_of b) → Put d h at r (fields_of kind answer a b)
-unfolding fields_of
-four kind answer a b p q s t = put_then (put_then (put_then p q) s) t

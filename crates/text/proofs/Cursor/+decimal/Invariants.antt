@@ -1,5 +1,5 @@
 -- `decimal` calls itself on the tenth part: the measure is the number.
-use Rattle.text.proofs.+decimal.Given as goal
+use Rattle.text.proofs.Cursor.+decimal.Given as goal
 
 abbrev pub decreases-decimal : goal.decreases-decimal
 decreases-decimal l = l.n
