@@ -1,91 +1,47 @@
 // A list of items as bytes: three an item, a tag and a value of two bytes, the low one first.
-ghost use Rattle.std.specs.Prelude.{◌≡◌, ◌+◌, ◌≤◌, length};
-ghost use Rattle.writer.specs.Definition.Entries.{entry_of, listed};
-ghost use Rattle.writer.specs.Within.Entries.{entry_at, item_at, value_at, found_in};
+ghost use Rattle.std.specs.Prelude.{◌≡◌};
+ghost use Rattle.writer.specs.Definition.Entries.{listed};
+ghost use Rattle.writer.specs.Within.Entries.{entry_in, item_in, found_in};
 
-use super::{Checked, Entry, Flaw, Why};
+use super::{Flaw, Why};
 use modules::Item;
-use rows::numbers::wide;
 
-// Two bytes, the low one first.
-pub fn value_at(bytes: &[u8], at: usize) -> u16
-    requires { at + 2 ≤ length bytes.now }
-    ensures { result ≡ value_at bytes.now at }
+// What bytes are, which are three or what is left at the end of a list.
+#[tactic(auto, unfolding(crate::specs::Definition::Entries::entry_of))]
+fn entry_of(bytes: &[u8]) -> Result<Item, Why>
+    ensures { result ≡ entry_in bytes.now }
 {
-    (wide(bytes[at]) + 256 * wide(bytes[at + 1])) as u16
-}
-
-// What a tag and a value are.
-fn entry_of(tag: u8, value: u16) -> Entry
-    ensures { result ≡ entry_of tag value }
-{
-    match tag {
-        0 => {
-            if 255 < value {
-                Entry::No(Why::AboveByte)
-            } else {
-                Entry::Is(Item::Byte(value as u8))
-            }
-        }
-        1 => Entry::Is(Item::Word(value)),
-        2 => Entry::Is(Item::SetPage(value)),
-        3 => {
-            if value == 0 {
-                Entry::Is(Item::Restore)
-            } else {
-                Entry::No(Why::Valued)
-            }
-        }
-        4 => Entry::Is(Item::Move(value)),
-        _ => Entry::No(Why::Tag),
+    let [tag, low, high] = bytes else {
+        return Err(Why::Cut);
+    };
+    let value = u16::from_le_bytes([*low, *high]);
+    match (*tag, value) {
+        (0, 0..=255) => Ok(Item::Byte(value as u8)),
+        (0, _) => Err(Why::AboveByte),
+        (1, _) => Ok(Item::Word(value)),
+        (2, _) => Ok(Item::SetPage(value)),
+        (3, 0) => Ok(Item::Restore),
+        (3, _) => Err(Why::Valued),
+        (4, _) => Ok(Item::Move(value)),
+        _ => Err(Why::Tag),
     }
-}
-
-// What three bytes from an index on are.
-fn entry_at(bytes: &[u8], at: usize) -> Entry
-    requires { at + 3 ≤ length bytes.now }
-    ensures { result ≡ entry_at bytes.now at }
-{
-    entry_of(bytes[at], value_at(bytes, at + 1))
 }
 
 // The item that they are; a restore where they are none.
-pub fn item_at(bytes: &[u8], at: usize) -> Item
-    requires { at + 3 ≤ length bytes.now }
-    ensures { result ≡ item_at bytes.now at }
+pub fn item_of(bytes: &[u8]) -> Item
+    ensures { result ≡ item_in bytes.now }
 {
-    let entry = entry_at(bytes, at);
-    match entry {
-        Entry::Is(item) => item,
-        Entry::No(_) => Item::Restore,
-    }
+    entry_of(bytes).unwrap_or(Item::Restore)
 }
 
 // Whether all bytes are items, or which is the first that is none.
-pub fn list_in(bytes: &[u8]) -> Checked
+pub fn list_in(bytes: &[u8]) -> Result<(), Flaw>
     ensures { result ≡ found_in (listed bytes.now) }
 {
-    let mut at: usize = 0;
-    let mut passed: usize = 0;
-    while 3 <= bytes.len() - at {
-        let entry = entry_at(bytes, at);
-        match entry {
-            Entry::Is(_) => {}
-            Entry::No(why) => {
-                return Checked::Flawed(Flaw {
-                    number: passed + 1,
-                    why,
-                });
-            }
+    for (i, entry) in bytes.chunks(3).enumerate() {
+        if let Err(why) = entry_of(entry) {
+            return Err(Flaw { number: i + 1, why });
         }
-        at += 3;
-        passed += 1;
     }
-    if at < bytes.len() {
-        return Checked::Flawed(Flaw {
-            number: passed + 1,
-            why: Why::Cut,
-        });
-    }
-    Checked::Items
+    Ok(())
 }

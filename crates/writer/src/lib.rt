@@ -1,7 +1,7 @@
 // Writing relocatable modules: a list of items, judged by the loader's page rule, as the bits of a stream in a lent buffer.
 #![tactic(auto)]
 
-use modules::Item;
+ghost use Rattle.std.specs.Prelude.{◌≡◌};
 
 mod entries; // a list of items as bytes, three each
 mod pages; // the loader's page rule over a list
@@ -18,13 +18,6 @@ pub enum Why {
     Valued,
 }
 
-// What three bytes are.
-#[derive(Clone, Copy)]
-pub enum Entry {
-    Is(Item),
-    No(Why),
-}
-
 // The first of a list that is no item: its number, from 1, and why.
 #[derive(Clone, Copy)]
 pub struct Flaw {
@@ -32,32 +25,30 @@ pub struct Flaw {
     pub why: Why,
 }
 
-// What the writer answers: the bytes written, or what it is refused for.
+// What the writer refuses: bytes with no start, or with no list of items behind it; a page, or a buffer that is short.
 #[derive(Clone, Copy)]
-pub enum Written {
-    Done(usize),
+pub enum Refusal {
+    NoStart,
+    NoList(Flaw),
     Page,
     Range,
 }
 
-// What comes of bytes given to the writer: they have no start, or no list of items behind it, or they are answered.
-#[derive(Clone, Copy)]
-pub enum Reply {
-    NoStart,
-    NoList(Flaw),
-    Answered(Written),
+impl From<Flaw> for Refusal {
+    ghost use Rattle.writer.specs.declared.Refusal.TheVariants.{NoList};
+
+    ghost from_gives = { λ flaw why. why ≡ NoList flaw };
+
+    fn from(flaw: Flaw) -> Refusal {
+        Refusal::NoList(flaw)
+    }
 }
 
-// Whether bytes are a list of items.
-#[derive(Clone, Copy)]
-pub enum Checked {
-    Items,
-    Flawed(Flaw),
-}
-
-// Where the next byte goes, and the bits behind it that are no whole byte yet: the lowest `count` of `held`.
-#[derive(Clone, Copy)]
-pub struct Pen {
+// A lent buffer, where its next byte goes, and the bits behind it that are no whole byte yet: the lowest `count` of `held`.
+// The first two are no `text::Cursor`: tried, and the proof did not close, since a caller learns nothing of a reference in a struct of a struct.
+#[derive(Drop)]
+pub struct Pen<'a> {
+    pub text: &'a mut [u8],
     pub at: usize,
     pub held: usize,
     pub count: usize,

@@ -4,7 +4,7 @@ ghost use Rattle.writer.specs.Definition.Bytes.{module_of};
 ghost use Rattle.writer.specs.Within.Entries.{items_of};
 ghost use Rattle.writer.specs.Within.Codes.{width_of};
 
-use super::entries::item_at;
+use super::entries::item_of;
 use modules::Item;
 
 // How many bits an item has.
@@ -26,12 +26,10 @@ pub fn size_of(items: &[u8]) -> usize
 {
     let mut whole: usize = 0;
     let mut over: usize = 0;
-    let mut at: usize = 0;
-    while 3 <= items.len() - at {
-        let bits = over + width_of(item_at(items, at));
+    for entry in items.chunks(3) {
+        let bits = over + width_of(item_of(entry));
         whole += bits / 8;
         over = bits % 8;
-        at += 3;
     }
-    whole + (over + 3 + 7) / 8
+    whole + (over + 3).div_ceil(8)
 }

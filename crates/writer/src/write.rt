@@ -4,54 +4,65 @@ ghost use Rattle.writer.specs.Definition.Bytes.{module_of};
 ghost use Rattle.writer.specs.Definition.Writing as writing;
 ghost use Rattle.writer.specs.Within.Entries.{items_of};
 
-use super::entries::{list_in, value_at};
-use super::packing::{put_bits, put_items};
+use super::entries::list_in;
 use super::pages::refuses_page;
 use super::sizes::size_of;
-use super::{Checked, Reply, Written};
+use super::{Pen, Refusal};
+use modules::Counter;
 
 // "puts a list of items .., the end item and zero padding into a lent buffer"
 fn put_module(items: &[u8], buffer: &mut [u8])
     requires { length (module_of (items_of items.now)) ≤ length buffer.old }
     ensures { buffer.new ≡ module_of (items_of items.now) ++ drop (length (module_of (items_of items.now))) buffer.old }
 {
-    let pen = put_items(items, buffer);
-    let pen = put_bits(pen, 6, 3, buffer);
-    put_bits(pen, 0, (8 - pen.count) % 8, buffer);
+    let mut pen = Pen {
+        text: buffer,
+        at: 0,
+        held: 0,
+        count: 0,
+    };
+    pen.put_items(items);
+    pen.put_bits(6, 3);
+    let padding = (8 - pen.count) % 8;
+    pen.put_bits(0, padding);
 }
 
 // "Refusals: PAGE .., then RANGE for a short buffer"
-fn answer(page: u8, offset: u16, items: &[u8], buffer: &mut [u8]) -> Written
-    ensures { (result ≡ writing.answer_to page offset (items_of items.now) (length buffer.old)) × (buffer.new ≡ writing.put_by result (items_of items.now) buffer.old) }
+#[tactic(auto, unfolding(crate::specs::Definition::Writing::answer_to))]
+fn answer(start: Counter, items: &[u8], buffer: &mut [u8]) -> Result<usize, Refusal>
+    ensures { (result ≡ writing.answer_to start.page start.offset (items_of items.now) (length buffer.old)) × (buffer.new ≡ writing.put_by result (items_of items.now) buffer.old) }
 {
-    if refuses_page(page, offset, items) {
-        return Written::Page;
+    if refuses_page(start, items) {
+        return Err(Refusal::Page);
     }
     let size = size_of(items);
     if buffer.len() < size {
-        return Written::Range;
+        return Err(Refusal::Range);
     }
     put_module(items, buffer);
-    Written::Done(size)
+    Ok(size)
 }
 
 // Writes the module of a list of items, from a start page and offset, into a buffer of any length.
-pub fn write_module(page: u8, offset: u16, items: &[u8], buffer: &mut [u8]) -> Reply
+// Page and offset come one by one, as the C interface hands them.
+pub fn write_module(
+    page: u8,
+    offset: u16,
+    items: &[u8],
+    buffer: &mut [u8],
+) -> Result<usize, Refusal>
     ensures { writing.Writes page offset items.now buffer.old result buffer.new }
 {
-    let checked = list_in(items);
-    match checked {
-        Checked::Flawed(flaw) => Reply::NoList(flaw),
-        Checked::Items => Reply::Answered(answer(page, offset, items, buffer)),
-    }
+    list_in(items)?;
+    answer(Counter { page, offset }, items, buffer)
 }
 
 // The same of one input: start page, start offset and items.
-pub fn write_from(input: &[u8], buffer: &mut [u8]) -> Reply
+pub fn write_from(input: &[u8], buffer: &mut [u8]) -> Result<usize, Refusal>
     ensures { writing.WritesFrom input.now buffer.old result buffer.new }
 {
-    if input.len() < 3 {
-        return Reply::NoStart;
-    }
-    write_module(input[0], value_at(input, 1), &input[3..], buffer)
+    let [page, low, high, items @ ..] = input else {
+        return Err(Refusal::NoStart);
+    };
+    write_module(*page, u16::from_le_bytes([*low, *high]), items, buffer)
 }

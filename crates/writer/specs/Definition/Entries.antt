@@ -1,22 +1,20 @@
 -- A list of items as bytes: three an item, a tag and a value of two bytes, the low one first. What bytes are no such list.
-use Rattle.std.specs.Prelude.{cond, List, [], ◌∷◌, ◌++◌, ℕ, ◌+◌, ◌*◌, ◌/◌, ◌%◌, ltb, eqb}
+use Rattle.std.specs.Prelude.{cond, List, [], ◌∷◌, ◌++◌, ℕ, ◌+◌, ◌*◌, ◌/◌, ◌%◌, ltb, eqb, Result, Ok, Err}
 use Rattle.modules.specs.declared.Item.{Item}
 use Rattle.modules.specs.declared.Item.TheVariants.{Byte, Word, SetPage, Restore, Move}
 use Rattle.writer.specs.declared.Why.{Why}
 use Rattle.writer.specs.declared.Why.TheVariants.{Cut, Tag, AboveByte, Valued}
-use Rattle.writer.specs.declared.Entry.{Entry}
-use Rattle.writer.specs.declared.Entry.TheVariants.{Is, No}
 use Rattle.writer.specs.declared.Flaw.{Flaw}
 
 -- order 9: "(byte, word, set page, restore, move)", in this order from tag 0 on. A byte's value is below 256, a restore has none; a page above 3 is an item, which the
 -- writer refuses
-unfoldable pub entry_of : (tag value : ℕ) → Entry
+unfoldable pub entry_of : (tag value : ℕ) → Result Item Why
 entry_of tag value =
-    cond (eqb tag 0) (cond (ltb 255 value) (No AboveByte) (Is (Byte value)))
-    (cond (eqb tag 1) (Is (Word value))
-    (cond (eqb tag 2) (Is (SetPage value))
-    (cond (eqb tag 3) (cond (eqb value 0) (Is Restore) (No Valued))
-    (cond (eqb tag 4) (Is (Move value)) (No Tag)))))
+    cond (eqb tag 0) (cond (ltb 255 value) (Err AboveByte) (Ok (Byte value)))
+    (cond (eqb tag 1) (Ok (Word value))
+    (cond (eqb tag 2) (Ok (SetPage value))
+    (cond (eqb tag 3) (cond (eqb value 0) (Ok Restore) (Err Valued))
+    (cond (eqb tag 4) (Ok (Move value)) (Err Tag)))))
 
 abbrev pub flaw_at : (number : ℕ) → Why → Flaw
 flaw_at number why = record { number = number; why = why }
@@ -39,10 +37,10 @@ pub data Listed : Type 0 where
   flawed : Flaw → Listed
 
 -- an entry, and what stands behind it; numbers are from 1
-abbrev pub before : Entry → Listed → Listed
-before (Is i) (all items) = all (i ∷ items)
-before (Is i) (flawed f) = flawed (flaw_at (f.number + 1) f.why)
-before (No why) more = flawed (flaw_at 1 why)
+abbrev pub before : Result Item Why → Listed → Listed
+before (Ok i) (all items) = all (i ∷ items)
+before (Ok i) (flawed f) = flawed (flaw_at (f.number + 1) f.why)
+before (Err why) more = flawed (flaw_at 1 why)
 
 unfoldable pub listed : (bytes : List ℕ) → Listed
 unfolding entry_of

@@ -1,72 +1,20 @@
--- Entries by their index, one after the other.
-use Rattle.std.specs.Prelude.{◌≡◌, ℕ, suc, ◌+◌, ◌-◌, ◌*◌, ◌≤◌, ◌<◌, get_or, drop}
-use Rattle.std.proofs.Math.Path.{refl, sym, ap}
-use Rattle.std.proofs.Common.{◌∙◌, ne_eqb, length-drop, drop_of_length-le, drop-cons}
-use mathlib.Core.List.{List, [], ◌∷◌}
-use native.Mathlib.Omega.{arith}
-use Rattle.std.proofs.Math.ListN.{length}
+-- A list of items three bytes at a time.
+use Rattle.std.specs.Prelude.{◌≡◌, ℕ, ◌+◌, ◌*◌, ◌<◌, min, List, [], ◌∷◌, ◌++◌, length, Result, Ok, Err}
+use Rattle.std.proofs.Common.{refl, sym, ap, ◌∙◌, arith}
+use Rattle.std.proofs.lemmas.List.{nil_from_length}
 use Rattle.modules.specs.declared.Item.{Item}
-use Rattle.modules.specs.declared.Item.TheVariants.{Restore}
 use Rattle.writer.specs.Definition.Entries.{entry_of, flaw_at, Listed, all, flawed, before, listed}
-use Rattle.writer.specs.Within.Entries.{entry_at, item_in, item_at, items_of, found_in}
+use Rattle.writer.specs.Within.Entries.{entry_in, item_or, item_in, items_of, found_in}
 use Rattle.writer.specs.declared.Why.{Why}
-use Rattle.writer.specs.declared.Why.TheVariants.{Cut, Tag}
-use Rattle.writer.specs.declared.Entry.{Entry}
-use Rattle.writer.specs.declared.Entry.TheVariants.{Is, No}
 use Rattle.writer.specs.declared.Flaw.{Flaw}
-use Rattle.writer.specs.declared.Checked.{Checked}
-use Rattle.writer.specs.declared.Checked.TheVariants.{Items, Flawed}
 
--- ---- an entry, tag by tag
+-- ---- of a list of items they are its items
 
-pub entry_key : (tag value k : ℕ) (entry : Entry) → tag ≡ k → entry ≡ entry_of k value → entry ≡ entry_of tag value
-entry_key tag value k entry e q = rw e q
-
-pub entry-none : (tag value : ℕ) → (tag ≡ 0 → ⊥) → (tag ≡ 1 → ⊥) → (tag ≡ 2 → ⊥) → (tag ≡ 3 → ⊥) → (tag ≡ 4 → ⊥) → No Tag ≡ entry_of tag value
-unfolding entry_of
-entry-none tag value a b d e f = rw (ne_eqb tag 0 a, ne_eqb tag 1 b, ne_eqb tag 2 d, ne_eqb tag 3 e, ne_eqb tag 4 f)
-
--- three bytes of a list, and those behind them
-three : (bytes : List ℕ) (at : ℕ) → 3 ≤ length bytes - at
-    → drop at bytes ≡ get_or bytes at 0 ∷ get_or bytes (at + 1) 0 ∷ get_or bytes (at + 1 + 1) 0 ∷ drop (at + 3) bytes
-three bytes at h =
-    let e : suc (suc (suc at)) ≡ at + 3 = omega arith in
-    let f : suc (suc at) ≡ at + 1 + 1 = omega arith in
-    let g : suc at ≡ at + 1 = omega arith in
-    drop-cons bytes at 0 (omega arith)
-    ∙ ap (λ (l : List ℕ). get_or bytes at 0 ∷ l) (drop-cons bytes (suc at) 0 (omega arith))
-    ∙ ap (λ (l : List ℕ). get_or bytes at 0 ∷ get_or bytes (suc at) 0 ∷ l) (drop-cons bytes (suc (suc at)) 0 (omega arith))
-    ∙ rw (e, f, g)
-
--- less than three
-few : (bytes : List ℕ) → length bytes < 3 → items_of bytes ≡ []
-unfolding items_of
-few [] h = refl
-few (x ∷ []) h = refl
-few (x ∷ y ∷ []) h = refl
-few (x ∷ y ∷ z ∷ bytes) h = absurd (omega arith)
-
--- ---- all items
-
-pub items-next : (bytes : List ℕ) (at : ℕ) → 3 ≤ length bytes - at → items_of (drop at bytes) ≡ item_at bytes at ∷ items_of (drop (at + 3) bytes)
-unfolding items_of
-items-next bytes at h = ap items_of (three bytes at h)
-
-pub items-none : (bytes : List ℕ) (at : ℕ) → length bytes - at < 3 → items_of (drop at bytes) ≡ []
-items-none bytes at h = few (drop at bytes) (rw (length-drop at bytes) h)
-
-pub item-is : (entry : Entry) (bytes : List ℕ) (at : ℕ) (i : Item) → entry ≡ entry_at bytes at → entry ≡ Is i → i ≡ item_at bytes at
-item-is entry bytes at i q w = ap item_in (sym w ∙ q)
-
-pub item-no : (entry : Entry) (bytes : List ℕ) (at : ℕ) (why : Why) → entry ≡ entry_at bytes at → entry ≡ No why → Restore ≡ item_at bytes at
-item-no entry bytes at why q w = ap item_in (sym w ∙ q)
-
--- of a list of items they are its items
-listed_by : (bytes : List ℕ) (items : List Item) → ((js : List Item) → listed bytes ≡ all js → items_of bytes ≡ js) → (entry : Entry) (more : Listed) → listed bytes ≡ more
-    → before entry more ≡ all items → item_in entry ∷ items_of bytes ≡ items
-listed_by bytes items known (Is i) (all js) q e = let s = known js q in cc
-listed_by bytes items known (Is i) (flawed f) q e = cc
-listed_by bytes items known (No why) more q e = cc
+listed_by : (bytes : List ℕ) (items : List Item) → ((js : List Item) → listed bytes ≡ all js → items_of bytes ≡ js) → (entry : Result Item Why) (more : Listed) → listed bytes ≡ more
+    → before entry more ≡ all items → item_or entry ∷ items_of bytes ≡ items
+listed_by bytes items known (Ok i) (all js) q e = let s = known js q in cc
+listed_by bytes items known (Ok i) (flawed f) q e = cc
+listed_by bytes items known (Err why) more q e = cc
 
 pub items-listed : (bytes : List ℕ) (items : List Item) → listed bytes ≡ all items → items_of bytes ≡ items
 unfolding listed items_of
@@ -76,77 +24,83 @@ items-listed (x ∷ y ∷ []) items e = cc
 items-listed (x ∷ y ∷ z ∷ bytes) items e = listed_by bytes items (items-listed bytes) (entry_of x (y + 256 * z)) (listed bytes) refl e
 
 -- what is found to be a list has these items
-pub found-items : (bytes : List ℕ) → Items ≡ found_in (listed bytes) → listed bytes ≡ all (items_of bytes)
+pub found-items : (bytes : List ℕ) → Ok tt ≡ found_in (listed bytes) → listed bytes ≡ all (items_of bytes)
 found-items bytes e = go (listed bytes) refl e
   where
-    go : (l : Listed) → listed bytes ≡ l → Items ≡ found_in l → listed bytes ≡ all (items_of bytes)
+    go : (l : Listed) → listed bytes ≡ l → Ok tt ≡ found_in l → listed bytes ≡ all (items_of bytes)
     go (all items) q w = q ∙ ap all (sym (items-listed bytes items q))
     go (flawed f) q w = cc
 
-pub found-flaw : (bytes : List ℕ) (f : Flaw) → Flawed f ≡ found_in (listed bytes) → listed bytes ≡ flawed f
-found-flaw bytes f e = go (listed bytes) refl e
-  where
-    go : (l : Listed) → listed bytes ≡ l → Flawed f ≡ found_in l → listed bytes ≡ flawed f
-    go (all items) q w = cc
-    go (flawed g) q w = let s : g ≡ f = cc in q ∙ ap flawed s
+-- ---- three bytes, or what is left at the end, and those behind
 
--- ---- the first that is none
+-- the first three bytes of some, or all that there are
+pub record Cuts (bytes entry rest : List ℕ) : Type 0 where
+  pub are : bytes ≡ entry ++ rest
+  pub three : length entry ≡ min 3 (length bytes)
+  pub some : 0 < length bytes
 
--- so many items stand before
-abbrev pub behind : (k : ℕ) → Checked → Checked
-behind k Items = Items
-behind k (Flawed f) = Flawed (flaw_at (f.number + k) f.why)
+-- as a chunk comes off
+pub cuts : {n : ℕ} {bytes entry rest : List ℕ} → n ≡ 3 → (bytes ≡ entry ++ rest) × (length entry ≡ min n (length bytes)) × (0 < length bytes) → Cuts bytes entry rest
+cuts e (are, three, some) = record { are = are; three = rw (← e) three; some = some }
 
-behind_more : (k : ℕ) (l : Checked) → behind k (behind 1 l) ≡ behind (k + 1) l
-behind_more k Items = refl
-behind_more k (Flawed f) = let e : f.number + 1 + k ≡ f.number + (k + 1) = omega arith in rw e
+-- the first that is none, where so many items stand before
+abbrev pub behind : (k : ℕ) → Result Unit Flaw → Result Unit Flaw
+behind k (Ok x) = Ok x
+behind k (Err f) = Err (flaw_at (f.number + k) f.why)
 
-behind-none : (l : Checked) → l ≡ behind 0 l
-behind-none Items = refl
-behind-none (Flawed f) = let e : f.number + 0 ≡ f.number = omega arith in rw e
+module _ (P : List ℕ → List ℕ → List ℕ → Type 0) (one : (x : ℕ) → P (x ∷ []) (x ∷ []) []) (two : (x y : ℕ) → P (x ∷ y ∷ []) (x ∷ y ∷ []) [])
+    (more : (x y z : ℕ) (rest : List ℕ) → P (x ∷ y ∷ z ∷ rest) (x ∷ y ∷ z ∷ []) rest) where
+  cut_by : (entry rest : List ℕ) → length entry ≡ min 3 (length (entry ++ rest)) → 0 < length (entry ++ rest) → P (entry ++ rest) entry rest
+  cut_by [] [] e h = absurd (omega arith)
+  cut_by [] (x ∷ rest) e h = absurd (omega arith)
+  cut_by (x ∷ []) [] e h = one x
+  cut_by (x ∷ []) (y ∷ rest) e h = absurd (omega arith)
+  cut_by (x ∷ y ∷ []) [] e h = two x y
+  cut_by (x ∷ y ∷ []) (z ∷ rest) e h = absurd (omega arith)
+  cut_by (x ∷ y ∷ z ∷ []) rest e h = more x y z rest
+  cut_by (x ∷ y ∷ z ∷ w ∷ entry) rest e h = absurd (omega arith)
 
-pub found_first : (bytes : List ℕ) → found_in (listed bytes) ≡ behind 0 (found_in (listed (drop 0 bytes)))
-found_first bytes = behind-none (found_in (listed bytes))
+  cut : {bytes entry rest : List ℕ} → Cuts bytes entry rest → P bytes entry rest
+  cut {bytes} {entry} {rest} c = rw c.are (cut_by entry rest (rw (← c.are) c.three) (rw (← c.are) c.some))
 
-found-is : (i : Item) (more : Listed) → found_in (before (Is i) more) ≡ behind 1 (found_in more)
-found-is i (all items) = refl
-found-is i (flawed f) = refl
+pub items-next : {bytes entry rest : List ℕ} → Cuts bytes entry rest → items_of bytes ≡ item_in entry ∷ items_of rest
+unfolding items_of
+items-next c = cut (λ bytes entry rest. items_of bytes ≡ item_in entry ∷ items_of rest) (λ x. refl) (λ x y. refl) (λ x y z rest. refl) c
 
-module _ (bytes : List ℕ) (at k : ℕ) (found : Checked) (e : found ≡ behind k (found_in (listed (drop at bytes)))) where
-  module _ (h : 3 ≤ length bytes - at) where
-    here : found_in (listed (drop at bytes)) ≡ found_in (before (entry_at bytes at) (listed (drop (at + 3) bytes)))
-    unfolding listed
-    here = ap (λ (l : List ℕ). found_in (listed l)) (three bytes at h)
+pub items_none : (bytes : List ℕ) → length bytes ≡ 0 → items_of bytes ≡ []
+unfolding items_of
+items_none bytes z = rw (nil_from_length bytes z)
 
-    -- an item stands there
-    pub found-item : (i : Item) (entry : Entry) → entry ≡ entry_at bytes at → entry ≡ Is i → found ≡ behind (k + 1) (found_in (listed (drop (at + 3) bytes)))
-    found-item i entry q w =
-        let s : found_in (listed (drop at bytes)) ≡ behind 1 (found_in (listed (drop (at + 3) bytes))) =
-        here ∙ rw (← q, w) (found-is i (listed (drop (at + 3) bytes)))
-        in
-        e ∙ ap (behind k) s ∙ behind_more k (found_in (listed (drop (at + 3) bytes)))
+-- the first entry decides, or what is behind it
+abbrev pub found_first : Result Item Why → (rest : List ℕ) → Result Unit Flaw
+found_first (Ok i) rest = behind 1 (found_in (listed rest))
+found_first (Err why) rest = Err (flaw_at 1 why)
 
-    -- or none
-    pub found-no : (why : Why) (entry : Entry) → entry ≡ entry_at bytes at → entry ≡ No why → Flawed (flaw_at (k + 1) why) ≡ found
-    found-no why entry q w =
-        let n : k + 1 ≡ 1 + k = omega arith in
-        let s : found_in (listed (drop at bytes)) ≡ Flawed (flaw_at 1 why) = here ∙ rw (← q, w) in
-        sym (e ∙ ap (behind k) s ∙ rw (← n))
+found_before : (entry : Result Item Why) (rest : List ℕ) (l : Listed) → listed rest ≡ l → found_in (before entry l) ≡ found_first entry rest
+found_before (Ok i) rest (all items) e = rw e
+found_before (Ok i) rest (flawed f) e = rw e
+found_before (Err why) rest l e = refl
 
-  -- or less than three bytes
-  pub found-cut : at < length bytes → length bytes - at < 3 → Flawed (flaw_at (k + 1) Cut) ≡ found
+pub found-next : {bytes entry rest : List ℕ} → Cuts bytes entry rest → found_in (listed bytes) ≡ found_first (entry_in entry) rest
+unfolding listed
+found-next c =
+    cut (λ bytes entry rest. found_in (listed bytes) ≡ found_first (entry_in entry) rest) (λ x. refl) (λ x y. refl)
+    (λ x y z rest. found_before (entry_of x (y + 256 * z)) rest (listed rest) refl) c
+
+-- ---- the walk over a list
+
+module _ {found : Result Unit Flaw} where
+  module _ (k : ℕ) {bytes entry rest : List ℕ} (c : Cuts bytes entry rest) (e : found ≡ behind k (found_in (listed bytes))) where
+    pub found-item : {i : Item} → entry_in entry ≡ Ok i → found ≡ behind (k + 1) (found_in (listed rest))
+    found-item q = e ∙ rw (found-next c, q) (go (found_in (listed rest)))
+      where
+        go : (l : Result Unit Flaw) → behind k (behind 1 l) ≡ behind (k + 1) l
+        go (Ok x) = refl
+        go (Err f) = let e : f.number + 1 + k ≡ f.number + (k + 1) = omega arith in rw e
+
+    pub found-flaw : {why : Why} → entry_in entry ≡ Err why → Err (flaw_at (k + 1) why) ≡ found
+    found-flaw q = let n : k + 1 ≡ 1 + k = omega arith in sym (e ∙ rw (found-next c, q, ← n))
+
+  pub found_all : (k : ℕ) (bytes : List ℕ) → length bytes ≡ 0 → found ≡ behind k (found_in (listed bytes)) → Ok tt ≡ found
   unfolding listed
-  found-cut l h =
-      let n : k + 1 ≡ 1 + k = omega arith in
-      sym (e ∙ ap (behind k) (go (drop at bytes) (rw (length-drop at bytes) (omega arith)) (rw (length-drop at bytes) h)) ∙ rw (← n))
-    where
-      go : (xs : List ℕ) → 0 < length xs → length xs < 3 → found_in (listed xs) ≡ Flawed (flaw_at 1 Cut)
-      go [] a b = absurd (omega arith)
-      go (x ∷ []) a b = refl
-      go (x ∷ y ∷ []) a b = refl
-      go (x ∷ y ∷ z ∷ xs) a b = absurd (omega arith)
-
-  -- or none at all
-  pub found_all : length bytes ≤ at → Items ≡ found
-  unfolding listed
-  found_all l = sym (e ∙ rw (drop_of_length-le bytes l))
+  found_all k bytes z e = sym (e ∙ rw (nil_from_length bytes z))

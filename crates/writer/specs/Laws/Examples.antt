@@ -1,5 +1,5 @@
 -- Modules of one item each, and an empty one, by computation.
-use Rattle.std.specs.Prelude.{◌≡◌, refl, [], ◌∷◌}
+use Rattle.std.specs.Prelude.{◌≡◌, refl, [], ◌∷◌, Ok, Err}
 use Rattle.modules.specs.Definition.Bits.{bits_of}
 use Rattle.modules.specs.Definition.Items.{item_bits}
 use Rattle.modules.specs.declared.Item.TheVariants.{Byte, Word, SetPage, Restore, Move}
@@ -7,7 +7,7 @@ use Rattle.writer.specs.Definition.Entries.{entry_of, all, flawed, flaw_at, list
 use Rattle.writer.specs.Definition.Bytes.{bytes_of, module_of}
 use Rattle.writer.specs.Definition.Writing.{refuses_from, refuses_page, answer_to}
 use Rattle.writer.specs.declared.Why.TheVariants.{Cut, Tag, AboveByte, Valued}
-use Rattle.writer.specs.declared.Written.TheVariants.{Done, Page, Range}
+use Rattle.writer.specs.declared.Refusal.TheVariants.{Page, Range}
 
 -- `C0`
 empty : module_of [] ≡ 192 ∷ []
@@ -42,25 +42,25 @@ one-move = refl
 -- ---- edges of the page rule, with a buffer that is long enough, or short
 
 -- a word ends at 16,384, and one byte further
-word-at-end : answer_to 0 16382 (Word 0 ∷ []) 3 ≡ Done 3
+word-at-end : answer_to 0 16382 (Word 0 ∷ []) 3 ≡ Ok 3
 unfolding answer_to refuses_page refuses_from module_of bytes_of item_bits bits_of
 word-at-end = refl
 
-word-past-end : answer_to 0 16383 (Word 0 ∷ []) 3 ≡ Page
+word-past-end : answer_to 0 16383 (Word 0 ∷ []) 3 ≡ Err Page
 unfolding answer_to refuses_page refuses_from module_of bytes_of item_bits bits_of
 word-past-end = refl
 
 -- a move back by 1, with a carry
-move-back : answer_to 3 1 (Move 65535 ∷ []) 3 ≡ Done 3
+move-back : answer_to 3 1 (Move 65535 ∷ []) 3 ≡ Ok 3
 unfolding answer_to refuses_page refuses_from module_of bytes_of item_bits bits_of
 move-back = refl
 
 -- PAGE goes before RANGE, which a buffer one byte short gives
-page-first : answer_to 0 0 (SetPage 4 ∷ []) 0 ≡ Page
+page-first : answer_to 0 0 (SetPage 4 ∷ []) 0 ≡ Err Page
 unfolding answer_to refuses_page refuses_from module_of bytes_of item_bits bits_of
 page-first = refl
 
-one-short : answer_to 0 0 (Word 0 ∷ []) 2 ≡ Range
+one-short : answer_to 0 0 (Word 0 ∷ []) 2 ≡ Err Range
 unfolding answer_to refuses_page refuses_from module_of bytes_of item_bits bits_of
 one-short = refl
 

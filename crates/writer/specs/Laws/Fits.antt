@@ -1,5 +1,5 @@
 -- What a list that the writer takes holds: numbers that fit their bits, and items without fault where the whole segment is the user's. And such items can be given to it.
-use Rattle.std.specs.Prelude.{◌≡◌, refl, Bool, true, false, cond, ◌||◌, List, [], ◌∷◌, ℕ, ◌+◌, ◌*◌, ◌/◌, ◌%◌, ◌≤◌, ◌<◌, ltb, eqb}
+use Rattle.std.specs.Prelude.{◌≡◌, refl, Bool, true, false, cond, ◌||◌, List, [], ◌∷◌, ℕ, ◌+◌, ◌*◌, ◌/◌, ◌%◌, ◌≤◌, ◌<◌, ltb, eqb, Result, Ok, Err}
 use Rattle.std.proofs.Common.{sym, ap, ◌∙◌, arith, ltb-false, le-ltb}
 use Rattle.std.proofs.lemmas.Bool.{false≢true}
 use Rattle.rows.specs.Laws.Says.{says-no}
@@ -16,8 +16,7 @@ use Rattle.writer.specs.Definition.Entries.{entry_of, list_bytes, Listed, all, f
 use Rattle.writer.specs.Definition.Bytes.{AllBytes}
 use Rattle.writer.specs.Definition.Writing.{page_above, refuses_from}
 use Rattle.writer.specs.declared.Why.TheVariants.{Tag, AboveByte, Valued}
-use Rattle.writer.specs.declared.Entry.{Entry}
-use Rattle.writer.specs.declared.Entry.TheVariants.{Is, No}
+use Rattle.writer.specs.declared.Why.{Why}
 
 -- ---- what a tag and a value can hold
 
@@ -29,9 +28,9 @@ Held (SetPage page) = Unit {0}
 Held Restore = Unit {0}
 Held (Move x) = x < 65536
 
-abbrev HeldEntry : Entry → Type 0
-HeldEntry (Is i) = Held i
-HeldEntry (No why) = Unit {0}
+abbrev HeldEntry : Result Item Why → Type 0
+HeldEntry (Ok i) = Held i
+HeldEntry (Err why) = Unit {0}
 
 abbrev AllHeld : List Item → Type 0
 AllHeld [] = Unit {0}
@@ -47,8 +46,8 @@ entry-held tag value h = go (eqb tag 0) (eqb tag 1) (eqb tag 2) (eqb tag 3) (eqb
   where
     go : (a b c d e above none : Bool) → ltb 255 value ≡ above
         → HeldEntry
-        (cond a (cond above (No AboveByte) (Is (Byte value)))
-        (cond b (Is (Word value)) (cond c (Is (SetPage value)) (cond d (cond none (Is Restore) (No Valued)) (cond e (Is (Move value)) (No Tag))))))
+        (cond a (cond above (Err AboveByte) (Ok (Byte value)))
+        (cond b (Ok (Word value)) (cond c (Ok (SetPage value)) (cond d (cond none (Ok Restore) (Err Valued)) (cond e (Ok (Move value)) (Err Tag))))))
     go true b c d e true none q = tt
     go true b c d e false none q = let l = ltb-false 255 value q in omega arith
     go false true c d e above none q = h
@@ -58,10 +57,10 @@ entry-held tag value h = go (eqb tag 0) (eqb tag 1) (eqb tag 2) (eqb tag 3) (eqb
     go false false false false true above none q = h
     go false false false false false above none q = tt
 
-before-held : (entry : Entry) (more : Listed) → HeldEntry entry → HeldListed more → HeldListed (before entry more)
-before-held (Is i) (all items) h k = (h, k)
-before-held (Is i) (flawed f) h k = tt
-before-held (No why) more h k = tt
+before-held : (entry : Result Item Why) (more : Listed) → HeldEntry entry → HeldListed more → HeldListed (before entry more)
+before-held (Ok i) (all items) h k = (h, k)
+before-held (Ok i) (flawed f) h k = tt
+before-held (Err why) more h k = tt
 
 bytes-held : (bytes : List ℕ) → AllBytes bytes → HeldListed (listed bytes)
 unfolding listed

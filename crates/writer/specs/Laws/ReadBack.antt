@@ -1,5 +1,5 @@
 -- Writer and reader give each other back: the statements of Definition/ReadBack.antt, proved, and that both are one-to-one on what they accept.
-use Rattle.std.specs.Prelude.{◌≡◌, refl, Bool, true, false, cond, ◌||◌, List, [], ◌∷◌, ◌++◌, ℕ, zero, suc, ◌+◌, ◌≤◌, ◌<◌, ltb, length, take, drop, replicate}
+use Rattle.std.specs.Prelude.{◌≡◌, refl, Bool, true, false, cond, ◌||◌, List, [], ◌∷◌, ◌++◌, ℕ, zero, suc, ◌+◌, ◌≤◌, ◌<◌, ltb, length, take, drop, replicate, Ok, Err}
 use Rattle.std.proofs.Common.{sym, ap, ◌∙◌, append-nil, le_refl, arith, ltb-false, le-ltb, length-append, length-take, take_at, take-take, length-take-le}
 use Rattle.std.proofs.lemmas.List.{length-replicate}
 use Rattle.modules.specs.Definition.Bits.{O, bits_in}
@@ -12,14 +12,13 @@ use Rattle.modules.specs.Laws.Numbers.{bytes-length}
 use Rattle.modules.specs.Laws.Unique.{one-module, whole-module, whole-faultless, module-items, module-read, module-whole}
 use Rattle.modules.specs.declared.Item.{Item}
 use Rattle.modules.specs.declared.Target.{Target}
-use Rattle.modules.specs.declared.Judged.TheVariants.{Whole}
 use Rattle.rows.specs.Laws.Lists.{or_left, or_right}
 use Rattle.writer.specs.Definition.Bytes.{padding_for, module_of, AllBytes}
 use Rattle.writer.specs.Definition.Writing.{refuses_from, refuses_page, answer_to}
 use Rattle.writer.specs.Definition.ReadBack.{ReadAs, ReadsBack, WrittenAs, AcceptedAsWritten, OneToOne}
 use Rattle.writer.specs.Laws.Bytes.{module-bits, module-small, module-is}
 use Rattle.writer.specs.Laws.Fits.{listed-fit, passed-faultless, faultless-passed, list-small, list-listed}
-use Rattle.writer.specs.declared.Written.TheVariants.{Done, Page, Range}
+use Rattle.writer.specs.declared.Refusal.TheVariants.{Page, Range}
 
 -- ---- what the writer makes is a module of its items
 
@@ -41,11 +40,11 @@ record Passed (page offset : ℕ) (items : List Item) (n : ℕ) : Type 0 where
   pub page-is : refuses_page page offset items ≡ false
   pub size_is : n ≡ length (module_of items)
 
-done-passed : (page offset : ℕ) (items : List Item) (room n : ℕ) → answer_to page offset items room ≡ Done n → Passed page offset items n
+done-passed : (page offset : ℕ) (items : List Item) (room n : ℕ) → answer_to page offset items room ≡ Ok n → Passed page offset items n
 unfolding answer_to
 done-passed page offset items room n e = go (refuses_page page offset items) (ltb room (length (module_of items))) refl e
   where
-    go : (p s : Bool) → refuses_page page offset items ≡ p → cond p Page (cond s Range (Done (length (module_of items)))) ≡ Done n → Passed page offset items n
+    go : (p s : Bool) → refuses_page page offset items ≡ p → cond p (Err Page) (cond s (Err Range) (Ok (length (module_of items)))) ≡ Ok n → Passed page offset items n
     go true s q w = record { page-is = cc; size_is = cc }
     go false true q w = record { page-is = cc; size_is = cc }
     go false false q w = record { page-is = q; size_is = cc }
@@ -55,14 +54,14 @@ unfolding refuses_page
 passed-items page offset items e = or_right (ltb 3 page || ltb page_size offset) (refuses_from page (counter page offset) items) e
 
 -- from a start within its range
-pub done-counts : (page offset : ℕ) (items : List Item) (room n : ℕ) → answer_to page offset items room ≡ Done n → Counts (counter page offset)
+pub done-counts : (page offset : ℕ) (items : List Item) (room n : ℕ) → answer_to page offset items room ≡ Ok n → Counts (counter page offset)
 unfolding refuses_page
 done-counts page offset items room n e =
     let start = or_left (ltb 3 page || ltb page_size offset) (refuses_from page (counter page offset) items) (done-passed page offset items room n e).page-is in
     record { page = ltb-false 3 page (or_left (ltb 3 page) (ltb page_size offset) start); offset = ltb-false page_size offset (or_right (ltb 3 page) (ltb page_size offset) start) }
 
 -- and without fault where the whole segment is the user's
-pub done-faultless : (g : Target) (offset : ℕ) (items : List Item) (room n : ℕ) → 0 < g.row → page_size ≤ g.reach → answer_to g.page offset items room ≡ Done n
+pub done-faultless : (g : Target) (offset : ℕ) (items : List Item) (room n : ℕ) → 0 < g.row → page_size ≤ g.reach → answer_to g.page offset items room ≡ Ok n
     → FaultlessFrom g (counter g.page offset) items
 done-faultless g offset items room n row reach e =
     passed-faultless g (counter g.page offset) items row reach (passed-items g.page offset items (done-passed g.page offset items room n e).page-is)
@@ -145,13 +144,13 @@ module _ (g : Target) (offset : ℕ) (items : List Item) (fit : AllFit items) (f
   own : IsModule (module_of items) items (length (module_of items))
   own = rw (append-nil (module_of items)) at (written-module items [] fit)
 
-  taken-accepted : 0 < g.row → page_size ≤ g.reach → answer_to g.page offset items n ≡ Done n → judged g (counter g.page offset) (module_of items) ≡ Whole n
+  taken-accepted : 0 < g.row → page_size ≤ g.reach → answer_to g.page offset items n ≡ Ok n → judged g (counter g.page offset) (module_of items) ≡ Ok n
   taken-accepted row reach e =
       let p = done-passed g.page offset items n n e in
       module-whole g (counter g.page offset) (module_of items) items n (rw p.size_is (seen (module_of items) items (length (module_of items)) own few))
       (done-faultless g offset items n n row reach e)
 
-  accepted-taken : Counts (counter g.page offset) → judged g (counter g.page offset) (module_of items) ≡ Whole n → answer_to g.page offset items n ≡ Done n
+  accepted-taken : Counts (counter g.page offset) → judged g (counter g.page offset) (module_of items) ≡ Ok n → answer_to g.page offset items n ≡ Ok n
   accepted-taken start e =
       let same = module-items (module_of items) items (length (module_of items)) (seen (module_of items) items (length (module_of items)) own few) in
       let w = accepted-as-written g offset (module_of items) n (module-small items) start e in

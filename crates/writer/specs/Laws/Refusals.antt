@@ -1,5 +1,5 @@
 -- The writer refuses exactly what the refusals say, in propositions: PAGE, "then RANGE".
-use Rattle.std.specs.Prelude.{◌≡◌, refl, Bool, true, false, cond, ◌||◌, ◌⊎◌, ◌↔◌, List, [], ◌∷◌, ℕ, ◌<◌, ltb, length}
+use Rattle.std.specs.Prelude.{◌≡◌, refl, Bool, true, false, cond, ◌||◌, ◌⊎◌, ◌↔◌, List, [], ◌∷◌, ℕ, ◌<◌, ltb, length, Result, Ok, Err}
 use Rattle.std.proofs.Common.{ap, inl, inr, ⊎_elim, arith, ltb-true, lt-ltb}
 use Rattle.std.proofs.lemmas.Bool.{false≢true}
 use Rattle.rows.specs.Laws.Says.{Says, says-lt, says-or, says-as, says-no}
@@ -13,8 +13,8 @@ use Rattle.writer.specs.Definition.Bytes.{module_of}
 use Rattle.writer.specs.Definition.Writing.{page_above, refuses_from, refuses_page, answer_to, put_by, answer_number, written_of}
 use Rattle.writer.specs.Definition.Refusals.{ItemRefused, page-above, behind, PageRefused, start-page, start-offset, item, RangeRefused}
 use Rattle.writer.specs.Definition.Refusals as refusals
-use Rattle.writer.specs.declared.Written.{Written}
-use Rattle.writer.specs.declared.Written.TheVariants.{Done, Page, Range}
+use Rattle.writer.specs.declared.Refusal.TheVariants.{Page, Range}
+use Rattle.writer.specs.declared.Refusal.{Refusal}
 
 -- ---- an item of the list
 
@@ -67,7 +67,7 @@ page-says page offset items =
 
 module _ (page offset : ℕ) (items : List Item) (room : ℕ) where
   answered : (p s : Bool) → refuses_page page offset items ≡ p → ltb room (length (module_of items)) ≡ s
-      → answer_to page offset items room ≡ cond p Page (cond s Range (Done (length (module_of items))))
+      → answer_to page offset items room ≡ cond p (Err Page) (cond s (Err Range) (Ok (length (module_of items))))
   unfolding answer_to
   answered p s e q = rw (e, q)
 
@@ -99,7 +99,6 @@ module _ (page offset : ℕ) (items : List Item) (room : ℕ) where
   )
 
 -- a refused call gives no bytes written and leaves the buffer
-pub refused-keeps : (w : Written) (items : List Item) (buffer : List ℕ) → (answer_number w ≡ 0 → ⊥) → (written_of w ≡ 0) × (put_by w items buffer ≡ buffer)
-refused-keeps (Done n) items buffer h = absurd (h refl)
-refused-keeps Page items buffer h = (refl, refl)
-refused-keeps Range items buffer h = (refl, refl)
+pub refused-keeps : (w : Result ℕ Refusal) (items : List Item) (buffer : List ℕ) → (answer_number w ≡ 0 → ⊥) → (written_of w ≡ 0) × (put_by w items buffer ≡ buffer)
+refused-keeps (Ok n) items buffer h = absurd (h refl)
+refused-keeps (Err why) items buffer h = (refl, refl)

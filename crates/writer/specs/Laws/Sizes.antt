@@ -1,30 +1,38 @@
 -- The bits of a list, item by item.
-use Rattle.std.specs.Prelude.{◌≡◌, List, [], ◌++◌, ℕ, ◌+◌, ◌-◌, ◌≤◌, ◌<◌, length, drop}
-use Rattle.std.proofs.Common.{sym, ap, ◌∙◌, append_assoc, arith, length-append}
+use Rattle.std.specs.Prelude.{◌≡◌, List, [], ◌∷◌, ◌++◌, ℕ, ◌+◌, ◌*◌, ◌≤◌, ◌<◌, length}
+use Rattle.std.proofs.Common.{sym, ap, ◌∙◌, append_assoc, append-nil, arith, length-append}
 use Rattle.modules.specs.Definition.Bits.{Bit}
 use Rattle.modules.specs.Definition.Items.{item_bits, all_bits}
 use Rattle.modules.specs.declared.Item.{Item}
-use Rattle.writer.specs.Within.Entries.{item_at, items_of}
+use Rattle.writer.specs.Within.Entries.{item_in, items_of}
 use Rattle.writer.specs.Within.Codes.{width_of}
-use Rattle.writer.specs.Laws.Entries.{items-next, items-none}
+use Rattle.writer.specs.Laws.Entries.{Cuts, items-next, items_none}
 use Rattle.writer.specs.Laws.Numbers.{item-width}
 
-module _ (bytes : List ℕ) (at : ℕ) where
-  module _ (h : 3 ≤ length bytes - at) (i : Item) (e : i ≡ item_at bytes at) where
-    pub bits-next : all_bits (items_of (drop at bytes)) ≡ item_bits i ++ all_bits (items_of (drop (at + 3) bytes))
-    bits-next = ap all_bits (items-next bytes at h) ∙ rw (← e)
+module _ {bytes entry rest : List ℕ} (c : Cuts bytes entry rest) (i : Item) (e : i ≡ item_in entry) where
+  bits-next : all_bits (items_of bytes) ≡ item_bits i ++ all_bits (items_of rest)
+  bits-next = ap all_bits (items-next c) ∙ rw (← e)
 
-    pub size-next : (w : ℕ) → w ≡ width_of i → length (all_bits (items_of (drop at bytes))) ≡ w + length (all_bits (items_of (drop (at + 3) bytes)))
-    size-next w q = ap length bits-next ∙ length-append (item_bits i) (all_bits (items_of (drop (at + 3) bytes))) ∙ rw (item-width i, q)
+  pub size-next : (w : ℕ) → w ≡ width_of i → length (all_bits (items_of bytes)) ≡ w + length (all_bits (items_of rest))
+  size-next w q = ap length bits-next ∙ length-append (item_bits i) (all_bits (items_of rest)) ∙ rw (item-width i, q)
 
-    -- bits before them
-    pub bits-more : (bits all : List Bit) → bits ++ all_bits (items_of (drop at bytes)) ≡ all → (bits ++ item_bits i) ++ all_bits (items_of (drop (at + 3) bytes)) ≡ all
-    bits-more bits all q = append_assoc bits (item_bits i) (all_bits (items_of (drop (at + 3) bytes))) ∙ ap (λ (l : List Bit). bits ++ l) (sym bits-next) ∙ q
+  -- bits before them
+  module _ (bits all : List Bit) (q : bits ++ all_bits (items_of bytes) ≡ all) where
+    pub bits-more : (bits ++ item_bits i) ++ all_bits (items_of rest) ≡ all
+    bits-more = append_assoc bits (item_bits i) (all_bits (items_of rest)) ∙ ap (λ (l : List Bit). bits ++ l) (sym bits-next) ∙ q
 
-    pub piece-fits : (bits all : List Bit) → bits ++ all_bits (items_of (drop at bytes)) ≡ all → length bits + length (item_bits i) ≤ length all
-    piece-fits bits all q =
-        let w = ap length (bits-more bits all q) in
-        omega (arith, w, length-append (bits ++ item_bits i) (all_bits (items_of (drop (at + 3) bytes))), length-append bits (item_bits i))
+    pub piece-fits : length bits + length (item_bits i) ≤ length all
+    piece-fits = omega (arith, ap length bits-more, length-append (bits ++ item_bits i) (all_bits (items_of rest)), length-append bits (item_bits i))
 
-  pub bits-last : length bytes - at < 3 → all_bits (items_of (drop at bytes)) ≡ []
-  bits-last h = ap all_bits (items-none bytes at h)
+pub bits-last : (bytes : List ℕ) → length bytes ≡ 0 → all_bits (items_of bytes) ≡ []
+bits-last bytes z = ap all_bits (items_none bytes z)
+
+pub bits-all : (bytes : List ℕ) (bits all : List Bit) → length bytes ≡ 0 → bits ++ all_bits (items_of bytes) ≡ all → bits ≡ all
+bits-all bytes bits all z q = sym (append-nil bits) ∙ ap (λ (l : List Bit). bits ++ l) (sym (bits-last bytes z)) ∙ q
+
+-- an item has at most 7 bits for each of its bytes
+pub width-few : (entry : List ℕ) (w : ℕ) → 0 < length entry → w ≤ 20 → w ≡ width_of (item_in entry) → w ≤ 7 * length entry
+width-few [] w some few e = absurd (omega arith)
+width-few (x ∷ []) w some few e = omega arith
+width-few (x ∷ y ∷ []) w some few e = omega arith
+width-few (x ∷ y ∷ z ∷ entry) w some few e = omega arith

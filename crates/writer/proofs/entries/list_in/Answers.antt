@@ -1,28 +1,21 @@
-use Rattle.std.proofs.Common.{arith}
-use Rattle.writer.specs.Laws.Entries.{found-item, found-no, found-cut, found_all}
+use Rattle.std.proofs.Common.{rules, ◌∙◌, sym}
+use Rattle.writer.specs.Laws.Entries.{cuts, found-item, found-flaw, found_all}
 use Rattle.writer.proofs.entries.list_in.Goals as goal
 
-pub returns-in-No : goal.returns-in-No
-returns-in-No c =
-    let l = c.loop-at in
-    found-no c.args.bytes.now l.at l.passed _ l.invariant.2 c.loop-at-test.true _ _ c.entry_at-entry.ensures
-    c.in-No.is
+pub loop-i-preserved : goal.loop-i-preserved
+loop-i-preserved c =
+    let (can, ends, three, e) = c.loop-i.invariant in
+    let step = c.in-Some.ensures.steps in
+    (search rules, tt, step.0.0 ∙ three, rw step.2 (found-item _ (cuts three step.0.1) e (sym c.entry_of.ensures ∙ c.in_default.is)))
 
-pub loop-at-preserved : goal.loop-at-preserved
-loop-at-preserved c =
-    let l = c.loop-at in (
-      omega arith,
-      omega arith,
-      found-item c.args.bytes.now l.at l.passed _ l.invariant.2 c.loop-at-test.true _ _ c.entry_at-entry.ensures
-          c.in-Is.is,
-    )
-
-pub returns-then-at-bytes : goal.returns-then-at-bytes
-returns-then-at-bytes c =
-    let l = c.loop-at in
-    found-cut c.args.bytes.now l.at l.passed _ l.invariant.2 c.if-at-bytes.true c.loop-at-test.false
+pub returns-in-Err : goal.returns-in-Err
+returns-in-Err c =
+    let (can, ends, three, e) = c.loop-i.invariant in
+    let step = c.in-Some.ensures.steps in
+    rw step.1 (found-flaw _ (cuts three step.0.1) e (sym c.entry_of.ensures ∙ c.in-Err.is))
 
 pub returns : goal.returns
 returns c =
-    let l = c.loop-at in
-    found_all c.args.bytes.now l.at l.passed _ l.invariant.2 c.if-at-bytes.false
+    let (can, ends, three, e) = c.loop-i.invariant in
+    let step = c.in-None.ensures.steps in
+    found_all _ _ step.0.1.0 e

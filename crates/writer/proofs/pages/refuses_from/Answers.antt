@@ -1,23 +1,28 @@
-use Rattle.std.proofs.Common.{sym, ap, ◌∙◌, arith}
-use Rattle.writer.specs.Definition.Writing.{refuses_from}
-use Rattle.writer.specs.Laws.Entries.{items-none}
-use Rattle.writer.specs.Laws.Pages.{refuses-goes, refuses-stops, refuses-none, next-counter}
+use Rattle.std.proofs.Common.{rules, sym, ◌∙◌}
+use Rattle.writer.specs.Laws.Entries.{cuts}
+use Rattle.writer.specs.Laws.Pages.{refuses-goes, refuses-stops, refuses-none}
 use Rattle.writer.proofs.pages.refuses_from.Goals as goal
 
-pub returns-in-Halt : goal.returns-in-Halt
-returns-in-Halt c =
-    let l = c.loop-at in
-    sym (l.invariant.2 ∙ refuses-stops c.args.items.now l.at c.loop-at-test.true c.args.start.page l.c _ _ c.item_at.ensures c.act_of-act.ensures.acts _ c.in-Halt.is)
-
-pub loop-at-preserved : goal.loop-at-preserved
-loop-at-preserved c =
-    let l = c.loop-at in (
-      omega arith,
-      next-counter _ _ c.in-Next.is c.act_of-act.ensures.counts,
-      l.invariant.2 ∙ refuses-goes c.args.items.now l.at c.loop-at-test.true c.args.start.page l.c _ _ c.item_at.ensures c.act_of-act.ensures.acts _ c.in-Next.is,
+pub loop-entry-preserved : goal.loop-entry-preserved
+loop-entry-preserved c =
+    let (can, ends, three, counts, e) = c.loop-entry.invariant in
+    let step = c.in-Some.ensures.steps in
+    let act = c.act_of.ensures in (
+      search rules,
+      tt,
+      step.0 ∙ three,
+      rw c.in-Ok.is at act.counts,
+      e ∙ refuses-goes (cuts three step.1) _ _ _ _ c.item_of.ensures act.acts _ c.in-Ok.is,
     )
+
+pub returns-in-Err : goal.returns-in-Err
+returns-in-Err c =
+    let (can, ends, three, counts, e) = c.loop-entry.invariant in
+    let step = c.in-Some.ensures.steps in
+    sym (e ∙ refuses-stops (cuts three step.1) _ _ _ _ c.item_of.ensures c.act_of.ensures.acts _ c.in-Err.is)
 
 pub returns : goal.returns
 returns c =
-    let l = c.loop-at in
-    sym (l.invariant.2 ∙ ap (refuses_from c.args.start.page l.c) (items-none c.args.items.now l.at c.loop-at-test.false) ∙ refuses-none c.args.start.page l.c)
+    let (can, ends, three, counts, e) = c.loop-entry.invariant in
+    let step = c.in-None.ensures.steps in
+    sym (e ∙ refuses-none _ _ _ step.1.0)

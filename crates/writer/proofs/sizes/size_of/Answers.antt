@@ -1,18 +1,26 @@
-use Rattle.std.proofs.Common.{ap, arith, length}
+use Rattle.std.proofs.Common.{rules, arith, ◌<◌, ◌∙◌, ap, length, length-append}
 use Rattle.writer.specs.Within.Entries.{items_of}
+use Rattle.writer.specs.Within.Codes.{width_of}
+use Rattle.writer.specs.Laws.Entries.{cuts}
 use Rattle.writer.specs.Laws.Bytes.{module-size}
-use Rattle.writer.specs.Laws.Sizes.{size-next, bits-last}
+use Rattle.writer.specs.Laws.Sizes.{size-next, width-few, bits-last}
 use Rattle.writer.proofs.sizes.size_of.Goals as goal
 
-pub loop-at-preserved : goal.loop-at-preserved
-loop-at-preserved c =
-    let l = c.loop-at in
-    let e = size-next c.args.items.now l.at c.loop-at-test.true _ c.item_at.ensures _ c.width_of.ensures.0 in
-    (omega arith, omega arith, omega (arith, c.width_of.ensures.1, l.invariant.2), omega (arith, e, l.invariant.3))
+pub loop-entry-preserved : goal.loop-entry-preserved
+loop-entry-preserved c =
+    let (can, ends, three, over, few, all) = c.loop-entry.invariant in
+    let step = c.in-Some.ensures.steps in
+    let w = c.width_of.ensures in
+    let i = c.item_of.ensures in
+    let size = ap length step.1.0 ∙ length-append c.in-Some.entry.now _ in
+    let some : 0 < length c.in-Some.entry.now = omega (arith, step.1.1, step.1.2, three) in
+    let next = size-next (cuts three step.1) _ i _ w.0 in
+    let less = width-few _ _ some w.1 (w.0 ∙ ap width_of i) in
+    (search rules, tt, step.0 ∙ three, omega arith, omega (arith, size, less, few), omega (arith, next, all))
 
 pub returns : goal.returns
 returns c =
-    let l = c.loop-at in
+    let (can, ends, three, over, few, all) = c.loop-entry.invariant in
     let items = c.args.items.now in
-    let none = ap length (bits-last items l.at c.loop-at-test.false) in
-    omega (arith, none, l.invariant.1, l.invariant.3, module-size (items_of items))
+    let none = ap length (bits-last _ c.in-None.ensures.steps.1.0) in
+    omega (arith, none, over, all, c.div_ceil.ensures, module-size (items_of items))

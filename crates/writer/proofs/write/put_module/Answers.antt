@@ -1,29 +1,33 @@
 -- `write::put_module` meets its contract: items, end item and padding one behind the other are the module.
-use Rattle.std.proofs.Common.{arith, pow_pos}
+use Rattle.std.proofs.Common.{refl, rules, arith, pow_pos, length-append}
+use Rattle.modules.specs.Definition.Bits.{bits_of}
+use Rattle.modules.specs.Definition.Items.{all_bits}
+use Rattle.modules.specs.Laws.Numbers.{bits-length}
 use Rattle.writer.specs.Within.Entries.{items_of}
 use Rattle.writer.specs.Laws.Bytes.{module-size}
-use Rattle.writer.specs.Laws.Packing.{adds_then, adds-size, adds-bits, put_whole}
+use Rattle.writer.specs.Laws.Packing.{adds_then, adds-size, adds-bits, bits-left, put_whole}
 use Rattle.writer.proofs.write.put_module.Goals as goal
 
-pub put_items-pen-requires : goal.put_items-pen-requires
-put_items-pen-requires c = omega (arith, module-size (items_of c.args.items.now), c.requires)
-
-pub put_bits-pen-requires : goal.put_bits-pen-requires
-put_bits-pen-requires c =
-    let m = c.put_items-pen.ensures in
-    (m.few, m.low, omega arith, omega arith, omega (arith, adds-size m, module-size (items_of c.args.items.now), c.requires, c.put_items-pen.auto.buffer))
+pub put_items-requires : goal.put_items-requires
+put_items-requires c = ((omega arith, omega arith), omega (arith, module-size (items_of c.args.items.now), c.requires))
 
 pub put_bits-requires : goal.put_bits-requires
 put_bits-requires c =
-    let m = c.put_items-pen.ensures in
-    let n = c.put_bits-pen.ensures in
-    let size = adds-bits 3 _ n in
-    (n.few, n.low, omega arith, pow_pos _, omega (arith, adds-size m, size, n.few, module-size (items_of c.args.items.now), c.requires, c.put_items-pen.auto.buffer, c.put_bits-pen.auto.buffer))
+    let m = c.put_items.ensures in
+    ((m.few, m.low), omega arith, omega arith, bits-left m 3 (omega (arith, module-size (items_of c.args.items.now), c.requires)))
+
+pub put_bits-requires-2 : goal.put_bits-requires-2
+put_bits-requires-2 c =
+    let m = c.put_items.ensures in
+    let n = c.put_bits.ensures in
+    ((n.few, n.low), omega arith, pow_pos _, bits-left (adds_then m n) _ (omega (arith, adds-size m, adds-bits 3 _ n, bits-length 3 6, length-append (all_bits (items_of c.args.items.now)) (bits_of 3 6), n.few, module-size (items_of c.args.items.now), c.requires)))
 
 pub returns : goal.returns
 returns c =
     let items = items_of c.args.items.now in
-    let m = c.put_items-pen.ensures in
-    let n = c.put_bits-pen.ensures in
-    let p = c.put_bits.ensures in
-    put_whole items _ (omega (arith, adds-size m, adds-bits 3 _ n, n.few)) (adds_then (adds_then m n) p) (omega (arith, adds-bits _ 0 p, n.few, p.few))
+    let m = c.put_items.ensures in
+    let n = c.put_bits.ensures in
+    let p = c.put_bits-2.ensures in
+    let two = adds_then m n in
+    let all = adds_then two p in
+    put_whole items _ refl (omega (arith, adds-size m, adds-bits 3 _ n, n.few)) all (omega (arith, adds-bits _ 0 p, n.few, p.few)) (search rules)

@@ -1,15 +1,15 @@
--- `packing::put_item` meets its contract.
+-- `put_item` puts an item's code in its width.
 use Rattle.std.proofs.Common.{arith}
 use Rattle.writer.specs.Laws.Numbers.{item-width, code_fits}
 use Rattle.writer.specs.Laws.Packing.{adds-item}
-use Rattle.writer.proofs.packing.put_item.Goals as goal
+use Rattle.writer.proofs.Pen.put_item.Goals as goal
 
 pub put_bits-requires : goal.put_bits-requires
 put_bits-requires c =
     let w = c.width_of.ensures in
     let k = c.code_of.ensures in
     let i = c.args.item in
-    (c.requires.0, c.requires.1, w.1, rw (k, w.0) (code_fits i), omega (arith, item-width i, w.0, c.requires.2))
+    (c.requires.0, w.1, rw (k, w.0) (code_fits i), omega (arith, item-width i, w.0, c.requires.1))
 
 pub returns : goal.returns
 returns c =
