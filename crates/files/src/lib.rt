@@ -2,99 +2,62 @@
 #![tactic(auto)]
 
 ghost use Rattle.std.specs.Prelude.{◌≡◌, ◌+◌, ◌-◌, ◌≤◌, ◌<◌, length, take, drop, IfSome};
-ghost use Rattle.files.specs.Definition.Outcomes.{Brings, count_of, Fills, ReadOn, Takes};
+ghost use Rattle.files.specs.declared.Unread.TheVariants.{Failed};
+ghost use Rattle.files.specs.Definition.Outcomes.{Brings, Fills, ReadOn, Takes};
 
 use std::fs::{Files, OpenOptions, metadata, symlink_metadata};
-use std::io::{Error, ErrorKind, Read, Write};
+use std::io::{ErrorKind, Read, Write};
 use std::os::unix::fs::FileTypeExt;
 
-// What a read brought: so many bytes, the end of the input, or nothing, since it failed.
-#[derive(Clone, Copy)]
-pub enum Got {
-    Bytes(usize),
-    Over,
-    Failed,
-}
+// The name of the descriptor on which a program tells how it ended (`write_named`).
+pub const TOLD: &str = "/proc/self/fd/3";
 
-// What reads up to the end of the input brought: so many bytes and then the end, or a full buffer, or a failure.
+// A read brought nothing, since it failed.
 #[derive(Clone, Copy)]
-pub enum Filled {
-    Over(usize),
+pub struct ReadFailed;
+
+// Why reads did not come to the end of the input: the buffer is full, or one failed.
+#[derive(Clone, Copy)]
+pub enum Unread {
     Full,
     Failed,
 }
 
-// What a write took: all bytes; or so many, since it failed; or so many, since the reader has ended.
+impl From<ReadFailed> for Unread {
+    ghost from_gives = { λ _ why. why ≡ Failed };
+
+    fn from(_failed: ReadFailed) -> Unread {
+        Unread::Failed
+    }
+}
+
+// Why a write took so many bytes and not all: it failed, or the reader has ended.
 #[derive(Clone, Copy)]
-pub enum Wrote {
-    All,
+pub enum Unwritten {
     Failed(usize),
     Closed(usize),
 }
 
-// Why a call moved nothing: a signal interrupted it, the reader has ended, or it failed.
-#[derive(Clone, Copy)]
-enum Why {
-    Interrupted,
-    Closed,
-    Failed,
-}
-
-fn reason(error: Error) -> Why {
-    match error.kind() {
-        ErrorKind::Interrupted => Why::Interrupted,
-        ErrorKind::BrokenPipe => Why::Closed,
-        _ => Why::Failed,
-    }
-}
-
-// Reads once, to the front of the buffer.
-pub fn read_from<R: Read>(from: &mut R, buf: &mut [u8]) -> Got
+// Reads once, to the front of the buffer: so many bytes, or none where the input has ended.
+pub fn read_from<R: Read>(from: &mut R, buf: &mut [u8]) -> Result<usize, ReadFailed>
     ensures { Brings (length buf.new) result }
 {
-    let mut tries = u64::MAX;
-    while tries > 0 {
+    for _ in 0..u64::MAX {
         match from.read(buf) {
-            Ok(0) => {
-                return Got::Over;
-            }
-            Ok(n) => {
-                return Got::Bytes(n);
-            }
-            Err(error) => match reason(error) {
-                Why::Interrupted => {
-                    tries -= 1;
-                }
-                Why::Closed => {
-                    return Got::Failed;
-                }
-                Why::Failed => {
-                    return Got::Failed;
-                }
-            },
+            Ok(n) => return Ok(n),
+            Err(error) if error.kind() == ErrorKind::Interrupted => {}
+            Err(_) => return Err(ReadFailed),
         }
     }
-    Got::Failed
+    Err(ReadFailed)
 }
 
 // Reads once, after the first `left` bytes of the buffer.
-pub fn read_after<R: Read>(from: &mut R, buf: &mut [u8], left: usize) -> Got
+pub fn read_after<R: Read>(from: &mut R, buf: &mut [u8], left: usize) -> Result<usize, ReadFailed>
     requires { left < length buf.old }
     ensures { Brings (length buf.new - left) result × (take left buf.new ≡ take left buf.old) }
 {
-    let part = &mut buf[left..];
-    read_from(from, part)
-}
-
-// How many bytes a read brought.
-pub fn count_of(got: Got) -> usize
-    ensures { result ≡ count_of got }
-{
-    match got {
-        Got::Bytes(n) => n,
-        Got::Over => 0,
-        Got::Failed => 0,
-    }
+    read_from(from, &mut buf[left..])
 }
 
 // Moves the n bytes from index `from` to the front.
@@ -102,15 +65,16 @@ pub fn keep(buf: &mut [u8], from: usize, n: usize)
     requires { from + n ≤ length buf.old }
     ensures { (take n buf.new ≡ take n (drop from buf.old)) × (drop n buf.new ≡ drop n buf.old) }
 {
-    let mut i = 0;
-    while i < n {
-        buf[i] = buf[from + i];
-        i += 1;
-    }
+    buf.copy_within(from..from + n, 0);
 }
 
 // Keeps the bytes from `start` up to `filled` at the front of the buffer, and reads once behind them.
-pub fn read_on<R: Read>(from: &mut R, buf: &mut [u8], start: usize, filled: usize) -> Got
+pub fn read_on<R: Read>(
+    from: &mut R,
+    buf: &mut [u8],
+    start: usize,
+    filled: usize,
+) -> Result<usize, ReadFailed>
     requires { (start ≤ filled) × (filled ≤ length buf.old) × (filled < start + length buf.old) }
     ensures { ReadOn (take (filled - start) (drop start buf.old)) (filled - start) buf.new result }
 {
@@ -119,65 +83,50 @@ pub fn read_on<R: Read>(from: &mut R, buf: &mut [u8], start: usize, filled: usiz
     read_after(from, buf, left)
 }
 
-// Reads until the input ends, a read fails or the buffer is full, each time behind what is there, which stays (`read_after`).
-pub fn read_all<R: Read>(from: &mut R, buf: &mut [u8]) -> Filled
+// Reads until the input ends, each time behind what is there, which stays (`read_after`): how many bytes there are.
+pub fn read_all<R: Read>(from: &mut R, buf: &mut [u8]) -> Result<usize, Unread>
     ensures { Fills (length buf.new) result }
 {
     let mut filled: usize = 0;
     while filled < buf.len() {
-        let got = read_after(from, buf, filled);
-        match got {
-            Got::Bytes(n) => {
-                filled += n;
-            }
-            Got::Over => {
-                return Filled::Over(filled);
-            }
-            Got::Failed => {
-                return Filled::Failed;
-            }
+        let got = read_after(from, buf, filled)?;
+        if got == 0 {
+            return Ok(filled);
         }
+        filled += got;
     }
-    Filled::Full
+    Err(Unread::Full)
 }
 
 // Writes all bytes, as many at a time as a call takes.
-pub fn write_to<W: Write>(to: &mut W, bytes: &[u8]) -> Wrote
+pub fn write_to<W: Write>(to: &mut W, bytes: &[u8]) -> Result<(), Unwritten>
     ensures { Takes (length bytes.now) result }
 {
     let mut done: usize = 0;
-    let mut tries = u64::MAX;
-    while tries > 0 && done < bytes.len() {
-        let part = &bytes[done..];
-        match to.write(part) {
-            Ok(0) => {
-                return Wrote::Failed(done);
-            }
-            Ok(n) => {
-                done += n;
-            }
-            Err(error) => match reason(error) {
-                Why::Interrupted => {}
-                Why::Closed => {
-                    return Wrote::Closed(done);
-                }
-                Why::Failed => {
-                    return Wrote::Failed(done);
-                }
+    for _ in 0..u64::MAX {
+        if done == bytes.len() {
+            break;
+        }
+        match to.write(&bytes[done..]) {
+            Ok(0) => return Err(Unwritten::Failed(done)),
+            Ok(n) => done += n,
+            Err(error) => match error.kind() {
+                ErrorKind::Interrupted => {}
+                ErrorKind::BrokenPipe => return Err(Unwritten::Closed(done)),
+                _ => return Err(Unwritten::Failed(done)),
             },
         }
-        tries -= 1;
     }
     if done < bytes.len() {
-        return Wrote::Failed(done);
+        return Err(Unwritten::Failed(done));
     }
-    Wrote::All
+    Ok(())
 }
 
 // Writes all bytes to what a descriptor other than the standard three has open, by its name in /proc/self/fd: that is opened anew, and a file is
 // written at its end. None where nothing is written, since it is closed, can't be opened or was not opened for writing, as the name's permissions tell.
 // A pipe is opened for reading too, since a named one whose reader has gone would have the program wait for another.
-pub fn write_named<F: Files>(files: &F, name: &str, bytes: &[u8]) -> Option<Wrote>
+pub fn write_named<F: Files>(files: &F, name: &str, bytes: &[u8]) -> Option<Result<(), Unwritten>>
     ensures { IfSome result (Takes (length bytes.now)) }
 {
     let link = symlink_metadata(files, name).ok()?;

@@ -1,9 +1,6 @@
--- The tries fall.
+-- No more is written than there is.
 use Rattle.std.proofs.Common.{◌≤◌, length}
 use Rattle.files.proofs.write_to.Given as goal
 
-abbrev pub invariant-loop-tries : goal.invariant-loop-tries
-invariant-loop-tries g l = l.done ≤ length l.bytes
-
-abbrev pub decreases-loop-tries : goal.decreases-loop-tries
-decreases-loop-tries g l = l.tries
+abbrev pub invariant-loop : goal.invariant-loop
+invariant-loop g l = l.done ≤ length l.bytes

@@ -1,23 +1,29 @@
 -- What a read into a buffer, and a write of bytes, of `size` can tell. Which bytes came or went no contract can name.
-use Rattle.std.specs.Prelude.{◌≡◌, List, ◌++◌, ℕ, ◌+◌, ◌≤◌, ◌<◌, length, take}
-use Rattle.files.specs.declared.Got.{Got}
-use Rattle.files.specs.declared.Got.TheVariants.{Bytes, Over, Failed as Unread}
-use Rattle.files.specs.declared.Filled.{Filled}
-use Rattle.files.specs.declared.Filled.TheVariants.{Over as Whole, Full, Failed as Broken}
-use Rattle.files.specs.declared.Wrote.{Wrote}
-use Rattle.files.specs.declared.Wrote.TheVariants.{All, Failed, Closed}
+use Rattle.std.specs.Prelude.{◌≡◌, List, ◌++◌, ℕ, ◌+◌, ◌≤◌, ◌<◌, length, take, Result, Ok, Err}
+use Rattle.std.specs.Result.{result_unwrap_or}
+use Rattle.files.specs.declared.ReadFailed.{ReadFailed}
+use Rattle.files.specs.declared.Unread.{Unread}
+use Rattle.files.specs.declared.Unwritten.{Unwritten}
+use Rattle.files.specs.declared.Unwritten.TheVariants.{Failed, Closed}
 
--- a read brings at least a byte, and none that the buffer has no room for
+-- what a read, reads up to the end of the input, and a write tell
+abbrev pub Got : Type 0
+Got = Result ℕ ReadFailed
+
+abbrev pub Filled : Type 0
+Filled = Result ℕ Unread
+
+abbrev pub Wrote : Type 0
+Wrote = Result (Unit {0}) Unwritten
+
+-- a read brings no byte that the buffer has no room for; it brings none only where the input has ended or it failed
 abbrev pub Brings : (size : ℕ) → Got → Type 0
-Brings size (Bytes n) = (0 < n) × (n ≤ size)
-Brings size Over = Unit {0}
-Brings size Unread = Unit {0}
+Brings size (Ok n) = n ≤ size
+Brings size (Err failed) = Unit {0}
 
 -- how many bytes a read brought
 abbrev pub count_of : Got → ℕ
-count_of (Bytes n) = n
-count_of Over = 0
-count_of Unread = 0
+count_of got = result_unwrap_or got 0
 
 -- after a read behind the n bytes xs at the front of the buffer: they stay, in their order, and the piece that came stands behind them
 pub record ReadOn (xs : List ℕ) (n : ℕ) (buf : List ℕ) (got : Got) : Type 0 where
@@ -28,12 +34,11 @@ pub record ReadOn (xs : List ℕ) (n : ℕ) (buf : List ℕ) (got : Got) : Type 
 
 -- the input's end is met while the buffer has room
 abbrev pub Fills : (size : ℕ) → Filled → Type 0
-Fills size (Whole n) = n < size
-Fills size Full = Unit {0}
-Fills size Broken = Unit {0}
+Fills size (Ok n) = n < size
+Fills size (Err why) = Unit {0}
 
 -- a write that is not done leaves at least a byte
 abbrev pub Takes : (size : ℕ) → Wrote → Type 0
-Takes size All = Unit {0}
-Takes size (Failed n) = n < size
-Takes size (Closed n) = n < size
+Takes size (Ok done) = Unit {0}
+Takes size (Err (Failed n)) = n < size
+Takes size (Err (Closed n)) = n < size
