@@ -4,28 +4,23 @@ use Prim.Native.Nat.{ℕ, suc, ◌+◌, ◌-◌, ◌<◌}
 use native.Mathlib.Omega.{arith}
 use borrow.Author.Tests.{eq-eqb, ne_eqb}
 use lib.ListN.{set}
+use Rattle.std.specs.Prelude.{◌≢◌}
 use lib.Seq.{get_or-set_other}
-use Rattle.rows.specs.Definition.Lists.{at}
 use Rattle.rows.specs.Definition.Classes.{FREE, USER, SHARED}
-use Rattle.kernel.specs.Definition.Tables.{with_segments}
+use Rattle.kernel.specs.Definition.Tables.{class_at, last_row, with_segments}
 use Rattle.kernel.specs.Definition.Line.{one_less, shrunk}
 use Rattle.kernel.specs.Within.{Fit}
 use Rattle.kernel.specs.declared.Tables.{Tables}
 
--- the last segment's row, from the chain's end as the code widens it
-pub row_within : (t : Tables) (last row : ℕ) → Fit t → last ≡ t.held - 1 → row ≡ at t.chain last → row < 32
-row_within t last row f e r = let w : at t.chain last < 32 = f.rows last (omega (arith, f.holds)) in omega arith
-
 -- one segment given up, a shared one and another
-module _ (t : Tables) (last row : ℕ) (e : last ≡ t.held - 1) (r : row ≡ at t.chain last) where
-  pub less-shared : at t.classes row ≡ SHARED → with_segments t (set t.classes row USER) (t.held - 1) (set t.chain last 0) 0 ≡ one_less t
+module _ (t : Tables) (last row : ℕ) (e : last ≡ t.held - 1) (r : row ≡ last_row t) where
+  pub less_shared : class_at t row ≡ SHARED → with_segments t (set t.classes row USER) (t.held - 1) (set t.chain last 0) 0 ≡ one_less t
   unfolding one_less
-  less-shared q = let s = rw (r, e) at q in rw (r, e, eq-eqb _ _ s)
+  less_shared q = let s = rw r at q in rw (r, e, eq-eqb _ _ s)
 
-  pub less_other : (at t.classes row ≡ SHARED → ⊥)
-      → with_segments t (set t.classes row FREE) (t.held - 1) (set t.chain last 0) t.user ≡ one_less t
+  pub less_other : class_at t row ≢ SHARED → with_segments t (set t.classes row FREE) (t.held - 1) (set t.chain last 0) t.user ≡ one_less t
   unfolding one_less
-  less_other q = let s = rw (r, e) at q in rw (r, e, ne_eqb _ _ s)
+  less_other q = let s = rw r at q in rw (r, e, ne_eqb _ _ s)
 
 -- it leaves what the code needs, where it is not the only one
 pub less-fit : (t : Tables) → 1 < t.held → Fit t → Fit (one_less t)
@@ -48,7 +43,3 @@ less-held t = refl
 pub shrunk-step : (k i : ℕ) (t : Tables) → i < k → shrunk (k - i) t ≡ shrunk (k - (i + 1)) (one_less t)
 unfolding shrunk
 shrunk-step k i t h = let e : k - i ≡ suc (k - (i + 1)) = omega arith in rw e
-
-pub shrunk-none : (k : ℕ) (t : Tables) → shrunk (k - k) t ≡ t
-unfolding shrunk
-shrunk-none k t = let e : k - k ≡ 0 = omega arith in rw e

@@ -1,16 +1,23 @@
 -- What functions within the calls ask and give: words of their contracts, no sentences of 01.
-use Rattle.std.specs.Prelude.{◌≡◌, Bool, true, cond, not, ◌||◌, List, [], ◌∷◌, ℕ, ◌+◌, ◌-◌, ◌≤◌, ◌<◌, leb, ltb, take}
-use Rattle.rows.specs.Definition.Lists.{at, first_place, tally}
-use Rattle.rows.specs.Definition.Classes.{FREE, SHARED}
+use Rattle.std.specs.Prelude.{◌≡◌, Bool, true, cond, not, ◌||◌, [], ◌∷◌, Option, Some, None, ℕ, ◌+◌, ◌-◌, ◌≤◌, ◌<◌, leb, ltb, take}
+use Rattle.rows.specs.Definition.Lists.{at, first_place}
+use Rattle.rows.specs.Definition.Classes.{FREE}
 use Rattle.rows.specs.Definition.Good.{NameGood}
+use Rattle.rows.specs.Definition.Channels.{found_at}
 use Rattle.rows.specs.declared.Channel.{Channel}
 use Rattle.rows.specs.declared.Device.{Device}
-use Rattle.kernel.specs.Definition.Tables.{channel_at}
-use Rattle.kernel.specs.Definition.Line.{total_of, room_for, opening}
+use Rattle.modules.specs.declared.Refusal.{Refusal as ModuleRefusal}
+use Rattle.modules.specs.declared.Refusal.TheVariants.{Module, Page, Range, Guard}
+use Rattle.kernel.specs.Definition.Tables.{row_of, channel_at, sharing, count_of}
+use Rattle.kernel.specs.Definition.Segments.{may_reach}
+use Rattle.kernel.specs.Definition.Line.{total_of, size_at, buffer_at, room_for, opening}
 use Rattle.kernel.specs.Definition.Bytes.{appended}
 use Rattle.kernel.specs.Definition.Answers.{gives, Decision, ◌changing◌, unless, ◌when◌}
+use Rattle.line.specs.declared.Line.{Line}
+use Rattle.kernel.specs.declared.bytes.Buffer.{Buffer}
 use Rattle.kernel.specs.declared.Tables.{Tables}
-use Rattle.kernel.specs.declared.Answer.TheVariants.{Done, Full, NoRoom}
+use Rattle.kernel.specs.declared.Answer.{Answer}
+use Rattle.kernel.specs.declared.Answer.TheVariants.{Done, Full, NoRoom, BadRange, Guarded, BadModule, BadPage}
 
 -- what the code of the calls needs: the counts are within the arrays, and the chain's entries are rows
 pub record Fit (t : Tables) : Type 0 where
@@ -33,12 +40,40 @@ pub record HasRoom (t : Tables) (c : Channel) : Type 0 where
   pub few : t.opened < 32
   pub room : room_for t t.room (total_of t + (16 + c.n)) ≡ true
 
--- the segments that the line may still take: the free ones of the first n, or none where one of these is shared
-abbrev pub spare_of : (classes : List ℕ) (n : ℕ) → ℕ
-spare_of classes n = cond (ltb (first_place SHARED (take n classes)) n) 0 (tally FREE (take n classes))
-
+-- the segments that the line may still take: the free ones, or none where one is shared
 abbrev pub spare : Tables → ℕ
-spare t = spare_of t.classes t.segments
+spare t = cond (sharing t) 0 (count_of FREE t)
+
+-- the row of an open channel, of a segment of the list, and of the lowest segment of a class
+abbrev pub opened_at : Tables → (channel : ℕ) → Option ℕ
+opened_at t channel = found_at (channel_at t channel) t.opened
+
+abbrev pub listed_at : Tables → (segment : ℕ) → Option ℕ
+listed_at t segment = found_at (row_of t segment) t.segments
+
+abbrev pub class_row : Tables → (class : ℕ) → Option ℕ
+class_row t class = found_at (first_place class (take t.segments t.classes)) t.segments
+
+-- the line of channel RAM
+abbrev pub line_of : Tables → Line
+line_of t = record { chain = t.chain; room = t.room }
+
+-- the buffer of an open channel
+abbrev pub buffer_of : Tables → (channel : ℕ) → Option Buffer
+buffer_of t channel =
+    let i = channel_at t channel in
+    cond (ltb i t.opened) (Some (record { start = buffer_at t i; size = size_at t i })) None
+
+-- the row of a segment that the user may store to and load from
+abbrev pub reached_at : Tables → (segment : ℕ) → Option ℕ
+reached_at t segment = cond (may_reach t (row_of t segment)) (Some (row_of t segment)) None
+
+-- what a module is refused for, as an answer
+abbrev pub answer_for : ModuleRefusal → Answer
+answer_for Module = BadModule
+answer_for Page = BadPage
+answer_for Range = BadRange
+answer_for Guard = Guarded
 
 -- open, once the row is known
 unfoldable pub on_open_row : Tables → Channel → Decision

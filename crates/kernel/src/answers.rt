@@ -1,8 +1,11 @@
 // The answers: 01's and 02's number and values for each, and what a refusal leaves.
 ghost use Rattle.std.specs.Prelude.{◌≡◌};
 ghost use Rattle.kernel.specs.Definition.Answers.{number_of, a_of, b_of, gives};
+ghost use Rattle.kernel.specs.Within.{answer_for};
+ghost use Rattle.kernel.specs.declared.Answer.TheVariants.{Done};
 
 use super::{Answer, Outcome, Tables};
+use modules::Refusal;
 
 impl Answer {
     pub fn number(self) -> u8
@@ -36,8 +39,7 @@ impl Answer {
         ensures { result ≡ a_of self }
     {
         match self {
-            Answer::Done(a, _) => a,
-            Answer::Shared(a, _) => a,
+            Answer::Done(a, _) | Answer::Shared(a, _) => a,
             Answer::Driver(status) => status,
             _ => 0,
         }
@@ -47,10 +49,22 @@ impl Answer {
         ensures { result ≡ b_of self }
     {
         match self {
-            Answer::Done(_, b) => b,
-            Answer::Shared(_, b) => b,
-            Answer::Driver(_) => 0,
+            Answer::Done(_, b) | Answer::Shared(_, b) => b,
             _ => 0,
+        }
+    }
+}
+
+// What a module is refused for.
+impl From<Refusal> for Answer {
+    ghost from_gives = { λ refusal answer. answer ≡ answer_for refusal };
+
+    fn from(refusal: Refusal) -> Answer {
+        match refusal {
+            Refusal::Module => Answer::BadModule,
+            Refusal::Page => Answer::BadPage,
+            Refusal::Range => Answer::BadRange,
+            Refusal::Guard => Answer::Guarded,
         }
     }
 }
@@ -62,6 +76,17 @@ impl Tables {
     {
         Outcome {
             answer,
+            tables: self,
+            moved: 0,
+        }
+    }
+
+    // These tables after a call that is done and moves nothing, with its values a and b.
+    pub(crate) fn done(self, a: u8, b: u16) -> Outcome
+        ensures { result ≡ gives (Done a b) self }
+    {
+        Outcome {
+            answer: Answer::Done(a, b),
             tables: self,
             moved: 0,
         }

@@ -1,40 +1,38 @@
 // Bytes in buffers and segments: read, write, store, load, and a buffer lent on.
-ghost use Rattle.std.specs.Prelude.{◌≡◌, List, ℕ, ◌+◌, ◌≤◌, ◌<◌, ltb, length};
+ghost use Rattle.std.specs.Prelude.{◌≡◌, IfSome, List, ℕ, ◌+◌, ◌≤◌, ◌<◌, ltb, length};
 ghost use Rattle.kernel.specs.Definition.Tables.{ram_size};
 ghost use Rattle.kernel.specs.Definition.Good.{Good};
-ghost use Rattle.kernel.specs.Definition.Line.{size_at, buffer_at};
 ghost use Rattle.kernel.specs.Definition.Segments.{may_reach, reach_of};
 ghost use Rattle.kernel.specs.Definition.Calls.{on_read, on_write, on_store, on_load};
 ghost use Rattle.kernel.specs.Definition.Calls as calls;
 ghost use Rattle.kernel.specs.Definition.Step.{step, completed, result_of};
+ghost use Rattle.kernel.specs.Within.{buffer_of, reached_at};
 ghost use Rattle.kernel.specs.Definition.Lend.{lent_on_good, part_on_good, lent_on, part_on};
 
 use super::{Answer, Outcome, Tables};
+use line::given;
 use line::guard::guards;
 use line::ram::{load, store};
-use line::{Lent, get, given, lend, lent_at, put};
-use rows::Lookup;
-use rows::channels::{channel_row, total};
-use rows::numbers::{less, wide, wide16};
-use rows::segments::{SHARED, USER, first_of};
+use rows::segments::{SHARED, USER};
+
+// The buffer of an open channel: the position on the line where it starts, and its size.
+#[derive(Clone, Copy)]
+struct Buffer {
+    start: usize,
+    size: usize,
+}
 
 impl Tables {
-    // The position where the buffer of row `i` starts.
-    fn buffer_at(self, i: usize) -> usize
-        requires { i ≤ 32 }
-        ensures { (result ≡ buffer_at self i) × (result ≤ 2097648) }
+    fn buffer(&self, channel: u8) -> Option<Buffer>
+        requires { self.now.opened ≤ 32 }
+        ensures found { result ≡ buffer_of self.now channel }
+        ensures small { IfSome result (λ buffer. (buffer.start ≤ 2097648) × (buffer.size < 65536)) }
     {
-        let channels = self.channels;
-        total(channels, i) + 16
-    }
-
-    // The size of the buffer of row `i`.
-    fn size_at(self, i: usize) -> usize
-        requires { i < 32 }
-        ensures { (result ≡ size_at self i) × (result < 65536) }
-    {
-        let c = self.channels[i];
-        wide16(c.n)
+        let i = self.channel_row(channel)?;
+        Some(Buffer {
+            start: self.record_at(i) + 16,
+            size: self.size_at(i),
+        })
     }
 
     pub fn read(self, ram: &[u8], channel: u8, offset: u16, asked: u16, out: &mut [u8]) -> Outcome
@@ -57,26 +55,16 @@ impl Tables {
         requires { Good self × (length ram.now ≡ ram_size self) }
         ensures { result_of result ram.now out.new ≡ completed self (on_read self (length out.old) channel offset asked) ram.now out.old }
     {
-        let channels = self.channels;
-        let opened = wide(self.opened);
-        let Lookup::At(i) = channel_row(channels, opened, channel) else {
+        let Some(buffer) = self.buffer(channel) else {
             return self.refuse(Answer::NoChannel);
         };
-        let from = wide16(offset);
-        let most = wide16(asked);
-        let count = given(self.size_at(i), from, most);
+        let from = usize::from(offset);
+        let count = given(buffer.size, from, usize::from(asked));
         if out.len() < count {
             return self.refuse(Answer::BadRange);
         }
-        let chain = self.chain;
-        let room = wide16(self.room);
-        let start = self.buffer_at(i) + from;
-        get(ram, &chain, room, start, out, count);
-        Outcome {
-            answer: Answer::Done(0, count as u16),
-            tables: self,
-            moved: 0,
-        }
+        self.line().get(ram, buffer.start + from, out, count);
+        self.done(0, count as u16)
     }
 
     pub fn write(self, ram: &mut [u8], channel: u8, offset: u16, bytes: &[u8]) -> Outcome
@@ -92,25 +80,16 @@ impl Tables {
         requires { Good self × (length ram.old ≡ ram_size self) }
         ensures { (out : List ℕ) → result_of result ram.new out ≡ completed self (on_write self channel offset bytes.now) ram.old out }
     {
-        let channels = self.channels;
-        let opened = wide(self.opened);
-        let Lookup::At(i) = channel_row(channels, opened, channel) else {
+        let Some(buffer) = self.buffer(channel) else {
             return self.refuse(Answer::NoChannel);
         };
-        let from = wide16(offset);
+        let from = usize::from(offset);
         let count = bytes.len();
-        if beyond(self.size_at(i), from, count) {
+        if beyond(buffer.size, from, count) {
             return self.refuse(Answer::BadRange);
         }
-        let chain = self.chain;
-        let room = wide16(self.room);
-        let start = self.buffer_at(i) + from;
-        put(ram, &chain, room, start, bytes);
-        Outcome {
-            answer: Answer::Done(0, count as u16),
-            tables: self,
-            moved: 0,
-        }
+        self.line().put(ram, buffer.start + from, bytes);
+        self.done(0, count as u16)
     }
 
     // The user may store to and load from the segment of this row.
@@ -118,11 +97,8 @@ impl Tables {
         requires { self.segments ≤ 32 }
         ensures { result ≡ may_reach self row }
     {
-        if wide(self.segments) <= row {
-            return false;
-        }
-        let class = self.classes[row];
-        (row == 0) | (class == USER) | (class == SHARED)
+        row < usize::from(self.segments)
+            && (row == 0 || self.classes[row] == USER || self.classes[row] == SHARED)
     }
 
     // Up to which offset.
@@ -131,10 +107,19 @@ impl Tables {
         ensures { result ≡ reach_of self row }
     {
         if self.classes[row] == SHARED {
-            wide16(self.user)
+            usize::from(self.user)
         } else {
             16384
         }
+    }
+
+    // The row of a segment that the user may store to and load from.
+    pub(crate) fn reached_row(&self, segment: u8) -> Option<usize>
+        requires { self.now.segments ≤ 32 }
+        ensures { result ≡ reached_at self.now segment }
+    {
+        let row = self.segment_row(segment)?;
+        if self.may_reach(row) { Some(row) } else { None }
     }
 
     pub fn store(self, ram: &mut [u8], segment: u8, offset: u16, bytes: &[u8]) -> Outcome
@@ -150,13 +135,10 @@ impl Tables {
         requires { Good self × (length ram.old ≡ ram_size self) }
         ensures { (out : List ℕ) → result_of result ram.new out ≡ completed self (on_store self segment offset bytes.now) ram.old out }
     {
-        let list = self.list;
-        let segments = wide(self.segments);
-        let row = first_of(list, segments, segment);
-        if !self.may_reach(row) {
+        let Some(row) = self.reached_row(segment) else {
             return self.refuse(Answer::NotOwner);
-        }
-        let from = wide16(offset);
+        };
+        let from = usize::from(offset);
         let count = bytes.len();
         if beyond(self.reach_of(row), from, count) {
             return self.refuse(Answer::BadRange);
@@ -165,11 +147,7 @@ impl Tables {
             return self.refuse(Answer::Guarded);
         }
         store(ram, 16384 * row + from, bytes);
-        Outcome {
-            answer: Answer::Done(0, count as u16),
-            tables: self,
-            moved: 0,
-        }
+        self.done(0, count as u16)
     }
 
     pub fn load(self, ram: &[u8], segment: u8, offset: u16, size: u16, out: &mut [u8]) -> Outcome
@@ -192,48 +170,34 @@ impl Tables {
         requires { Good self × (length ram.now ≡ ram_size self) }
         ensures { result_of result ram.now out.new ≡ completed self (on_load self (length out.old) segment offset size) ram.now out.old }
     {
-        let list = self.list;
-        let segments = wide(self.segments);
-        let row = first_of(list, segments, segment);
-        if !self.may_reach(row) {
+        let Some(row) = self.reached_row(segment) else {
             return self.refuse(Answer::NotOwner);
-        }
-        let from = wide16(offset);
-        let count = wide16(size);
-        if beyond(self.reach_of(row), from, count) | (out.len() < count) {
+        };
+        let from = usize::from(offset);
+        let count = usize::from(size);
+        if beyond(self.reach_of(row), from, count) || out.len() < count {
             return self.refuse(Answer::BadRange);
         }
         load(ram, 16384 * row + from, out, count);
-        Outcome {
-            answer: Answer::Done(0, size),
-            tables: self,
-            moved: 0,
-        }
+        self.done(0, size)
     }
 
     // Where the buffer that is lent on starts in the RAM.
-    pub fn lent(self, ram: &[u8], channel: u8) -> Lent
+    pub fn lent(self, ram: &[u8], channel: u8) -> Option<usize>
         ensures { result ≡ lent_on self (length ram.now) channel }
     {
         if !self.is_ready(ram.len()) {
-            return Lent::Nothing;
+            return None;
         }
         self.lent_good(channel)
     }
 
-    pub fn lent_good(self, channel: u8) -> Lent
+    pub fn lent_good(self, channel: u8) -> Option<usize>
         requires { Good self }
         ensures { result ≡ lent_on_good self channel }
     {
-        let channels = self.channels;
-        let opened = wide(self.opened);
-        let Lookup::At(i) = channel_row(channels, opened, channel) else {
-            return Lent::Nothing;
-        };
-        let chain = self.chain;
-        let room = wide16(self.room);
-        let start = self.buffer_at(i);
-        lent_at(&chain, room, start, self.size_at(i))
+        let buffer = self.buffer(channel)?;
+        self.line().lent_at(buffer.start, buffer.size)
     }
 
     // The buffer lent on; an empty part where nothing is lent.
@@ -250,15 +214,10 @@ impl Tables {
         requires { Good self × (length ram.now ≡ ram_size self) }
         ensures { result.now ≡ part_on_good self ram.now channel }
     {
-        let channels = self.channels;
-        let opened = wide(self.opened);
-        let Lookup::At(i) = channel_row(channels, opened, channel) else {
+        let Some(buffer) = self.buffer(channel) else {
             return &ram[0..0];
         };
-        let chain = self.chain;
-        let room = wide16(self.room);
-        let start = self.buffer_at(i);
-        lend(ram, &chain, room, start, self.size_at(i))
+        self.line().lend(ram, buffer.start, buffer.size)
     }
 }
 
@@ -266,5 +225,5 @@ impl Tables {
 fn beyond(n: usize, from: usize, count: usize) -> bool
     ensures { result ≡ ltb n (from + count) }
 {
-    (n < from) | (less(n, from) < count)
+    n < from || n - from < count
 }

@@ -9,10 +9,7 @@ ghost use Rattle.kernel.specs.Definition.Bytes.{ram_closed, moves_closed};
 ghost use Rattle.kernel.specs.Definition.Step.{step, completed, result_of};
 
 use super::{Answer, Outcome, Tables};
-use line::close_record;
-use rows::Lookup;
-use rows::channels::{channel_row, total, without_row};
-use rows::numbers::{less, wide, wide16};
+use rows::channels::remove_row;
 use rows::sizes::chain_length;
 
 impl Tables {
@@ -21,14 +18,11 @@ impl Tables {
         requires { Good self × (i < self.opened) }
         ensures { result ≡ closing self i }
     {
-        let rows = self.channels;
-        let channels = without_row(rows, i);
-        let opened = self.opened - 1;
-        let keep = chain_length(self.room, total(channels, wide(opened)));
-        let gone = less(wide(self.held), keep);
         let mut next = self;
-        next.opened = opened;
-        next.channels = channels;
+        next.opened = self.opened - 1;
+        remove_row(&mut next.channels, i);
+        let keep = chain_length(self.room, next.total());
+        let gone = usize::from(self.held).saturating_sub(keep);
         // most often the chain stays: the tables are not copied for a call
         if gone == 0 {
             return next;
@@ -37,17 +31,14 @@ impl Tables {
     }
 
     // The RAM without the record of the channel in row `i`. How many bytes it moved.
-    fn close_record(self, ram: &mut [u8], i: usize) -> u32
-        requires { Good self × (i < self.opened) × (length ram.old ≡ ram_size self) }
-        ensures bytes { ram.new ≡ ram_closed self ram.old i }
-        ensures moved { result ≡ length (moves_closed self i) }
+    fn close_record(&self, ram: &mut [u8], i: usize) -> u32
+        requires { Good self.now × (i < self.now.opened) × (length ram.old ≡ ram_size self.now) }
+        ensures bytes { ram.new ≡ ram_closed self.now ram.old i }
+        ensures moved { result ≡ length (moves_closed self.now i) }
     {
-        let chain = self.chain;
-        let channels = self.channels;
-        let start = total(channels, i);
-        let total = total(channels, wide(self.opened));
-        let n = wide16(channels[i].n);
-        close_record(ram, &chain, wide16(self.room), start, 16 + n, total) as u32
+        let start = self.record_at(i);
+        let gap = 16 + self.size_at(i);
+        self.line().close_record(ram, start, gap, self.total()) as u32
     }
 
     pub fn close(self, ram: &mut [u8], channel: u8) -> Outcome
@@ -63,9 +54,7 @@ impl Tables {
         requires { Good self × (length ram.old ≡ ram_size self) }
         ensures { (out : List ℕ) → result_of result ram.new out ≡ completed self (on_close self channel) ram.old out }
     {
-        let channels = self.channels;
-        let opened = wide(self.opened);
-        let Lookup::At(i) = channel_row(channels, opened, channel) else {
+        let Some(i) = self.channel_row(channel) else {
             return self.refuse(Answer::NoChannel);
         };
         let moved = self.close_record(ram, i);

@@ -25,16 +25,10 @@ impl Tables {
         if !default_name(name) {
             return self.refuse(Answer::BadName);
         }
-        let length = name.len();
-        let capitals = word(name, length);
         let mut next = self;
-        next.name = capitals;
-        next.length = (length % 256) as u8;
+        next.name = word(name, name.len());
+        next.length = name.len() as u8;
         next.unit = unit;
-        Outcome {
-            answer: Answer::Done(0, 0),
-            tables: next,
-            moved: 0,
-        }
+        next.done(0, 0)
     }
 }

@@ -4,6 +4,7 @@
 use rows::{Channel, Device};
 
 pub mod answers; // the numbers and values of the answers, and a refusal
+mod places; // where channels, segments and records stand
 pub mod good; // the test for good tables
 pub mod grow; // how the chain grows, the EXOS boundary, and the room rule
 pub mod shrink; // how the chain gives segments up
@@ -17,7 +18,11 @@ pub mod default; // default
 pub mod link; // link
 pub mod segments; // boundary, set user boundary, allocate, free, status
 
-// What every call takes and hands back. Unused rows and bytes are zero.
+// Each call stands twice: one tests its tables, the other, `_good`, asks that they are good. That is a clause and no type: 01 wants
+// the calls as methods of `Tables`, and docs/PROMISES.md names both kinds.
+
+// What every call takes and hands back. Unused rows and bytes are zero. Arrays stand with their counts: a call tests any tables, and the image
+// has every row.
 #[derive(Clone, Copy)]
 pub struct Tables {
     // The RAM list: how many segments, and their numbers.

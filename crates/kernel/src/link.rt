@@ -10,12 +10,9 @@ ghost use Rattle.kernel.specs.Definition.Step.{step, completed, result_of};
 ghost use Rattle.kernel.specs.Within.{Links, room_to_link};
 
 use super::{Answer, Outcome, Tables};
-use line::link_line;
 use names::{link_name, word};
 use rows::Device;
-use rows::channels::total;
 use rows::devices::{disable, new_device};
-use rows::numbers::{less, wide, wide16};
 use rows::sizes::chain_length;
 
 // The device that a link of this name adds.
@@ -33,16 +30,12 @@ impl Tables {
         ensures { result ≡ linking self m d }
     {
         let room = self.room - m;
-        let more = less(chain_length(room, total), wide(self.held));
-        let devices = self.devices;
-        let name = d.name;
-        let mut rows = disable(devices, name, d.length);
-        let known = wide(self.known);
-        rows[known] = d;
+        let more = chain_length(room, total).saturating_sub(usize::from(self.held));
         let mut next = self;
         next.room = room;
         next.known = self.known + 1;
-        next.devices = rows;
+        disable(&mut next.devices, &d.name, d.length);
+        next.devices[usize::from(self.known)] = d;
         // most often the chain stays: the tables are not copied for a call
         if more == 0 {
             return next;
@@ -51,14 +44,11 @@ impl Tables {
     }
 
     // The room rule, for a device with `m` bytes; `total` is T.
-    fn room_to_link(self, m: u16, total: usize) -> bool
-        requires { Good self × (total ≡ total_of self) }
-        ensures { result ≡ room_to_link self m }
+    fn room_to_link(&self, m: u16, total: usize) -> bool
+        requires { Good self.now × (total ≡ total_of self.now) }
+        ensures { result ≡ room_to_link self.now m }
     {
-        if wide16(self.room) < 256 + wide16(m) {
-            return false;
-        }
-        self.room_for(self.room - m, total)
+        256 + usize::from(m) <= usize::from(self.room) && self.room_for(self.room - m, total)
     }
 
     pub fn link(self, ram: &mut [u8], m: u16, name: &[u8]) -> Outcome
@@ -80,14 +70,15 @@ impl Tables {
         if 16 <= self.known {
             return self.refuse(Answer::Full);
         }
-        let channels = self.channels;
-        let total = total(channels, wide(self.opened));
+        let total = self.total();
         if !self.room_to_link(m, total) {
             return self.refuse(Answer::NoRoom);
         }
         let next = self.add_device(m, device_named(name), total);
-        let chain = next.chain;
-        let moved = link_line(ram, &chain, wide16(self.room), wide16(m), total);
+        // the line as it lies before it moves: R has not fallen
+        let mut line = next.line();
+        line.room = usize::from(self.room);
+        let moved = line.link_line(ram, usize::from(m), total);
         Outcome {
             answer: Answer::Done(self.known, next.room),
             tables: next,

@@ -1,5 +1,6 @@
 // Load module: the whole stream is judged, then its items are stored.
 ghost use Rattle.std.specs.Prelude.{◌≡◌, List, ℕ, length};
+ghost use Rattle.modules.specs.Definition.Counter.{past_range};
 ghost use Rattle.kernel.specs.Definition.Tables.{ram_size};
 ghost use Rattle.kernel.specs.Definition.Good.{Good};
 ghost use Rattle.kernel.specs.Definition.Calls.{on_load_module};
@@ -8,9 +9,7 @@ ghost use Rattle.kernel.specs.Definition.Step.{step, completed, result_of};
 
 use super::{Answer, Outcome, Tables};
 use modules::reader::read;
-use modules::{Counter, Judged, Target};
-use rows::numbers::wide;
-use rows::segments::first_of;
+use modules::{Counter, Target};
 
 impl Tables {
     pub fn load_module(
@@ -40,32 +39,28 @@ impl Tables {
         requires { Good self × (length ram.old ≡ ram_size self) }
         ensures { (out : List ℕ) → result_of result ram.new out ≡ completed self (on_load_module self segment page offset stream.now) ram.old out }
     {
-        if (3 < page) | (16384 < offset) {
+        if past_range(page, offset) {
             return self.refuse(Answer::BadCall);
         }
-        let list = self.list;
-        let segments = wide(self.segments);
-        let row = first_of(list, segments, segment);
-        if !self.may_reach(row) {
+        let Some(row) = self.reached_row(segment) else {
             return self.refuse(Answer::NotOwner);
-        }
+        };
         let start = Counter { page, offset };
         let reach = self.reach_of(row);
         let target = Target { row, reach, page };
-        let judged = read(stream, start, target, false, ram);
-        match judged {
-            Judged::Whole(used) => {
-                read(stream, start, target, true, ram);
-                Outcome {
-                    answer: Answer::Done(0, used),
-                    tables: self,
-                    moved: 0,
-                }
+        match read(stream, start, target, false, ram) {
+            Ok(used) => {
+                let _ = read(stream, start, target, true, ram);
+                self.done(0, used)
             }
-            Judged::Module => self.refuse(Answer::BadModule),
-            Judged::Page => self.refuse(Answer::BadPage),
-            Judged::Range => self.refuse(Answer::BadRange),
-            Judged::Guard => self.refuse(Answer::Guarded),
+            Err(refusal) => self.refuse(Answer::from(refusal)),
         }
     }
+}
+
+// The start page or the start offset is past its range.
+fn past_range(page: u8, offset: u16) -> bool
+    ensures { result ≡ past_range page offset }
+{
+    3 < page || 16384 < offset
 }

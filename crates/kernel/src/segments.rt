@@ -8,9 +8,7 @@ ghost use Rattle.kernel.specs.Definition.Bytes.{counts_of};
 ghost use Rattle.kernel.specs.Definition.Step.{step, completed, result_of};
 
 use super::{Answer, Outcome, Tables};
-use line::ram::load;
-use rows::numbers::wide;
-use rows::segments::{DEVICE, FREE, SHARED, SYSTEM, USER, count_of, first_of};
+use rows::segments::{DEVICE, FREE, SHARED, SYSTEM, USER};
 
 impl Tables {
     // The chain's last segment and the EXOS boundary.
@@ -27,15 +25,9 @@ impl Tables {
         requires { Good self }
         ensures { (ram out : List ℕ) → result_of result ram out ≡ completed self (on_boundary self) ram out }
     {
-        let held = wide(self.held);
-        let last = wide(self.chain[held - 1]);
-        let number = self.list[last];
+        let number = self.list[self.last_row()];
         let edge = self.exos_boundary();
-        Outcome {
-            answer: Answer::Done(number, edge),
-            tables: self,
-            moved: 0,
-        }
+        self.done(number, edge)
     }
 
     // The user boundary set, in a shared segment, up to the EXOS boundary.
@@ -52,21 +44,12 @@ impl Tables {
         requires { Good self }
         ensures { (ram out : List ℕ) → result_of result ram out ≡ completed self (on_set_user_boundary self value) ram out }
     {
-        let classes = self.classes;
-        let segments = wide(self.segments);
-        if segments <= first_of(classes, segments, SHARED) {
-            return self.refuse(Answer::BadBoundary);
-        }
-        if self.exos_boundary() < value {
+        if !self.shares() || self.exos_boundary() < value {
             return self.refuse(Answer::BadBoundary);
         }
         let mut next = self;
         next.user = value;
-        Outcome {
-            answer: Answer::Done(0, 0),
-            tables: next,
-            moved: 0,
-        }
+        next.done(0, 0)
     }
 
     // A segment for the user (0) or a device (1).
@@ -86,37 +69,21 @@ impl Tables {
         if 1 < caller {
             return self.refuse(Answer::BadCall);
         }
-        let classes = self.classes;
-        let segments = wide(self.segments);
-        let row = first_of(classes, segments, FREE);
-        if row < segments {
-            let number = self.list[row];
+        if let Some(row) = self.class_row(FREE) {
             let mut next = self;
             next.classes[row] = class_for(caller);
-            return Outcome {
-                answer: Answer::Done(number, 16384),
-                tables: next,
-                moved: 0,
-            };
-        }
-        if caller == 1 {
-            return self.refuse(Answer::NoSegment);
-        }
-        if first_of(classes, segments, SHARED) < segments {
-            return self.refuse(Answer::NoSegment);
+            return next.done(self.list[row], 16384);
         }
         let edge = self.exos_boundary();
-        if edge == 0 {
+        if caller == 1 || self.shares() || edge == 0 {
             return self.refuse(Answer::NoSegment);
         }
-        let held = wide(self.held);
-        let last = wide(self.chain[held - 1]);
-        let number = self.list[last];
+        let last = self.last_row();
         let mut next = self;
         next.classes[last] = SHARED;
         next.user = edge;
         Outcome {
-            answer: Answer::Shared(number, edge),
+            answer: Answer::Shared(self.list[last], edge),
             tables: next,
             moved: 0,
         }
@@ -139,48 +106,34 @@ impl Tables {
         if 1 < caller {
             return self.refuse(Answer::BadCall);
         }
-        let list = self.list;
-        let segments = wide(self.segments);
-        let row = first_of(list, segments, segment);
-        if segments <= row {
+        let Some(row) = self.segment_row(segment) else {
             return self.refuse(Answer::NotOwner);
-        }
+        };
         let class = self.classes[row];
+        let mut next = self;
         if class == class_for(caller) {
-            let mut next = self;
             next.classes[row] = FREE;
-            return Outcome {
-                answer: Answer::Done(0, 0),
-                tables: next,
-                moved: 0,
-            };
+            return next.done(0, 0);
         }
-        if (caller == 0) & (class == SHARED) {
-            let mut next = self;
+        if caller == 0 && class == SHARED {
             next.classes[row] = SYSTEM;
             next.user = 0;
-            return Outcome {
-                answer: Answer::Done(0, 0),
-                tables: next,
-                moved: 0,
-            };
+            return next.done(0, 0);
         }
         self.refuse(Answer::NotOwner)
     }
 
     // The counts of free, user, system, device and shared segments.
-    fn counts(self) -> [u8; 5]
-        requires { self.segments ≤ 32 }
-        ensures { result ≡ counts_of self }
+    fn counts(&self) -> [u8; 5]
+        requires { self.now.segments ≤ 32 }
+        ensures { result ≡ counts_of self.now }
     {
-        let classes = self.classes;
-        let segments = wide(self.segments);
         [
-            (count_of(classes, segments, FREE) % 256) as u8,
-            (count_of(classes, segments, USER) % 256) as u8,
-            (count_of(classes, segments, SYSTEM) % 256) as u8,
-            (count_of(classes, segments, DEVICE) % 256) as u8,
-            (count_of(classes, segments, SHARED) % 256) as u8,
+            self.count(FREE),
+            self.count(USER),
+            self.count(SYSTEM),
+            self.count(DEVICE),
+            self.count(SHARED),
         ]
     }
 
@@ -201,13 +154,8 @@ impl Tables {
         if out.len() < 5 {
             return self.refuse(Answer::BadRange);
         }
-        let counts = self.counts();
-        load(&counts, 0, out, 5);
-        Outcome {
-            answer: Answer::Done(0, 5),
-            tables: self,
-            moved: 0,
-        }
+        out[..5].copy_from_slice(&self.counts());
+        self.done(0, 5)
     }
 }
 

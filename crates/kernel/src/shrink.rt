@@ -4,7 +4,6 @@ ghost use Rattle.kernel.specs.Definition.Line.{one_less, shrunk};
 ghost use Rattle.kernel.specs.Within.{Fit};
 
 use super::Tables;
-use rows::numbers::wide;
 use rows::segments::{FREE, SHARED, USER};
 
 impl Tables {
@@ -14,13 +13,11 @@ impl Tables {
         ensures { result ≡ one_less self }
     {
         let held = self.held - 1;
-        let last = wide(held);
-        let row = wide(self.chain[last]);
-        let was = self.classes[row];
+        let row = self.last_row();
         let mut next = self;
         next.held = held;
-        next.chain[last] = 0;
-        if was == SHARED {
+        next.chain[usize::from(held)] = 0;
+        if self.classes[row] == SHARED {
             next.classes[row] = USER;
             next.user = 0;
         } else {
@@ -35,10 +32,8 @@ impl Tables {
         ensures { result ≡ shrunk k self }
     {
         let mut t = self;
-        let mut i: usize = 0;
-        while i < k {
+        for _ in 0..k {
             t = t.one_less();
-            i = i + 1;
         }
         t
     }

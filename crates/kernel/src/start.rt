@@ -5,7 +5,6 @@ ghost use Rattle.kernel.specs.Definition.Calls as calls;
 ghost use Rattle.kernel.specs.Definition.Step.{step, result_of};
 
 use super::{Answer, Outcome, Tables};
-use line::ram::zero_all;
 use rows::channels::NO_CHANNEL;
 use rows::devices::{NO_DEVICE, built_in};
 use rows::segments::{fresh_classes, lay, list_test};
@@ -18,7 +17,8 @@ fn start_test(ram: usize, room: u16, list: &[u8]) -> bool
     if 32 < segments {
         return false;
     }
-    list_test(lay(list), segments) & (256 <= room) & (room <= 16128) & (ram == 16384 * segments)
+    // with `&&` the proof would part at each test
+    list_test(&lay(list), segments) & (256 <= room) & (room <= 16128) & (ram == 16384 * segments)
 }
 
 // The tables after a start.
@@ -27,28 +27,17 @@ fn fresh_tables(room: u16, list: &[u8]) -> Tables
     ensures { result ≡ started room list.now }
 {
     let segments = list.len();
-    let numbers = lay(list);
-    let classes = fresh_classes(segments);
-    let devices = built_in();
-    let mut chain = [0u8; 32];
-    chain[0] = ((segments - 1) % 256) as u8;
-    Tables {
-        segments: (segments % 256) as u8,
-        list: numbers,
-        classes,
-        held: 1,
-        chain,
-        user: 0,
-        room,
-        cold: room,
-        opened: 0,
-        channels: [NO_CHANNEL; 32],
-        known: 3,
-        devices,
-        name: [0u8; 28],
-        length: 0,
-        unit: 0,
-    }
+    let mut next = Tables::none();
+    next.segments = segments as u8;
+    next.list = lay(list);
+    next.classes = fresh_classes(segments);
+    next.held = 1;
+    next.chain[0] = (segments - 1) as u8;
+    next.room = room;
+    next.cold = room;
+    next.known = 3;
+    next.devices = built_in();
+    next
 }
 
 impl Tables {
@@ -81,12 +70,8 @@ impl Tables {
         if !start_test(ram.len(), room, list) {
             return self.refuse(Answer::BadStart);
         }
-        zero_all(ram);
+        ram.fill(0);
         let next = fresh_tables(room, list);
-        Outcome {
-            answer: Answer::Done(next.segments, room),
-            tables: next,
-            moved: 0,
-        }
+        next.done(next.segments, room)
     }
 }

@@ -1,12 +1,10 @@
 -- "The line of channel RAM": T, the EXOS boundary, how the chain grows and shrinks, the room rule, and the tables after an open and a close.
-use Rattle.std.specs.Prelude.{Bool, cond, ◌&&◌, ℕ, zero, suc, ◌+◌, ◌-◌, ◌*◌, leb, eqb, get_or, take, set}
+use Rattle.std.specs.Prelude.{Bool, cond, ◌&&◌, Option, Some, None, ℕ, zero, suc, ◌+◌, ◌-◌, ◌*◌, leb, eqb, get_or, take, set}
 use Rattle.rows.specs.Definition.Lists.{last_of, without}
 use Rattle.rows.specs.Definition.Classes.{FREE, USER, SYSTEM, SHARED}
 use Rattle.rows.specs.Definition.Channels.{zero_channel, sum_of}
 use Rattle.rows.specs.Definition.Sizes.{chain_length, boundary_at}
 use Rattle.rows.specs.declared.Channel.{Channel}
-use Rattle.rows.specs.declared.Lookup.{Lookup}
-use Rattle.rows.specs.declared.Lookup.TheVariants.{At, Nowhere}
 use Rattle.kernel.specs.Definition.Tables.{SEGMENT, class_at, count_of, sharing, last_row, with_segments, with_channels}
 use Rattle.kernel.specs.declared.Tables.{Tables}
 
@@ -30,9 +28,9 @@ abbrev pub boundary_of : Tables → ℕ
 boundary_of t = boundary_at t.room (total_of t)
 
 -- the chain with one further segment, where there is one to take
-abbrev pub taking : Tables → Lookup → Tables
-taking t (At row) = with_segments t (set t.classes row SYSTEM) (t.held + 1) (set t.chain t.held row) t.user
-taking t Nowhere = t
+abbrev pub taking : Tables → Option ℕ → Tables
+taking t (Some row) = with_segments t (set t.classes row SYSTEM) (t.held + 1) (set t.chain t.held row) t.user
+taking t None = t
 
 -- "A new system segment is the highest numbered free one". By the room rule it is asked only where a segment is free; unused rows have class 0, so that
 -- the whole array may be searched.

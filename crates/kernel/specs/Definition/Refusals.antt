@@ -6,8 +6,8 @@ use Rattle.line.specs.Definition.Guard.{GuardedByte}
 use Rattle.modules.specs.Definition.Reading.{stream_bits}
 use Rattle.modules.specs.Definition.Counter.{counter}
 use Rattle.modules.specs.Definition.Faults.{Refused}
-use Rattle.modules.specs.declared.Judged.{Judged}
-use Rattle.modules.specs.declared.Judged.TheVariants.{Module, Page, Range, Guard}
+use Rattle.modules.specs.declared.Refusal.{Refusal}
+use Rattle.modules.specs.declared.Refusal.TheVariants.{Module, Page, Range, Guard}
 use Rattle.names.specs.Definition.Grammar.{Reading, Reads}
 use Rattle.names.specs.Definition.Words.{LinkName, DefaultName}
 use Rattle.rows.specs.Definition.Lists.{padded}
@@ -72,7 +72,7 @@ pub record OtherBit (flags k : ℕ) : Type 0 where
   pub set : flags / 2 ^ k % 2 ≡ 1
 
 -- order 3: "The first item at fault decides; at one item that order": what the stream is refused for in the segment of this row, which is one number at most
-abbrev pub ModuleRefused : Tables → (row page offset : ℕ) (stream : List ℕ) → Judged → Type 0
+abbrev pub ModuleRefused : Tables → (row page offset : ℕ) (stream : List ℕ) → Refusal → Type 0
 ModuleRefused t row page offset stream verdict = Refused (target_of t row page) (counter page offset) (stream_bits stream) verdict
 
 abbrev pub NotStart : Call → Type 0

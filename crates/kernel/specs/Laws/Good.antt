@@ -1,10 +1,9 @@
 -- The test of good tables and the record of their facts agree.
-use Rattle.std.specs.Prelude.{◌≡◌, Bool, true, false, ◌&&◌, ℕ, ◌-◌, ◌≤◌, leb, eqb, take}
+use Rattle.std.specs.Prelude.{◌≡◌, Bool, false, ◌&&◌, ℕ, ◌≤◌, leb, eqb}
 use Rattle.std.proofs.Common.{sym, ◌∙◌, arith}
 use Rattle.std.proofs.lemmas.Bool.{false≢true}
 use Rattle.rows.specs.Definition.Lists.{at}
-use Rattle.rows.specs.Definition.Channels.{sum_of}
-use Rattle.rows.specs.Definition.Sizes.{chain_length, boundary_at}
+use Rattle.rows.specs.Definition.Sizes.{chain_length}
 use Rattle.rows.specs.Definition.Tests.{list_test, class_test, chain_test, room_test, channel_test, user_test, device_test, default_test}
 use Rattle.rows.specs.Laws.Says.{Says, says-le, says_eq, says-no, says-and, says_then, says-as}
 use Rattle.rows.specs.Laws.Good.{list-says, class-says, room_says, chain-says, channel-says, user-says, device-says, default-says}
@@ -66,24 +65,18 @@ good-sizes : (t : Tables) → Good t → Sizes t.segments t.held t.opened
 good-sizes t g =
     record { one = omega (arith, g.list.least); most = g.list.most; holds = g.chain.holds; links = g.chain.most; rows = g.channels.most }
 
--- what the code of the test computes: first the counts
-pub sizes-made : (segments held opened : ℕ) (sizes : Bool) → sizes ≡ sizes_test segments held opened → sizes ≡ true → Sizes segments held opened
-sizes-made segments held opened sizes p q = (sizes-says segments held opened).yes (sym p ∙ q)
+-- what the code of the test computes: the counts are not within the arrays
+pub good_no : (t : Tables) → Sized t → false ≡ sizes_test t.segments t.held t.opened → false ≡ good_test t
+good_no t s n = sym (says-no (good-says t s) (λ g. false≢true (n ∙ (sizes-says t.segments t.held t.opened).make (good-sizes t g))))
 
--- then the parts, from the counts as it widens them
-module _ (t : Tables) (segments held opened known : ℕ) (es : segments ≡ t.segments) (eh : held ≡ t.held) (eo : opened ≡ t.opened) (ek : known ≡ t.known) where
-  -- the counts are not within the arrays
-  pub good-no : Sized t → (sizes : Bool) → sizes ≡ sizes_test segments held opened → sizes ≡ false → false ≡ good_test t
-  good-no s sizes p q =
-      sym (says-no (good-says t s) (λ g. false≢true (sym (rw (es, eh, eo) at (sym p ∙ q)) ∙ (sizes-says t.segments t.held t.opened).make (good-sizes t g))))
-
-  pub good-made : (total last class edge long : ℕ) (list classes room chain channels user devices default : Bool)
-      → total ≡ sum_of (take opened t.channels) → last ≡ at t.chain (held - 1) → class ≡ at t.classes last → edge ≡ boundary_at t.room total
-      → list ≡ list_test t.list segments → classes ≡ class_test t.classes segments → room ≡ room_test t.room t.cold
-      → chain ≡ chain_test t.classes t.chain held segments → channels ≡ channel_test t.channels opened known
-      → long ≡ chain_length t.room total → user ≡ user_test class t.user edge → devices ≡ device_test t.devices known
-      → default ≡ default_test t.name t.length t.unit
-      → list && classes && room && chain && channels && eqb held long && user && devices && default ≡ good_test t
-  unfolding good_test
-  good-made total last class edge long a b c d e g h i pt pl pc pe pa pb pr pd pch pn pg ph pi =
-      rw (pa, pb, pr, pd, pch, pn, pg, pc, pe, pl, pt, ph, pi, es, eh, eo, ek)
+-- the parts, from the counts as it widens them
+pub good_made : (t : Tables) (segments held opened known last class total edge long : ℕ) (list classes room chain channels user devices default : Bool)
+    → segments ≡ t.segments → held ≡ t.held → opened ≡ t.opened → known ≡ t.known → last ≡ last_row t → class ≡ at t.classes last → total ≡ total_of t → edge ≡ boundary_of t
+    → list ≡ list_test t.list segments → classes ≡ class_test t.classes segments → room ≡ room_test t.room t.cold
+    → chain ≡ chain_test t.classes t.chain held segments → channels ≡ channel_test t.channels opened known
+    → long ≡ chain_length t.room total → user ≡ user_test class t.user edge → devices ≡ device_test t.devices known
+    → default ≡ default_test t.name t.length t.unit
+    → list && classes && room && chain && channels && eqb held long && user && devices && default ≡ good_test t
+unfolding good_test
+good_made t segments held opened known last class total edge long a b c d e g h i es eh eo ek pl pc pt pe pa pb pr pd pch pn pg ph pi =
+    rw (pa, pb, pr, pd, pch, pn, pg, pc, pe, pl, pt, ph, pi, es, eh, eo, ek)

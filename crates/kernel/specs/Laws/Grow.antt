@@ -1,5 +1,5 @@
 -- The chain grows: one further segment keeps a body, and so do several.
-use Rattle.std.specs.Prelude.{◌≡◌, refl, ℕ, zero, suc, ◌+◌, ◌-◌, ◌≤◌, ◌<◌, get_or, take, set}
+use Rattle.std.specs.Prelude.{◌≡◌, refl, Option, Some, None, ℕ, zero, suc, ◌+◌, ◌-◌, ◌≤◌, ◌<◌, get_or, take, set}
 use Rattle.std.proofs.Common.{◌∙◌, arith, length-set, length-take, get_or-set_same, get_or-set_other, get_or-take}
 use Rattle.std.proofs.Math.Decide.{dec_lt}
 use Rattle.std.proofs.Math.Seq.{take-set-lt}
@@ -11,8 +11,6 @@ use Rattle.rows.specs.Laws.ChainRows.{more-classes, more-chain}
 use Rattle.kernel.specs.Definition.Tables.{count_of}
 use Rattle.kernel.specs.Definition.Line.{taking, one_more, grown}
 use Rattle.kernel.specs.Laws.Body.{Shares, Body, body-counted, body-segments, Keeps, keeps-all, keeps_on}
-use Rattle.rows.specs.declared.Lookup.{Lookup}
-use Rattle.rows.specs.declared.Lookup.TheVariants.{At, Nowhere}
 use Rattle.kernel.specs.declared.Tables.{Tables}
 
 -- the tables u have one further segment in the chain than t
@@ -72,14 +70,14 @@ pub record Grown (t u : Tables) : Type 0 where
   pub user : u.user ≡ t.user
   pub chain : (i : ℕ) → i < t.held → at u.chain i ≡ at t.chain i
 
-taking-rest : (t u : Tables) (found : Lookup) → Grown (taking t found) u → Grown t u
-taking-rest t u (At row) r =
+taking-rest : (t u : Tables) (found : Option ℕ) → Grown (taking t found) u → Grown t u
+taking-rest t u (Some row) r =
     record {
       keeps = keeps_on _ _ _ _ r.keeps;
       user = r.user;
       chain = λ i h. r.chain i (omega arith) ∙ get_or-set_other t.chain t.held i _ 0 (λ e. omega arith);
     }
-taking-rest t u Nowhere r = r
+taking-rest t u None r = r
 
 pub grown-rest : (k : ℕ) (t : Tables) → Grown t (grown k t)
 unfolding grown one_more

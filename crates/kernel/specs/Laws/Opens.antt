@@ -29,6 +29,9 @@ module _ (t : Tables) (c : Channel) (g : Good t) (new : New t c) (fits : HasRoom
   opening-total : total_of (opening t c) ≡ total_of t + (16 + c.n)
   opening-total = keeps-total opening-rest.keeps ∙ sum-set t.channels t.opened c (omega (arith, g.sized.channels, fits.few))
 
+  pub opening-room : (opening t c).room ≡ t.room
+  opening-room = opening-rest.keeps.room
+
   -- there are as many segments as the chain grows by
   pub opening-held : t.held + (chain_length t.room (total_of t + (16 + c.n)) - t.held) ≤ 32
   opening-held =

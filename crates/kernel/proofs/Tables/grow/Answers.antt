@@ -1,18 +1,14 @@
-use Rattle.std.proofs.Common.{◌≡◌, ◌∙◌, sym, arith, rules}
-use Rattle.kernel.proofs.Growing.{more-held, grown-step, grown-none}
+-- `Tables::grow` meets its contract.
+use Rattle.std.proofs.Common.{◌∙◌, ◌-◌, arith}
+use Rattle.kernel.proofs.NoChange.{grown-none}
+use Rattle.kernel.proofs.Growing.{more-held, grown-step}
 use Rattle.kernel.proofs.Tables.grow.Goals as goal
 
-pub loop-i-preserved : goal.loop-i-preserved
-loop-i-preserved c = (
-  search rules,
-  rw c.one_more-t.ensures (omega (arith, more-held c.loop-i.t)),
-  rw (
-    c.one_more-t.ensures,
-    ← grown-step c.args.k c.loop-i.i c.loop-i.t c.loop-i-test.true,
-  ) c.loop-i.invariant.2,
+pub loop-preserved : goal.loop-preserved
+loop-preserved c = (
+  rw c.one_more-t.ensures (omega (arith, more-held c.loop.t)),
+  rw (c.one_more-t.ensures, ← grown-step c.args.k c.loop.counter c.loop.t c.loop-test.true) c.loop.invariant.1,
 )
 
 pub returns : goal.returns
-returns c =
-    let e : c.loop-i.i ≡ c.args.k = omega arith in
-    sym (grown-none c.args.k c.loop-i.t) ∙ (rw e at c.loop-i.invariant.2)
+returns c = grown-none (c.args.k - c.loop.counter) c.loop.t (omega arith) ∙ c.loop.invariant.1

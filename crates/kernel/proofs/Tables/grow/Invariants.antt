@@ -3,8 +3,5 @@ use Rattle.std.proofs.Common.{◌≡◌, ◌≤◌, ◌-◌, ◌+◌}
 use Rattle.kernel.specs.Definition.Line.{grown}
 use Rattle.kernel.proofs.Tables.grow.Given as goal
 
-abbrev pub invariant-loop-i : goal.invariant-loop-i
-invariant-loop-i l = (l.i ≤ l.k) × (l.t.held + (l.k - l.i) ≤ 32) × (grown (l.k - l.i) l.t ≡ grown l.k l.initial.t)
-
-abbrev pub decreases-loop-i : goal.decreases-loop-i
-decreases-loop-i l = l.k - l.i
+abbrev pub invariant-loop : goal.invariant-loop
+invariant-loop l = (l.t.held + (l.k - l.counter) ≤ 32) × (grown (l.k - l.counter) l.t ≡ grown l.k l.initial.t)

@@ -1,10 +1,10 @@
 -- `Tables::lent` meets its contract.
-use Rattle.std.proofs.Common.{sym, ◌∙◌}
-use Rattle.kernel.proofs.Accessing.{lent-refused, lent-ready}
+use Rattle.std.proofs.Common.{◌∙◌}
+use Rattle.kernel.proofs.Accessing.{lent_refused, lent_ready}
 use Rattle.kernel.proofs.Tables.lent.Goals as goal
 
 pub returns-then-not-is_ready : goal.returns-then-not-is_ready
-returns-then-not-is_ready c = lent-refused _ _ _ (sym c.is_ready.ensures.0 ∙ c.if-not-is_ready.true)
+returns-then-not-is_ready c = lent_refused _ _ _ c.if-not-is_ready.ensures.0
 
 pub returns : goal.returns
-returns c = c.lent_good.ensures ∙ lent-ready _ _ _ (sym c.is_ready.ensures.0 ∙ c.if-not-is_ready.false)
+returns c = c.lent_good.ensures ∙ lent_ready _ _ _ c.if-not-is_ready.ensures.0

@@ -1,13 +1,13 @@
 -- `Tables::load` meets its contract.
-use Rattle.std.proofs.Common.{refl, ap, not}
+use Rattle.std.proofs.Common.{refl}
 use Rattle.kernel.specs.Definition.Calls.{load}
 use Rattle.kernel.specs.Definition.Step.{heard}
-use Rattle.kernel.proofs.Calls.{call-refused, call-done}
+use Rattle.kernel.proofs.Calls.{call_refused, call_done}
 use Rattle.kernel.proofs.Tables.load.Goals as goal
 
 pub returns-then-not-is_ready : goal.returns-then-not-is_ready
-returns-then-not-is_ready c = call-refused _ _ (load _ _ _) _ _ c.is_ready.ensures.0 refl (ap not c.if-not-is_ready.true) _ c.refuse.ensures
+returns-then-not-is_ready c = call_refused _ _ (load _ _ _) _ _ c.if-not-is_ready.ensures.0 refl c.refuse.ensures
 
 pub returns : goal.returns
 unfolding heard
-returns c = call-done _ _ (load _ _ _) _ _ c.is_ready.ensures.0 (ap not c.if-not-is_ready.false) _ _ _ c.load_good.ensures
+returns c = call_done _ _ (load _ _ _) _ _ c.if-not-is_ready.ensures.0 _ _ c.load_good.ensures

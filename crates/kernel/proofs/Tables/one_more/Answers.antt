@@ -1,20 +1,17 @@
 -- `Tables::one_more` meets its contract.
-use Rattle.std.proofs.Common.{◌<◌}
+use Rattle.std.proofs.Common.{rules}
 use Rattle.kernel.proofs.Known.{sized}
-use Rattle.kernel.proofs.Growing.{more-row, more-made, more-none}
+use Rattle.kernel.proofs.Growing.{more_row, more_made, more_none}
 use Rattle.kernel.proofs.Tables.one_more.Goals as goal
 
 pub returns-in_default : goal.returns-in_default
-returns-in_default c = more-none c.args.self _ c.last_of.ensures c.in_default.is
+returns-in_default c = more_none c.args.self c.in_default.ensures
 
 pub bounds-next-row : goal.bounds-next-row
-bounds-next-row c =
-    let within : c.in-At.row < 32 =
-    more-row c.args.self _ c.last_of.ensures (sized c.args.self _ c.well_formed.0) _ c.in-At.is in
-    within
+bounds-next-row c = more_row c.args.self _ (sized c.args.self _ c.well_formed.0) c.in-Some.ensures
+
+pub overflow_cast-next : goal.overflow_cast-next
+overflow_cast-next c = let small = more_row c.args.self _ (sized c.args.self _ c.well_formed.0) c.in-Some.ensures in search rules
 
 pub returns : goal.returns
-returns c =
-    let within : c.in-At.row < 32 =
-    more-row c.args.self _ c.last_of.ensures (sized c.args.self _ c.well_formed.0) _ c.in-At.is in
-    more-made c.args.self _ c.last_of.ensures _ _ c.in-At.is within c.wide-held.ensures.0
+returns c = more_made c.args.self _ _ c.in-Some.ensures c.from.ensures

@@ -1,33 +1,25 @@
 -- `Tables::open_row` meets its contract.
-use Rattle.std.proofs.Common.{◌≡◌, ap, not}
-use Rattle.kernel.specs.Definition.Line.{total_of}
-use Rattle.kernel.specs.Within.{HasRoom}
-use Rattle.kernel.proofs.Refusing.{refused}
-use Rattle.kernel.proofs.Growing.{total-of}
+use Rattle.std.proofs.Common.{sym}
+use Rattle.kernel.proofs.Refusing.{quietly}
 use Rattle.kernel.proofs.Opening.{row-full, row-none, row_fits, row-chain, row_done}
 use Rattle.kernel.proofs.Tables.open_row.Goals as goal
 
 pub returns-then-self-ge32 : goal.returns-then-self-ge32
-returns-then-self-ge32 c = λ out. refused c.args.self _ _ _ _ out c.refuse.ensures (row-full _ _ c.if-self-ge32.true)
+returns-then-self-ge32 c = quietly c.args.self _ _ _ _ c.refuse.ensures (row-full _ _ c.if-self-ge32.true) _
 
 pub returns-then-not-room_for : goal.returns-then-not-room_for
 returns-then-not-room_for c =
-    let total : c.total-total.result ≡ total_of c.args.self = total-of c.args.self _ _ c.wide.ensures.0 c.total-total.ensures.0 in
-    λ out. refused c.args.self _ _ _ _ out c.refuse-then-not-room_for.ensures
-    (row-none c.args.self c.args.c _ _ _ c.if-self-ge32.false total c.wide16.ensures.0 c.room_for.ensures
-    (ap not c.if-not-room_for.true))
+    quietly c.args.self _ _ _ _ c.refuse-then-not-room_for.ensures
+    (row-none _ c.args.c _ _ _ c.if-self-ge32.false c.total-total.ensures.0 c.from.ensures c.room_for.ensures (sym c.if-not-room_for.true)) _
 
 pub open_record-requires : goal.open_record-requires
 open_record-requires c =
-    let total : c.total-total.result ≡ total_of c.args.self = total-of c.args.self _ _ c.wide.ensures.0 c.total-total.ensures.0 in
-    let fits : HasRoom c.args.self c.args.c =
-    row_fits _ _ _ _ _ c.if-self-ge32.false total c.wide16.ensures.0 c.room_for.ensures (ap not c.if-not-room_for.false) in
-    row-chain c.args.self c.args.c c.requires.0 c.requires.2 fits _ c.append-next.ensures _ _ _ c.wide16-2.ensures.0 total c.requires.1
+    row-chain _ c.args.c c.requires.0 c.requires.2
+    (row_fits _ _ _ _ _ c.if-self-ge32.false c.total-total.ensures.0 c.from.ensures c.room_for.ensures (sym c.if-not-room_for.false))
+    _ _ c.append-next.ensures c.line.ensures _ c.total-total.ensures.0 _ c.requires.1
 
 pub returns : goal.returns
 returns c =
-    let total : c.total-total.result ≡ total_of c.args.self = total-of c.args.self _ _ c.wide.ensures.0 c.total-total.ensures.0 in
-    let fits : HasRoom c.args.self c.args.c =
-    row_fits _ _ _ _ _ c.if-self-ge32.false total c.wide16.ensures.0 c.room_for.ensures (ap not c.if-not-room_for.false) in
-    λ out. row_done c.args.self c.args.c c.requires.0 c.requires.2 fits _ c.append-next.ensures _ _ _ _ out c.wide16-2.ensures.0 total
-    c.open_record.ensures
+    row_done _ c.args.c c.requires.0 c.requires.2
+    (row_fits _ _ _ _ _ c.if-self-ge32.false c.total-total.ensures.0 c.from.ensures c.room_for.ensures (sym c.if-not-room_for.false))
+    _ _ c.append-next.ensures c.line.ensures _ c.total-total.ensures.0 _ _ _ _ c.open_record.ensures c.from-2.ensures c.done.ensures

@@ -3,4 +3,4 @@ use Rattle.kernel.proofs.Resetting.{segments-released}
 use Rattle.kernel.proofs.Tables.released.Goals as goal
 
 pub returns : goal.returns
-returns c = segments-released c.args.self _ c.release-classes.ensures
+returns c = rw (← c.if-not-releases.ensures) (segments-released c.args.self _ c.release.ensures)

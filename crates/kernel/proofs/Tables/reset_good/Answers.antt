@@ -2,8 +2,8 @@
 use Rattle.kernel.proofs.Resetting.{reset-refused, reset-done}
 use Rattle.kernel.proofs.Tables.reset_good.Goals as goal
 
-pub returns-then-flags : goal.returns-then-flags
-returns-then-flags c = λ out. rw c.refuse.ensures (reset-refused _ _ _ out c.if-flags.true)
+pub returns-then-other_bits : goal.returns-then-other_bits
+returns-then-other_bits c = λ out. reset-refused _ _ _ out _ c.if-other_bits.ensures c.refuse.ensures
 
 pub returns : goal.returns
-returns c = λ out. reset-done c.args.self _ _ out c.if-flags.false _ _ c.reset_tables.ensures c.reset_ram.ensures
+returns c = λ out. reset-done _ _ _ out _ c.if-other_bits.ensures _ _ c.reset_tables.ensures c.reset_ram.ensures c.done.ensures

@@ -1,13 +1,13 @@
 -- `Tables::write` meets its contract.
-use Rattle.std.proofs.Common.{refl, ap, not}
+use Rattle.std.proofs.Common.{refl}
 use Rattle.kernel.specs.Definition.Calls.{write}
 use Rattle.kernel.specs.Definition.Step.{heard}
-use Rattle.kernel.proofs.Calls.{call-refused, call-done}
+use Rattle.kernel.proofs.Calls.{call_refused, call_done}
 use Rattle.kernel.proofs.Tables.write.Goals as goal
 
 pub returns-then-not-is_ready : goal.returns-then-not-is_ready
-returns-then-not-is_ready c = λ out. call-refused _ _ (write _ _ _) out _ c.is_ready.ensures.0 refl (ap not c.if-not-is_ready.true) _ c.refuse.ensures
+returns-then-not-is_ready c = λ out. call_refused _ _ (write _ _ _) out _ c.if-not-is_ready.ensures.0 refl c.refuse.ensures
 
 pub returns : goal.returns
 unfolding heard
-returns c = λ out. call-done _ _ (write _ _ _) out _ c.is_ready.ensures.0 (ap not c.if-not-is_ready.false) _ _ _ (c.write_good.ensures out)
+returns c = λ out. call_done _ _ (write _ _ _) out _ c.if-not-is_ready.ensures.0 _ _ (c.write_good.ensures out)

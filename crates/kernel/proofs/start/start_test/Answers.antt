@@ -3,4 +3,4 @@ use Rattle.kernel.proofs.Starting.{start-tested}
 use Rattle.kernel.proofs.start.start_test.Goals as goal
 
 pub returns : goal.returns
-returns c = start-tested c.args.ram c.args.room c.args.list.now c.if-segments-gt32.false _ _ c.lay.ensures c.list_test.ensures
+returns c = start-tested _ _ c.args.list.now _ _ c.if-segments-gt32.false c.lay.ensures c.list_test.ensures
