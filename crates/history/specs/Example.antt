@@ -1,6 +1,6 @@
 -- A sequence worked out: a start, two opens, a write, a close, a link, a segment shared, a store, a module loaded, an open closed again. Its states meet all that the
 -- theorems ask.
-use Rattle.std.specs.Prelude.{◌≡◌, Bool, true, false, ◌&&◌, ℕ, zero, suc, ◌-◌, ◌<◌, ltb, eqb, length}
+use Rattle.std.specs.Prelude.{◌≡◌, Bool, true, false, ◌&&◌, ℕ, zero, suc, ◌-◌, ◌<◌, ltb, eqb, length, Some}
 use Rattle.std.proofs.Math.Path.{refl, sym, ap}
 use Rattle.std.proofs.Common.{subst, ◌∙◌, arith, rules, ltb-true, eqb-true}
 use mathlib.Core.List.{List, [], ◌∷◌}
@@ -11,7 +11,6 @@ use Rattle.line.specs.Definition.Moves.{moves_up, moves_down, close_moves, link_
 use Rattle.line.specs.Definition.Ram.{put_at}
 use Rattle.line.specs.Definition.Given.{given_of}
 use Rattle.line.specs.Definition.Lent.{lent_at}
-use Rattle.line.specs.declared.Lent.TheVariants.{Part}
 use Rattle.modules.specs.Definition.Bits.{bits_in}
 use Rattle.modules.specs.Definition.Reading.{taken_in}
 use Rattle.rows.specs.Definition.Lists.{up_to}
@@ -258,7 +257,7 @@ unfolding decided no_tables letters_test up_to chain_length boundary_at grown sh
 is_shared = refl
 
 -- channel 2's buffer, on positions 16 to 19 of the line, where R is 10,974
-computed : Part 60106 ≡ lent_on t₁ 65536 2
+computed : Some 60106 ≡ lent_on t₁ 65536 2
 unfolding lent_on lent_on_good lent_at place_of chain_index_of offset_of decided no_tables letters_test up_to chain_length boundary_at grown shrunk
 computed = refl
 
@@ -372,7 +371,7 @@ module _ (ram : List ℕ) (four : length ram ≡ 65536) where
   no-layout = (reachable-open sequence lent 3 0 9939 _ passes).refused.0 no_room
 
   -- 1, lent on: channel 2's four bytes, the last first: the 7 is the third of them
-  lent-on : Part 60106 ≡ lent_on s₁.tables (length s₁.ram) 2
+  lent-on : Some 60106 ≡ lent_on s₁.tables (length s₁.ram) 2
   lent-on = computed ∙ sym (known-lent k₁ 2)
 
   four_bytes : size_of s₁.tables 2 ≡ 4

@@ -1,5 +1,5 @@
 -- A load of a module is done exactly where the stream is a module without fault, and b is its bytes: the statement of Definition/Loads.antt, proved.
-use Rattle.std.specs.Prelude.{◌≡◌, refl, Bool, true, false, not, ◌||◌, List, [], ◌∷◌, ℕ, ◌<◌, eqb, length}
+use Rattle.std.specs.Prelude.{◌≡◌, refl, Bool, true, false, not, ◌||◌, List, [], ◌∷◌, ℕ, ◌<◌, eqb, length, Result, Ok, Err}
 use Rattle.std.proofs.Common.{sym, ap, ◌∙◌, arith}
 use borrow.Author.Tests.{le-ltb, ltb-false, not-false}
 use Rattle.std.proofs.Math.Dec.{ltb}
@@ -8,8 +8,8 @@ use Rattle.modules.specs.Definition.Counter.{counter}
 use Rattle.modules.specs.Definition.Judging.{judged, refusal_of, used_of}
 use Rattle.modules.specs.Laws.Stored.{none-refuses}
 use Rattle.modules.specs.Laws.Unique.{whole-module, whole-faultless, module-whole}
-use Rattle.modules.specs.declared.Judged.{Judged}
-use Rattle.modules.specs.declared.Judged.TheVariants.{Whole, Module, Page, Range, Guard}
+use Rattle.modules.specs.declared.Refusal.{Refusal}
+use Rattle.modules.specs.declared.Refusal.TheVariants.{Module, Page, Range, Guard}
 use Rattle.rows.specs.Laws.Lists.{or_left, or_right}
 use Rattle.kernel.specs.Definition.Tables.{SEGMENT, row_of}
 use Rattle.kernel.specs.Definition.Good.{Good}
@@ -30,18 +30,18 @@ refused-not : (answer : Answer) (k b : ℕ) → number_of answer ≡ k → 0 < k
 refused-not answer k b n p e = let z : number_of answer ≡ 0 = ap number_of e in absurd (omega arith)
 
 -- a verdict with no refusal is whole
-whole_is : (j : Judged) (b : ℕ) → refusal_of j ≡ 0 → used_of j ≡ b → j ≡ Whole b
-whole_is (Whole d) b z e = ap (λ (x : ℕ). Whole x) e
-whole_is Module b z e = absurd (omega arith)
-whole_is Page b z e = absurd (omega arith)
-whole_is Range b z e = absurd (omega arith)
-whole_is Guard b z e = absurd (omega arith)
+whole_is : (j : Result ℕ Refusal) (b : ℕ) → refusal_of j ≡ 0 → used_of j ≡ b → j ≡ Ok b
+whole_is (Ok d) b z e = ap (λ (x : ℕ). Ok x) e
+whole_is (Err Module) b z e = absurd (omega arith)
+whole_is (Err Page) b z e = absurd (omega arith)
+whole_is (Err Range) b z e = absurd (omega arith)
+whole_is (Err Guard) b z e = absurd (omega arith)
 
 -- what a load that is done has passed
 record Passed (t : Tables) (segment page offset : ℕ) (stream : List ℕ) (b : ℕ) : Type 0 where
   pub start : ltb 3 page || ltb SEGMENT offset ≡ false
   pub reaches : may_reach t (row_of t segment) ≡ true
-  pub verdict : judged (target_of t (row_of t segment) page) (counter page offset) stream ≡ Whole b
+  pub verdict : judged (target_of t (row_of t segment) page) (counter page offset) stream ≡ Ok b
 
 passed-by : (t : Tables) (call owner range guard bad out : Bool) (done : Decision) (b : ℕ)
     → (unless (BadCall when call ∷ NotOwner when owner ∷ BadRange when range ∷ Guarded when guard ∷ BadModule when bad ∷ BadPage when out ∷ []) t done).answer ≡ Done 0 b
@@ -55,7 +55,7 @@ passed-by t false false false false false true done b e = absurd (refused-not Ba
 passed-by t false false false false false false done b e = (refl, refl, refl, refl, refl, refl, e)
 
 module _ (t : Tables) (g : Good t) (segment page offset : ℕ) (stream : List ℕ) (b : ℕ) where
-  abbrev verdict : Judged
+  abbrev verdict : Result ℕ Refusal
   verdict = judged (target_of t (row_of t segment) page) (counter page offset) stream
 
   load-passed : (on_load_module t segment page offset stream).answer ≡ Done 0 b → Passed t segment page offset stream b

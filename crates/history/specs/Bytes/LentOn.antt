@@ -1,5 +1,5 @@
 -- "A buffer's bytes are lent on, for reading only, as that part of the RAM and nothing else where they lie in one segment."
-use Rattle.std.specs.Prelude.{◌≡◌, ℕ, ◌+◌, ◌-◌, ◌≤◌, ◌<◌, length, get_or}
+use Rattle.std.specs.Prelude.{◌≡◌, ℕ, ◌+◌, ◌-◌, ◌≤◌, ◌<◌, length, get_or, Option, Some, None}
 use Rattle.std.proofs.Math.Path.{refl}
 use Rattle.std.proofs.Common.{sym, ap, ◌∙◌, arith}
 use mathlib.Core.List.{List, []}
@@ -8,8 +8,6 @@ use borrow.Author.Tests.{eq-eqb, lt-ltb, le-ltb}
 use Rattle.line.specs.Within.Chains.{Chain}
 use Rattle.line.specs.Definition.Line.{chain_index_of, place_of, line_from}
 use Rattle.line.specs.Definition.Lent.{lent_at, part_of}
-use Rattle.line.specs.declared.Lent.{Lent}
-use Rattle.line.specs.declared.Lent.TheVariants.{Part, Nothing}
 use Rattle.line.specs.Laws.Walks.{bytes-at}
 use Rattle.line.specs.Laws.Places.{chain-less}
 use Rattle.line.specs.Laws.Lending.{lies, lent-byte, lent_length, lent-index}
@@ -38,7 +36,7 @@ module _ (t : Tables) (ram : List ℕ) (r : Ready t (length ram)) (channel : ℕ
   unfolding lent_on lent_on_good
   lent-open h = rw (ready-test r, lt-ltb (channel_at t channel) t.opened h)
 
-  lent-closed : t.opened ≤ channel_at t channel → lent_on t (length ram) channel ≡ Nothing
+  lent-closed : t.opened ≤ channel_at t channel → lent_on t (length ram) channel ≡ None
   unfolding lent_on lent_on_good
   lent-closed h = rw (ready-test r, le-ltb (channel_at t channel) t.opened h)
 
@@ -46,7 +44,7 @@ module _ (t : Tables) (ram : List ℕ) (r : Ready t (length ram)) (channel : ℕ
   unfolding lent_on part_on part_on_good
   part-lent = rw (ready-test r)
 
-  one_lent : OneSegment t channel → Part (place_of t.chain t.room (buffer_of t channel + size_of t channel - 1)) ≡ lent_on t (length ram) channel
+  one_lent : OneSegment t channel → Some (place_of t.chain t.room (buffer_of t channel + size_of t channel - 1)) ≡ lent_on t (length ram) channel
   unfolding lent_at
   one_lent o =
       let end = buffer_of t channel + size_of t channel - 1 in
@@ -54,14 +52,14 @@ module _ (t : Tables) (ram : List ℕ) (r : Ready t (length ram)) (channel : ℕ
       let same : chain_index_of t.room end ≡ chain_index_of t.room (buffer_of t channel) = rw last at (o.same (size_of t channel - 1) (omega (arith, o.some))) in
       rw (lent-open o.known, lt-ltb 0 (size_of t channel) o.some, eq-eqb (chain_index_of t.room (buffer_of t channel)) (chain_index_of t.room end) (sym same))
 
-  module _ (at : ℕ) (e : Part at ≡ lent_on t (length ram) channel) where
+  module _ (at : ℕ) (e : Some at ≡ lent_on t (length ram) channel) where
     pub lent-known : channel_at t channel < t.opened
     lent-known = elim (dec_lt (channel_at t channel) t.opened) [ yes h ↦ h | no h ↦ absurd (never (e ∙ lent-closed (omega arith))) ]
       where
-        never : Part at ≡ Nothing → ⊥
+        never : Some at ≡ None → ⊥
         never f = let z : ◌≡◌ {A = ℕ} 0 1 = cc in omega arith
 
-    lent : Part at ≡ lent_at t.chain t.room (buffer_of t channel) (size_of t channel)
+    lent : Some at ≡ lent_at t.chain t.room (buffer_of t channel) (size_of t channel)
     lent = e ∙ lent-open lent-known
 
     lent_one : OneSegment t channel
@@ -79,15 +77,15 @@ module _ (t : Tables) (ram : List ℕ) (r : Ready t (length ram)) (channel : ℕ
     part-byte k h =
         let n = size_of t channel in
         let back : n - 1 - (n - 1 - k) ≡ k = omega arith in
-        let byte : get_or (part_of ram n (Part at)) (n - 1 - k) 0 ≡ get_or (line_from t.chain t.room ram (buffer_of t channel) n) k 0 =
+        let byte : get_or (part_of ram n (Some at)) (n - 1 - k) 0 ≡ get_or (line_from t.chain t.room ram (buffer_of t channel) n) k 0 =
         rw back at (lent-byte t.chain t.room (buffer_of t channel) n at ram (chained lent-known) lent (n - 1 - k) (omega arith)) in
-        let part : get_or (part_on t ram channel) (n - 1 - k) 0 ≡ get_or (part_of ram n (Part at)) (n - 1 - k) 0 = rw (part-lent, ← e) in
+        let part : get_or (part_on t ram channel) (n - 1 - k) 0 ≡ get_or (part_of ram n (Some at)) (n - 1 - k) 0 = rw (part-lent, ← e) in
         part ∙ byte ∙ bytes-at (place_of t.chain t.room) ram (buffer_of t channel) n k h
 
     lent-holds : (f : ℕ → ℕ → ℕ) → Holds f t ram → (k : ℕ) → k < size_of t channel → get_or (part_on t ram channel) (size_of t channel - 1 - k) 0 ≡ f channel k
     lent-holds f holds k h = part-byte k h ∙ holds (channel_at t channel) lent-known k h ∙ ap (λ (x : ℕ). f x k) (open_at t r.good channel lent-known).number
 
-  pub no_part : Nothing ≡ lent_on t (length ram) channel → part_on t ram channel ≡ []
+  pub no_part : None ≡ lent_on t (length ram) channel → part_on t ram channel ≡ []
   unfolding part_of
   no_part e = rw (part-lent, ← e)
 
@@ -95,22 +93,22 @@ module _ (t : Tables) (ram : List ℕ) (r : Ready t (length ram)) (channel : ℕ
   unfolding part_of
   none_lent apart = rw part-lent (go (lent_on t (length ram) channel) refl)
     where
-      go : (l : Lent) → l ≡ lent_on t (length ram) channel → part_of ram (size_of t channel) l ≡ []
-      go (Part at) e = absurd (apart (lent_one at e))
-      go Nothing e = refl
+      go : (l : Option ℕ) → l ≡ lent_on t (length ram) channel → part_of ram (size_of t channel) l ≡ []
+      go (Some at) e = absurd (apart (lent_one at e))
+      go None e = refl
 
 -- After any sequence of calls since an accepted start, with no second start:
 module _ {h : History} {s : State} (r : Run h s) (channel : ℕ) where
   -- a part is lent where all bytes of the buffer lie in one segment, from the place of the last byte on
   pub lent-there : OneSegment s.tables channel
-      → Part (place_of s.tables.chain s.tables.room (buffer_of s.tables channel + size_of s.tables channel - 1)) ≡ lent_on s.tables (length s.ram) channel
+      → Some (place_of s.tables.chain s.tables.room (buffer_of s.tables channel + size_of s.tables channel - 1)) ≡ lent_on s.tables (length s.ram) channel
   lent-there = one_lent s.tables s.ram (run_holds r.started r.runs).0 channel
 
   -- no byte is lent where they do not
   pub lent-nowhere : ¬ OneSegment s.tables channel → part_on s.tables s.ram channel ≡ []
   lent-nowhere = none_lent s.tables s.ram (run_holds r.started r.runs).0 channel
 
-  module _ (at : ℕ) (e : Part at ≡ lent_on s.tables (length s.ram) channel) where
+  module _ (at : ℕ) (e : Some at ≡ lent_on s.tables (length s.ram) channel) where
     -- so that a part is lent only where they do
     pub lent-only : OneSegment s.tables channel
     lent-only = lent_one s.tables s.ram (run_holds r.started r.runs).0 channel at e

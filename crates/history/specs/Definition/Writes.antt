@@ -1,12 +1,11 @@
 -- Order 9 with the loader's call: what it accepts the writer makes, and what the writer makes it loads.
-use Rattle.std.specs.Prelude.{◌≡◌, List, ℕ, ◌≤◌, ◌<◌, length}
+use Rattle.std.specs.Prelude.{◌≡◌, List, ℕ, ◌≤◌, ◌<◌, length, Ok}
 use Rattle.modules.specs.Definition.Reading.{taken_of}
 use Rattle.modules.specs.declared.Item.{Item}
 use Rattle.writer.specs.Definition.Entries.{all, listed}
 use Rattle.writer.specs.Definition.Bytes.{AllBytes}
 use Rattle.writer.specs.Definition.Writing.{answer_to, buffer_after}
 use Rattle.writer.specs.Definition.ReadBack.{WrittenAs}
-use Rattle.writer.specs.declared.Written.TheVariants as written
 use Rattle.rows.specs.Definition.Classes.{USER}
 use Rattle.kernel.specs.Definition.Tables.{ram_size, class_at}
 use Rattle.kernel.specs.Definition.Good.{Good}
@@ -27,5 +26,5 @@ abbrev pub WrittenLoads : Type 0
 WrittenLoads =
     (s : State) → Good s.tables → length s.ram ≡ ram_size s.tables → (segment row : ℕ) → InList s.tables segment row → 0 < row → class_at s.tables row ≡ USER
     → (page offset : ℕ) (bytes buffer output : List ℕ) → AllBytes bytes → (items : List Item) → listed bytes ≡ all items → (n : ℕ) → n ≤ 65535
-    → answer_to page offset items (length buffer) ≡ written.Done n
+    → answer_to page offset items (length buffer) ≡ Ok n
     → (event s (load-module segment page offset (buffer_after page offset (listed bytes) buffer)) output).answer ≡ Done 0 n

@@ -1,5 +1,5 @@
 -- "this leaves no mark", for what follows: two states alike but for bytes off the line stay so, and no call can tell them apart but by a load from there.
-use Rattle.std.specs.Prelude.{◌≡◌, true, ◌⊎◌, ℕ, ◌+◌, ◌-◌, ◌≤◌, ◌<◌, take, drop}
+use Rattle.std.specs.Prelude.{◌≡◌, true, ◌⊎◌, ℕ, ◌+◌, ◌-◌, ◌≤◌, ◌<◌, take, drop, Option, Some, None}
 use Rattle.std.proofs.Math.Path.{refl, sym, ap}
 use Rattle.std.proofs.Common.{◌∙◌, arith, ext_get_or}
 use mathlib.Core.List.{List, [], ◌∷◌}
@@ -12,8 +12,6 @@ use Rattle.line.specs.Definition.Ram.{filled}
 use Rattle.line.specs.Definition.Given.{given_of}
 use Rattle.line.specs.Laws.Given.{given_inside}
 use Rattle.line.specs.Laws.OneRam.{one, none, find}
-use Rattle.line.specs.declared.Lent.{Lent}
-use Rattle.line.specs.declared.Lent.TheVariants.{Part, Nothing}
 use Rattle.kernel.specs.Definition.Tables.{row_of, channel_at}
 use Rattle.kernel.specs.Definition.Line.{record_at, size_at, buffer_at}
 use Rattle.kernel.specs.Definition.Answers.{granted, Decision}
@@ -156,11 +154,11 @@ module _ (P : ℕ → Type 0) (was : List ℕ) (t : Tables) (a b : List ℕ) (l 
   part_same : (channel : ℕ) → part_on t a channel ≡ part_on t b channel
   part_same channel = go (lent_on t (length b) channel) refl
     where
-      go : (x : Lent) → x ≡ lent_on t (length b) channel → part_on t a channel ≡ part_on t b channel
-      go Nothing e = no_part t a other channel (rw l.size e) ∙ sym (no_part t b l.ready channel e)
-      go (Part at) e =
+      go : (x : Option ℕ) → x ≡ lent_on t (length b) channel → part_on t a channel ≡ part_on t b channel
+      go None e = no_part t a other channel (rw l.size e) ∙ sym (no_part t b l.ready channel e)
+      go (Some at) e =
           let n = size_of t channel in
-          let f : Part at ≡ lent_on t (length a) channel = rw l.size e in
+          let f : Some at ≡ lent_on t (length a) channel = rw l.size e in
           let within = record-within t (channel_at t channel) l.ready.good (lent-known t b l.ready channel at e) in
           let long = lent-size t a other channel at f in
           ext_get_or 0 (part_on t a channel) (part_on t b channel) (long ∙ sym (lent-size t b l.ready channel at e))

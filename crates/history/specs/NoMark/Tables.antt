@@ -1,5 +1,5 @@
 -- "gives back the same tables": the row that an open put and the segments that it took, given back by the close.
-use Rattle.std.specs.Prelude.{◌≡◌, refl, Bool, true, false, List, [], ◌∷◌, ◌++◌, ℕ, zero, suc, ◌+◌, ◌-◌, ◌≤◌, ◌<◌, length, get_or, set}
+use Rattle.std.specs.Prelude.{◌≡◌, refl, Bool, true, false, List, [], ◌∷◌, ◌++◌, ℕ, zero, suc, ◌+◌, ◌-◌, ◌≤◌, ◌<◌, length, get_or, set, Option, Some, None}
 use Rattle.std.proofs.Common.{sym, ap, ◌∙◌, suc-le-suc, not-suc-le-zero, le_of_suc-le-suc, arith, get_or-set_same, set-set}
 use Rattle.std.proofs.lemmas.List.{set-get_or}
 use Rattle.rows.specs.Definition.Lists.{last_of, without}
@@ -9,8 +9,6 @@ use Rattle.rows.specs.Definition.Sizes.{chain_length}
 use Rattle.rows.specs.Laws.Counts.{tally-part, Found, last_found}
 use Rattle.rows.specs.Laws.Sizes.{chain-most}
 use Rattle.rows.specs.declared.Channel.{Channel}
-use Rattle.rows.specs.declared.Lookup.{Lookup}
-use Rattle.rows.specs.declared.Lookup.TheVariants.{At, Nowhere}
 use Rattle.kernel.specs.Definition.Tables.{count_of, sharing, with_segments, with_channels}
 use Rattle.kernel.specs.Definition.Line.{total_of, taking, one_more, grown, one_less, shrunk, room_for, opening, closing}
 use Rattle.kernel.specs.Definition.Good.{Good}
@@ -100,10 +98,10 @@ grown-back {t} {k} g (some s few) =
 -- ---- the rows of channels
 
 -- they change beside the chain
-taking-beside : (t : Tables) (found : Lookup) (opened : ℕ) (channels : List Channel)
+taking-beside : (t : Tables) (found : Option ℕ) (opened : ℕ) (channels : List Channel)
     → with_channels (taking t found) opened channels ≡ taking (with_channels t opened channels) found
-taking-beside t (At row) opened channels = refl
-taking-beside t Nowhere opened channels = refl
+taking-beside t (Some row) opened channels = refl
+taking-beside t None opened channels = refl
 
 pub grown-beside : (k : ℕ) (t : Tables) (opened : ℕ) (channels : List Channel) → with_channels (grown k t) opened channels ≡ grown k (with_channels t opened channels)
 unfolding grown one_more
