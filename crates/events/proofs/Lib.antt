@@ -2,3 +2,4 @@
 pub mod Laws
 pub mod Taken
 pub mod ByKind
+pub mod Walks

@@ -5,53 +5,56 @@ ghost use Rattle.kernel.specs.Definition.Good.{Good};
 ghost use Rattle.kernel.specs.Definition.Step.{step, result_of};
 ghost use Rattle.events.specs.Definition.Records.{open_in, close_in, read_in, write_in};
 
-use super::fields::u16_at;
 use kernel::{Answer, Outcome, Tables};
 
 // Channel, driver status, n, name.
+#[tactic(auto, using(crate::proofs::Laws::refused), unfolding(crate::specs::Definition::Records::open_in))]
 pub fn open_event(t: Tables, ram: &mut [u8], body: &[u8]) -> Outcome
     requires { Good t × (length ram.old ≡ ram_size t) }
     ensures { (out : List ℕ) → result_of result ram.new out ≡ step t ram.old (open_in body.now) out }
 {
-    if body.len() < 4 {
+    let [channel, driver, n0, n1, name @ ..] = body else {
         return t.refuse(Answer::BadCall);
-    }
-    let n = u16_at(body, 2);
-    t.open_good(ram, body[0], body[1], n, &body[4..])
+    };
+    let n = u16::from_le_bytes([*n0, *n1]);
+    t.open_good(ram, *channel, *driver, n, name)
 }
 
 // Channel.
+#[tactic(auto, using(crate::proofs::Laws::refused), unfolding(crate::specs::Definition::Records::close_in))]
 pub fn close_event(t: Tables, ram: &mut [u8], body: &[u8]) -> Outcome
     requires { Good t × (length ram.old ≡ ram_size t) }
     ensures { (out : List ℕ) → result_of result ram.new out ≡ step t ram.old (close_in body.now) out }
 {
-    if body.len() != 1 {
+    let [channel] = body else {
         return t.refuse(Answer::BadCall);
-    }
-    t.close_good(ram, body[0])
+    };
+    t.close_good(ram, *channel)
 }
 
 // Channel, offset, length.
+#[tactic(auto, using(crate::proofs::Laws::refused), unfolding(crate::specs::Definition::Records::read_in))]
 pub fn read_event(t: Tables, ram: &[u8], body: &[u8], out: &mut [u8]) -> Outcome
     requires { Good t × (length ram.now ≡ ram_size t) }
     ensures { result_of result ram.now out.new ≡ step t ram.now (read_in body.now) out.old }
 {
-    if body.len() != 5 {
+    let [channel, o0, o1, a0, a1] = body else {
         return t.refuse(Answer::BadCall);
-    }
-    let offset = u16_at(body, 1);
-    let asked = u16_at(body, 3);
-    t.read_good(ram, body[0], offset, asked, out)
+    };
+    let offset = u16::from_le_bytes([*o0, *o1]);
+    let asked = u16::from_le_bytes([*a0, *a1]);
+    t.read_good(ram, *channel, offset, asked, out)
 }
 
 // Channel, offset, data.
+#[tactic(auto, using(crate::proofs::Laws::refused), unfolding(crate::specs::Definition::Records::write_in))]
 pub fn write_event(t: Tables, ram: &mut [u8], body: &[u8]) -> Outcome
     requires { Good t × (length ram.old ≡ ram_size t) }
     ensures { (out : List ℕ) → result_of result ram.new out ≡ step t ram.old (write_in body.now) out }
 {
-    if body.len() < 3 {
+    let [channel, o0, o1, data @ ..] = body else {
         return t.refuse(Answer::BadCall);
-    }
-    let offset = u16_at(body, 1);
-    t.write_good(ram, body[0], offset, &body[3..])
+    };
+    let offset = u16::from_le_bytes([*o0, *o1]);
+    t.write_good(ram, *channel, offset, data)
 }

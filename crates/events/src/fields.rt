@@ -6,11 +6,5 @@ pub fn u16_at(body: &[u8], i: usize) -> u16
     requires { i + 1 < length body.now }
     ensures { result ≡ u16_at body.now i }
 {
-    wider(body[i]) + 256 * wider(body[i + 1])
-}
-
-fn wider(x: u8) -> u16
-    ensures { (result ≡ x) × (result < 256) }
-{
-    x as u16
+    u16::from_le_bytes([body[i], body[i + 1]])
 }

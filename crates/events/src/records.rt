@@ -2,26 +2,26 @@
 ghost use Rattle.std.specs.Prelude.{◌≡◌};
 ghost use Rattle.events.specs.Definition.Records.{front_of};
 
-use super::Front;
 use super::fields::u16_at;
-use rows::numbers::wide16;
+use super::{NoRecord, Record};
 
 // What stands at the front of the input.
-pub fn front(input: &[u8]) -> Front
+#[tactic(auto, unfolding(crate::specs::Definition::Records::front_of))]
+pub fn front(input: &[u8]) -> Result<Record, NoRecord>
     ensures { result ≡ front_of input.now }
 {
     if input.len() < 2 {
-        return Front::Cut;
+        return Err(NoRecord::Cut);
     }
-    let n = wide16(u16_at(input, 0));
-    if n < 2 {
-        return Front::Bad;
-    }
-    if 4096 < n {
-        return Front::Bad;
+    let n = usize::from(u16_at(input, 0));
+    if n < 2 || 4096 < n {
+        return Err(NoRecord::Bad);
     }
     if input.len() < n + 2 {
-        return Front::Cut;
+        return Err(NoRecord::Cut);
     }
-    Front::Record(u16_at(input, 2), n - 2)
+    Ok(Record {
+        kind: u16_at(input, 2),
+        size: n - 2,
+    })
 }

@@ -1,72 +1,55 @@
 -- `events::call_good` meets its contract.
-use Rattle.std.proofs.Common.{arith, refl}
-use Rattle.events.specs.Definition.Records.{call_in}
-use Rattle.events.proofs.ByKind.{by_kind, no_kind, unknown-kind}
+use Rattle.events.specs.declared.kinds.Kind.TheVariants.{Reset, Open, Close, Read, Write, Default, Status, Link, Boundary, SetUserBoundary, Allocate, Free, LoadModule, Start, Store, Load}
+use Rattle.events.proofs.ByKind.{by_kind, no_kind}
 use Rattle.events.proofs.call_good.Goals as goal
 
-pub returns-in-0 : goal.returns-in-0
-unfolding call_in
-returns-in-0 c = by_kind _ _ _ _ _ 0 _ _ c.in-0.is refl (c.reset_event.ensures _)
-
-pub returns-in-1 : goal.returns-in-1
-unfolding call_in
-returns-in-1 c = by_kind _ _ _ _ _ 1 _ _ c.in-1.is refl (c.open_event.ensures _)
-
-pub returns-in-3 : goal.returns-in-3
-unfolding call_in
-returns-in-3 c = by_kind _ _ _ _ _ 3 _ _ c.in-3.is refl (c.close_event.ensures _)
-
-pub returns-in-6 : goal.returns-in-6
-unfolding call_in
-returns-in-6 c = by_kind _ _ _ _ _ 6 _ _ c.in-6.is refl c.read_event.ensures
-
-pub returns-in-8 : goal.returns-in-8
-unfolding call_in
-returns-in-8 c = by_kind _ _ _ _ _ 8 _ _ c.in-8.is refl (c.write_event.ensures _)
-
-pub returns-in-19 : goal.returns-in-19
-unfolding call_in
-returns-in-19 c = by_kind _ _ _ _ _ 19 _ _ c.in-19.is refl (c.default_event.ensures _ _ c.requires.1)
-
-pub returns-in-20 : goal.returns-in-20
-unfolding call_in
-returns-in-20 c = by_kind _ _ _ _ _ 20 _ _ c.in-20.is refl (c.status_event.ensures _ c.requires.1)
-
-pub returns-in-21 : goal.returns-in-21
-unfolding call_in
-returns-in-21 c = by_kind _ _ _ _ _ 21 _ _ c.in-21.is refl (c.link_event.ensures _)
-
-pub returns-in-22 : goal.returns-in-22
-unfolding call_in
-returns-in-22 c = by_kind _ _ _ _ _ 22 _ _ c.in-22.is refl (c.boundary_event.ensures _ _ c.requires.1)
-
-pub returns-in-23 : goal.returns-in-23
-unfolding call_in
-returns-in-23 c = by_kind _ _ _ _ _ 23 _ _ c.in-23.is refl (c.set_user_boundary_event.ensures _ _ c.requires.1)
-
-pub returns-in-24 : goal.returns-in-24
-unfolding call_in
-returns-in-24 c = by_kind _ _ _ _ _ 24 _ _ c.in-24.is refl (c.allocate_event.ensures _ _ c.requires.1)
-
-pub returns-in-25 : goal.returns-in-25
-unfolding call_in
-returns-in-25 c = by_kind _ _ _ _ _ 25 _ _ c.in-25.is refl (c.free_event.ensures _ _ c.requires.1)
-
-pub returns-in-30 : goal.returns-in-30
-unfolding call_in
-returns-in-30 c = by_kind _ _ _ _ _ 30 _ _ c.in-30.is refl (c.load_module_event.ensures _)
-
-pub returns-in-256 : goal.returns-in-256
-unfolding call_in
-returns-in-256 c = by_kind _ _ _ _ _ 256 _ _ c.in-256.is refl (c.start_event.ensures _)
-
-pub returns-in-257 : goal.returns-in-257
-unfolding call_in
-returns-in-257 c = by_kind _ _ _ _ _ 257 _ _ c.in-257.is refl (c.store_event.ensures _)
-
-pub returns-in-258 : goal.returns-in-258
-unfolding call_in
-returns-in-258 c = by_kind _ _ _ _ _ 258 _ _ c.in-258.is refl c.load_event.ensures
-
 pub returns-in_default : goal.returns-in_default
-returns-in_default c = no_kind _ _ _ _ _ c.requires.0 c.requires.1 _ (unknown-kind _ _ ((((((((((((((((tt, omega arith), omega arith), omega arith), omega arith), omega arith), omega arith), omega arith), omega arith), omega arith), omega arith), omega arith), omega arith), omega arith), omega arith), omega arith), omega arith)) c.refuse.ensures
+returns-in_default c = no_kind _ _ _ _ _ c.requires.0 c.requires.1 c.in_default.ensures _ c.refuse.ensures
+
+pub returns-in-Reset : goal.returns-in-Reset
+returns-in-Reset c = by_kind _ _ _ _ _ Reset _ c.in-Ok.ensures c.in-Reset.is (c.reset_event.ensures _)
+
+pub returns-in-Open : goal.returns-in-Open
+returns-in-Open c = by_kind _ _ _ _ _ Open _ c.in-Ok.ensures c.in-Open.is (c.open_event.ensures _)
+
+pub returns-in-Close : goal.returns-in-Close
+returns-in-Close c = by_kind _ _ _ _ _ Close _ c.in-Ok.ensures c.in-Close.is (c.close_event.ensures _)
+
+pub returns-in-Read : goal.returns-in-Read
+returns-in-Read c = by_kind _ _ _ _ _ Read _ c.in-Ok.ensures c.in-Read.is c.read_event.ensures
+
+pub returns-in-Write : goal.returns-in-Write
+returns-in-Write c = by_kind _ _ _ _ _ Write _ c.in-Ok.ensures c.in-Write.is (c.write_event.ensures _)
+
+pub returns-in-Default : goal.returns-in-Default
+returns-in-Default c = by_kind _ _ _ _ _ Default _ c.in-Ok.ensures c.in-Default.is (c.default_event.ensures _ _ c.requires.1)
+
+pub returns-in-Status : goal.returns-in-Status
+returns-in-Status c = by_kind _ _ _ _ _ Status _ c.in-Ok.ensures c.in-Status.is (c.status_event.ensures _ c.requires.1)
+
+pub returns-in-Link : goal.returns-in-Link
+returns-in-Link c = by_kind _ _ _ _ _ Link _ c.in-Ok.ensures c.in-Link.is (c.link_event.ensures _)
+
+pub returns-in-Boundary : goal.returns-in-Boundary
+returns-in-Boundary c = by_kind _ _ _ _ _ Boundary _ c.in-Ok.ensures c.in-Boundary.is (c.boundary_event.ensures _ _ c.requires.1)
+
+pub returns-in-SetUserBoundary : goal.returns-in-SetUserBoundary
+returns-in-SetUserBoundary c = by_kind _ _ _ _ _ SetUserBoundary _ c.in-Ok.ensures c.in-SetUserBoundary.is (c.set_user_boundary_event.ensures _ _ c.requires.1)
+
+pub returns-in-Allocate : goal.returns-in-Allocate
+returns-in-Allocate c = by_kind _ _ _ _ _ Allocate _ c.in-Ok.ensures c.in-Allocate.is (c.allocate_event.ensures _ _ c.requires.1)
+
+pub returns-in-Free : goal.returns-in-Free
+returns-in-Free c = by_kind _ _ _ _ _ Free _ c.in-Ok.ensures c.in-Free.is (c.free_event.ensures _ _ c.requires.1)
+
+pub returns-in-LoadModule : goal.returns-in-LoadModule
+returns-in-LoadModule c = by_kind _ _ _ _ _ LoadModule _ c.in-Ok.ensures c.in-LoadModule.is (c.load_module_event.ensures _)
+
+pub returns-in-Start : goal.returns-in-Start
+returns-in-Start c = by_kind _ _ _ _ _ Start _ c.in-Ok.ensures c.in-Start.is (c.start_event.ensures _)
+
+pub returns-in-Store : goal.returns-in-Store
+returns-in-Store c = by_kind _ _ _ _ _ Store _ c.in-Ok.ensures c.in-Store.is (c.store_event.ensures _)
+
+pub returns-in-Load : goal.returns-in-Load
+returns-in-Load c = by_kind _ _ _ _ _ Load _ c.in-Ok.ensures c.in-Load.is c.load_event.ensures

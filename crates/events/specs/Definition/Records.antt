@@ -1,10 +1,11 @@
 -- "Calls and their bodies": the event record at the front of a log, its kind and body as a call, and what that call leaves.
-use Rattle.std.specs.Prelude.{cond, List, ℕ, ◌+◌, ◌-◌, ◌*◌, length, get_or, take, drop, ltb, eqb}
+use Rattle.std.specs.Prelude.{cond, List, ℕ, ◌+◌, ◌-◌, ◌*◌, length, get_or, take, drop, ltb, eqb, Ok, Err, Result as ResultOf}
 use Rattle.kernel.specs.Definition.Calls.{Call, start, reset, «open», close, read, write, default, status, link, boundary, set-user-boundary, allocate, free, store, load, load-module, no_call, short-start}
 use Rattle.kernel.specs.Definition.Step.{Result, step}
 use Rattle.kernel.specs.declared.Tables.{Tables}
-use Rattle.events.specs.declared.Front.{Front}
-use Rattle.events.specs.declared.Front.TheVariants.{Record, Cut, Bad}
+use Rattle.events.specs.declared.NoRecord.{NoRecord}
+use Rattle.events.specs.declared.NoRecord.TheVariants.{Cut, Bad}
+use Rattle.events.specs.declared.Record.{Record}
 
 -- "Numbers are little-endian; u8, u16 below."
 abbrev pub u8_at : (body : List ℕ) (i : ℕ) → ℕ
@@ -13,16 +14,20 @@ u8_at body i = get_or body i 0
 abbrev pub u16_at : (body : List ℕ) (i : ℕ) → ℕ
 u16_at body i = u8_at body i + 256 * u8_at body (i + 1)
 
+-- what stands at the front of a log: a record, or why there is none
+abbrev pub Front : Type 0
+Front = ResultOf Record NoRecord
+
 -- "An event record (build): length in 2 bytes counting kind and body (2 to 4,096), kind in 2 bytes, body.": at the front of a log stands a record of this
 -- kind whose body has so many bytes, less than a record, or "a bad length"
 unfoldable pub front_of : List ℕ → Front
 front_of xs =
     let n = u16_at xs 0 in
-    cond (ltb (length xs) 2) Cut
-    (cond (ltb n 2) Bad
-    (cond (ltb 4096 n) Bad
-    (cond (ltb (length xs) (n + 2)) Cut
-    (Record (u16_at xs 2) (n - 2)))))
+    cond (ltb (length xs) 2) (Err Cut)
+    (cond (ltb n 2) (Err Bad)
+    (cond (ltb 4096 n) (Err Bad)
+    (cond (ltb (length xs) (n + 2)) (Err Cut)
+    (Ok (record { kind = u16_at xs 2; size = n - 2 })))))
 
 -- the body of n bytes of the record at the front, and what follows it
 abbrev pub body_of : (xs : List ℕ) (n : ℕ) → List ℕ

@@ -1,48 +1,48 @@
 -- What stands at the front of a log, by its bytes; what a record that stands there takes of them; and that it stays, whatever follows.
-use Rattle.std.specs.Prelude.{◌≡◌, refl, Bool, true, false, cond, List, ◌++◌, ◌⊎◌, ℕ, ◌+◌, ◌-◌, ◌<◌, ◌≤◌, ltb, length, take, drop}
-use Rattle.std.proofs.Common.{sym, ◌∙◌, inl, inr, arith, length-append, length-drop, take_all}
+use Rattle.std.specs.Prelude.{◌≡◌, refl, Bool, true, false, cond, List, ◌++◌, ◌⊎◌, ℕ, ◌+◌, ◌-◌, ◌<◌, ◌≤◌, ltb, length, drop, Ok, Err}
+use Rattle.std.proofs.Common.{sym, ◌∙◌, inl, inr, arith, length-append, length-drop}
 use borrow.Author.Tests.{lt-ltb, le-ltb, ltb-true, ltb-false}
 use Rattle.std.proofs.Math.ListN.{get_or-append}
 use Rattle.std.proofs.lemmas.List.{take-append-le, drop-append-le}
-use Rattle.events.specs.declared.Front.{Front}
-use Rattle.events.specs.declared.Front.TheVariants.{Record, Cut, Bad}
-use Rattle.events.specs.Definition.Records.{u16_at, front_of, body_of, rest_of}
+use Rattle.events.specs.declared.NoRecord.TheVariants.{Cut, Bad}
+use Rattle.events.specs.declared.Record.{Record}
+use Rattle.events.specs.Definition.Records.{u16_at, Front, front_of, body_of, rest_of}
 
 -- less than a length
-pub front-none : (xs : List ℕ) → length xs < 2 → Cut ≡ front_of xs
+pub front-none : (xs : List ℕ) → length xs < 2 → Err Cut ≡ front_of xs
 unfolding front_of
 front-none xs l = rw (lt-ltb (length xs) 2 l)
 
 -- the length is there
 module _ (xs : List ℕ) (n : ℕ) (e : n ≡ u16_at xs 0) (l : 2 ≤ length xs) where
-  pub front_low : n < 2 → Bad ≡ front_of xs
+  pub front_low : n < 2 → Err Bad ≡ front_of xs
   unfolding front_of
   front_low h = rw (← e, le-ltb (length xs) 2 l, lt-ltb n 2 h)
 
-  pub front-high : 4096 < n → Bad ≡ front_of xs
+  pub front-high : 4096 < n → Err Bad ≡ front_of xs
   unfolding front_of
   front-high g = rw (← e, le-ltb (length xs) 2 l, le-ltb n 2 (omega arith), lt-ltb 4096 n g)
 
   module _ (h : 2 ≤ n) (g : n ≤ 4096) where
-    pub front_cut : length xs < n + 2 → Cut ≡ front_of xs
+    pub front_cut : length xs < n + 2 → Err Cut ≡ front_of xs
     unfolding front_of
     front_cut c = rw (← e, le-ltb (length xs) 2 l, le-ltb n 2 h, le-ltb 4096 n g, lt-ltb (length xs) (n + 2) c)
 
-    pub front-whole : n + 2 ≤ length xs → (kind : ℕ) → kind ≡ u16_at xs 2 → Record kind (n - 2) ≡ front_of xs
+    pub front-whole : n + 2 ≤ length xs → (kind : ℕ) → kind ≡ u16_at xs 2 → Ok (record { kind = kind; size = n - 2 }) ≡ front_of xs
     unfolding front_of
     front-whole c kind f = rw (← e, ← f, le-ltb (length xs) 2 l, le-ltb n 2 h, le-ltb 4096 n g, le-ltb (length xs) (n + 2) c)
 
-pub record Whole (xs : List ℕ) (kind n : ℕ) : Type 0 where
-  pub fits : 4 + n ≤ length xs
-  pub most : n ≤ 4094
-  pub length-is : n + 2 ≡ u16_at xs 0
-  pub kind-is : kind ≡ u16_at xs 2
+pub record Whole (xs : List ℕ) (r : Record) : Type 0 where
+  pub fits : 4 + r.size ≤ length xs
+  pub most : r.size ≤ 4094
+  pub length-is : r.size + 2 ≡ u16_at xs 0
+  pub kind-is : r.kind ≡ u16_at xs 2
 
 -- what a front tells of the bytes
 abbrev Tells : List ℕ → Front → Type 0
-Tells xs (Record kind n) = Whole xs kind n
-Tells xs Cut = length xs < 4098
-Tells xs Bad = (2 ≤ length xs) × ((u16_at xs 0 < 2) ⊎ (4096 < u16_at xs 0))
+Tells xs (Ok r) = Whole xs r
+Tells xs (Err Cut) = length xs < 4098
+Tells xs (Err Bad) = (2 ≤ length xs) × ((u16_at xs 0 < 2) ⊎ (4096 < u16_at xs 0))
 
 tells : (xs : List ℕ) → Tells xs (front_of xs)
 unfolding front_of
@@ -52,7 +52,7 @@ tells xs = go _ _ _ _ refl refl refl refl
     n = u16_at xs 0
 
     go : (b₁ b₂ b₃ b₄ : Bool) → ltb (length xs) 2 ≡ b₁ → ltb n 2 ≡ b₂ → ltb 4096 n ≡ b₃ → ltb (length xs) (n + 2) ≡ b₄
-        → Tells xs (cond b₁ Cut (cond b₂ Bad (cond b₃ Bad (cond b₄ Cut (Record (u16_at xs 2) (n - 2))))))
+        → Tells xs (cond b₁ (Err Cut) (cond b₂ (Err Bad) (cond b₃ (Err Bad) (cond b₄ (Err Cut) (Ok (record { kind = u16_at xs 2; size = n - 2 }))))))
     go true b₂ b₃ b₄ e f g h = omega (arith, ltb-true (length xs) 2 e)
     go false true b₃ b₄ e f g h = (ltb-false (length xs) 2 e, inl (ltb-true n 2 f))
     go false false true b₄ e f g h = (ltb-false (length xs) 2 e, inr (ltb-true 4096 n g))
@@ -62,15 +62,15 @@ tells xs = go _ _ _ _ refl refl refl refl
         let all = ltb-false (length xs) (n + 2) h in
         record { fits = omega (arith, two, all); most = omega (arith, ltb-false 4096 n g); length-is = omega (arith, two); kind-is = refl }
 
-pub whole : (xs : List ℕ) (kind n : ℕ) → front_of xs ≡ Record kind n → Whole xs kind n
-whole xs kind n e = rw e at (tells xs)
+pub whole : (xs : List ℕ) (r : Record) → front_of xs ≡ Ok r → Whole xs r
+whole xs r e = rw e at (tells xs)
 
-pub cut_short : (xs : List ℕ) → front_of xs ≡ Cut → length xs < 4098
+pub cut_short : (xs : List ℕ) → front_of xs ≡ Err Cut → length xs < 4098
 cut_short xs e = rw e at (tells xs)
 
 -- a record takes bytes
-pub shorter : (xs : List ℕ) (kind n : ℕ) → front_of xs ≡ Record kind n → length (rest_of xs n) < length xs
-shorter xs kind n e = rw length-drop (omega (arith, (whole xs kind n e).fits))
+pub shorter : (xs : List ℕ) (r : Record) → front_of xs ≡ Ok r → length (rest_of xs r.size) < length xs
+shorter xs r e = rw length-drop (omega (arith, (whole xs r e).fits))
 
 -- ---- whatever follows
 
@@ -81,7 +81,7 @@ module _ (xs ys : List ℕ) where
   long : (m : ℕ) → m ≤ length xs → m ≤ length (xs ++ ys)
   long m h = rw length-append (omega arith)
 
-  pub bad-stays : front_of xs ≡ Bad → front_of (xs ++ ys) ≡ Bad
+  pub bad-stays : front_of xs ≡ Err Bad → front_of (xs ++ ys) ≡ Err Bad
   bad-stays e =
       let (l, w) = rw e at (tells xs) in
       let f = field 0 (omega arith) in
@@ -90,28 +90,20 @@ module _ (xs ys : List ℕ) where
         | inr h ↦ sym (front-high (xs ++ ys) (u16_at xs 0) (sym f) (long 2 l) h)
       ]
 
-  module _ (kind n : ℕ) (e : front_of xs ≡ Record kind n) where
-    w : Whole xs kind n
-    w = whole xs kind n e
+  module _ (r : Record) (e : front_of xs ≡ Ok r) where
+    w : Whole xs r
+    w = whole xs r e
 
-    pub record-stays : front_of (xs ++ ys) ≡ Record kind n
+    pub record-stays : front_of (xs ++ ys) ≡ Ok r
     record-stays =
-        let two : n + 2 - 2 ≡ n = omega arith in
+        let two : r.size + 2 - 2 ≡ r.size = omega arith in
         let size = w.length-is ∙ sym (field 0 (omega (arith, w.fits))) in
         rw two at
-        (sym (front-whole (xs ++ ys) (n + 2) size (long 2 (omega (arith, w.fits))) (omega arith) (omega (arith, w.most)) (long (n + 2 + 2) (omega (arith, w.fits))) kind
+        (sym (front-whole (xs ++ ys) (r.size + 2) size (long 2 (omega (arith, w.fits))) (omega arith) (omega (arith, w.most)) (long (r.size + 2 + 2) (omega (arith, w.fits))) r.kind
         (w.kind-is ∙ sym (field 2 (omega (arith, w.fits))))))
 
-    pub body-stays : body_of (xs ++ ys) n ≡ body_of xs n
-    body-stays = rw (drop-append-le 4 xs ys (omega (arith, w.fits)), take-append-le n (drop 4 xs) ys (omega (arith, w.fits, length-drop 4 xs)))
+    pub body-stays : body_of (xs ++ ys) r.size ≡ body_of xs r.size
+    body-stays = rw (drop-append-le 4 xs ys (omega (arith, w.fits)), take-append-le r.size (drop 4 xs) ys (omega (arith, w.fits, length-drop 4 xs)))
 
-    pub rest-stays : rest_of (xs ++ ys) n ≡ rest_of xs n ++ ys
-    rest-stays = drop-append-le (4 + n) xs ys w.fits
-
--- ---- the rest of the input from `at`, as it is lent
-
-pub front_at : (input : List ℕ) (at : ℕ) (f v : Front) → f ≡ front_of (take (length input - at) (drop at input)) → f ≡ v → front_of (drop at input) ≡ v
-front_at input at f v e g = rw (take_all (length input - at) (drop at input) (rw length-drop (omega arith))) at (sym e ∙ g)
-
-pub within : (input : List ℕ) (at kind n : ℕ) → front_of (drop at input) ≡ Record kind n → at + 4 + n ≤ length input
-within input at kind n e = omega (arith, (whole (drop at input) kind n e).fits, length-drop at input)
+    pub rest-stays : rest_of (xs ++ ys) r.size ≡ rest_of xs r.size ++ ys
+    rest-stays = drop-append-le (4 + r.size) xs ys w.fits

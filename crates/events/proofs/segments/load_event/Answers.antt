@@ -1,13 +1,11 @@
 -- `events::segments::load_event` meets its contract.
+use Rattle.std.proofs.Common.{arith, ◌∙◌}
 use Rattle.kernel.specs.Definition.Calls.{load}
 use Rattle.kernel.specs.Definition.Step.{heard}
-use Rattle.events.proofs.Laws.{bad-call, done}
-use Rattle.events.proofs.Taken.{load-bad, load-taken}
+use Rattle.events.proofs.Laws.{done, le16}
+use Rattle.events.proofs.Taken.{load-taken}
 use Rattle.events.proofs.segments.load_event.Goals as goal
-
-pub returns-then-body-ne5 : goal.returns-then-body-ne5
-returns-then-body-ne5 c = bad-call _ _ _ c.requires.0 c.requires.1 _ _ (load-bad _ c.if-body-ne5.true) c.refuse.ensures
 
 pub returns : goal.returns
 unfolding heard
-returns c = done _ _ _ c.requires.0 c.requires.1 (load _ _ _) _ _ _ _ (load-taken _ _ _ c.if-body-ne5.false c.u16_at-offset.ensures c.u16_at-size.ensures) c.load_good.ensures
+returns c = done _ _ _ c.requires.0 c.requires.1 (load _ _ _) _ _ _ _ (load-taken _ _ _ (omega (arith, c.in-len5.len_at_least, c.in-len5.len_below)) (c.from_le_bytes-offset.ensures ∙ le16 _ _) (c.from_le_bytes-size.ensures ∙ le16 _ _)) c.load_good.ensures

@@ -1,11 +1,9 @@
 -- `events::system::start_event` meets its contract.
+use Rattle.std.proofs.Common.{◌∙◌}
 use Rattle.kernel.specs.Definition.Calls.{start}
-use Rattle.events.proofs.Laws.{no_start, start-done}
+use Rattle.events.proofs.Laws.{start-done, le16}
 use Rattle.events.proofs.Taken.{start-taken}
 use Rattle.events.proofs.system.start_event.Goals as goal
 
-pub returns-then-body-lt2 : goal.returns-then-body-lt2
-returns-then-body-lt2 c = λ out. no_start _ _ _ out _ c.if-body-lt2.true c.refuse.ensures
-
 pub returns : goal.returns
-returns c = λ out. start-done _ _ _ out (start _ _) _ (start-taken _ _ c.if-body-lt2.false c.u16_at-room.ensures) (c.start.ensures out)
+returns c = λ out. start-done _ _ _ out (start _ _) _ (start-taken _ _ c.in-len2-up.len_at_least (c.from_le_bytes-room.ensures ∙ le16 _ _)) (c.start.ensures out)
