@@ -7,13 +7,11 @@ use Rattle.kernel.specs.Definition.Start.{no_tables}
 use Rattle.kernel.specs.declared.Tables.{Tables}
 use Rattle.audit.specs.declared.Due.TheVariants.{Start}
 use Rattle.audit.specs.declared.Judged.{Judged}
-use Rattle.audit.specs.declared.Stop.TheVariants.{More, Fault as StopAt}
-use Rattle.audit.specs.declared.Verdict.{Verdict}
-use Rattle.audit.specs.declared.Verdict.TheVariants.{Fault}
+use Rattle.std.specs.Prelude.{Ok, Err}
 use Rattle.audit.specs.declared.Word.{Word}
 use Rattle.audit.specs.Definition.Log.{mark, first}
 use Rattle.audit.specs.Definition.Pieces.{state_of, Stops, StopsBy, Session, passes, fetched, failed, over}
-use Rattle.audit.specs.Definition.Verdict.{at_end, verdict_of}
+use Rattle.audit.specs.Definition.Verdict.{Verdict, Fault, at_end, verdict_of}
 use Rattle.audit.specs.Laws.Reading.{any-pieces}
 
 -- a log in one piece
@@ -22,10 +20,10 @@ in_one log v s = rw (append-nil log) at (any-pieces (log ∷ []) v (fetched s))
 
 module _ (t : Tables) (e : t ≡ no_tables) (log : List ℕ) (j : Judged) (ram out : List ℕ)
     (s : Stops (mark 0 (state_of Start t (replicate 65536 0) (replicate 4090 0)) log) j ram out log) where
-  pub log-over : j.stop ≡ More → (v : Verdict) → v ≡ at_end j.number j.due (length log - j.taken) → v ≡ verdict_of log
+  pub log-over : j.stop ≡ Ok tt → (v : Verdict) → v ≡ at_end j.number j.due (length log - j.taken) → v ≡ verdict_of log
   log-over q v is =
-      let d : StopsBy More (first log) j ram out log = rw (e, q) at s in
+      let d : StopsBy (Ok tt) (first log) j ram out log = rw (e, q) at s in
       is ∙ rw (length-drop j.taken log) at (in_one log _ (passes d.0 (over d.1)))
 
-  pub log-fault : (word : Word) → j.stop ≡ StopAt word → Fault j.number word ≡ verdict_of log
-  log-fault word q = let d : StopsBy (StopAt word) (first log) j ram out log = rw (e, q) at s in in_one log _ (failed d)
+  pub log-fault : (word : Word) → j.stop ≡ Err word → Fault j.number word ≡ verdict_of log
+  log-fault word q = let d : StopsBy (Err word) (first log) j ram out log = rw (e, q) at s in in_one log _ (failed d)

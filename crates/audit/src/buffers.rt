@@ -6,12 +6,13 @@ ghost use Rattle.audit.specs.Definition.Log.{mark};
 
 use super::logs::lacking;
 use super::records::record;
-use super::{Due, Found, Judged, Stop};
-use events::Front;
+use super::{Due, Judged};
+use events::NoRecord;
 use events::records::front;
 use kernel::Tables;
 
 // Judges as many whole records as the input has, up to the first at fault.
+#[tactic(auto, using(events::proofs::Walks::record_fits, events::proofs::Walks::body_short))]
 pub fn judge(
     t: Tables,
     due: Due,
@@ -24,60 +25,30 @@ pub fn judge(
     ensures { Stops (mark number (state_of due t ram.old out.old) input.now) result ram.new out.new input.now × NoneOrGood result.tables × (result.taken ≤ length input.now) × (result.number ≤ number + result.taken) }
 {
     let mut tables = t;
-    let mut now_due = due;
-    let mut k = number;
-    let mut at: usize = 0;
-    while at < input.len() {
-        let f = front(&input[at..]);
-        match f {
-            Front::Cut => {
-                return Judged {
-                    tables,
-                    due: now_due,
-                    number: k,
-                    taken: at,
-                    stop: Stop::More,
-                };
-            }
-            Front::Bad => {
-                return Judged {
-                    tables,
-                    due: now_due,
-                    number: k,
-                    taken: at,
-                    stop: Stop::Fault(lacking(now_due)),
-                };
-            }
-            Front::Record(kind, size) => {
-                let from = at + 4;
-                let next = from + size;
-                let r = record(tables, now_due, ram, out, kind, &input[from..next]);
-                tables = r.tables;
-                now_due = r.due;
-                let found = r.found;
-                match found {
-                    Found::Wrong(word) => {
-                        return Judged {
-                            tables,
-                            due: now_due,
-                            number: k,
-                            taken: at,
-                            stop: Stop::Fault(word),
-                        };
-                    }
-                    Found::Right => {
-                        k += 1;
-                        at = next;
-                    }
-                }
-            }
+    let mut due = due;
+    let mut number = number;
+    let mut left = input;
+    let stop = loop {
+        let r = match front(left) {
+            Ok(r) => r,
+            Err(NoRecord::Cut) => break Ok(()),
+            Err(NoRecord::Bad) => break Err(lacking(due)),
+        };
+        let end = 4 + r.size;
+        let after = record(tables, due, ram, out, r.kind, &left[4..end]);
+        tables = after.tables;
+        due = after.due;
+        if let Err(word) = after.found {
+            break Err(word);
         }
-    }
+        number += 1;
+        left = &left[end..];
+    };
     Judged {
         tables,
-        due: now_due,
-        number: k,
-        taken: at,
-        stop: Stop::More,
+        due,
+        number,
+        taken: input.len() - left.len(),
+        stop,
     }
 }

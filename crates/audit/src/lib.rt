@@ -20,12 +20,15 @@ pub enum Word {
     Bytes,
 }
 
-// A log is accepted, or this record is the first at fault, events and replies counted together from 0.
+// A record at fault: its number, events and replies counted together from 0, and why.
 #[derive(Clone, Copy)]
-pub enum Verdict {
-    Accepted,
-    Fault(usize, Word),
+pub struct Fault {
+    pub number: usize,
+    pub word: Word,
 }
+
+// A log is accepted, or this record is the first at fault.
+pub type Verdict = Result<(), Fault>;
 
 // What the next record must be: the start, an event, or the reply to an event of this kind that the definition gives this answer.
 #[derive(Clone, Copy)]
@@ -35,35 +38,21 @@ pub enum Due {
     Reply(u16, Answer),
 }
 
-// What a record is found to be.
-#[derive(Clone, Copy)]
-pub enum Found {
-    Right,
-    Wrong(Word),
-}
-
-// What one record leaves: what it is found to be and, where it is right, the tables and what is due next.
+// What one record leaves: whether it is right, or why it is at fault, and, where it is right, the tables and what is due next.
 #[derive(Clone, Copy)]
 pub struct After {
     pub tables: Tables,
     pub due: Due,
-    pub found: Found,
+    pub found: Result<(), Word>,
 }
 
-// Why the records of a buffer stop: more input is wanted, or one is at fault.
-#[derive(Clone, Copy)]
-pub enum Stop {
-    More,
-    Fault(Word),
-}
-
-// What the records of a buffer leave: why they stop, the number of the record where they do and, where more input is wanted, the tables, what is due and how
-// much of the input is taken.
+// What the records of a buffer leave: whether they stop for more input, or why one is at fault, the number of the record where they stop and, where more input
+// is wanted, the tables, what is due and how much of the input is taken.
 #[derive(Clone, Copy)]
 pub struct Judged {
     pub tables: Tables,
     pub due: Due,
     pub number: usize,
     pub taken: usize,
-    pub stop: Stop,
+    pub stop: Result<(), Word>,
 }

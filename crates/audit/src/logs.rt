@@ -4,7 +4,7 @@ ghost use Rattle.audit.specs.Definition.Log.{lacking_of};
 ghost use Rattle.audit.specs.Definition.Verdict.{may_end, at_end, verdict_of};
 
 use super::buffers::judge;
-use super::{Due, Stop, Verdict, Word};
+use super::{Due, Fault, Verdict, Word};
 use kernel::Tables;
 
 // The word where there is no whole record of a good length.
@@ -13,8 +13,7 @@ pub fn lacking(due: Due) -> Word
 {
     match due {
         Due::Start => Word::Start,
-        Due::Event => Word::Cut,
-        Due::Reply(_, _) => Word::Cut,
+        Due::Event | Due::Reply(_, _) => Word::Cut,
     }
 }
 
@@ -22,21 +21,20 @@ pub fn lacking(due: Due) -> Word
 fn may_end(due: Due) -> bool
     ensures { result ≡ may_end due }
 {
-    match due {
-        Due::Start => false,
-        Due::Event => true,
-        Due::Reply(_, _) => false,
-    }
+    matches!(due, Due::Event)
 }
 
 // The verdict where the input ends and so many bytes of it are left, less than a record.
 pub fn end(number: usize, due: Due, left: usize) -> Verdict
     ensures { result ≡ at_end number due left }
 {
-    if may_end(due) & (left == 0) {
-        return Verdict::Accepted;
+    if may_end(due) && left == 0 {
+        return Ok(());
     }
-    Verdict::Fault(number, lacking(due))
+    Err(Fault {
+        number,
+        word: lacking(due),
+    })
 }
 
 // The verdict on a whole log.
@@ -46,12 +44,11 @@ pub fn audit(log: &[u8]) -> Verdict
     let mut ram = [0u8; 65536];
     let mut out = [0u8; 4090];
     let j = judge(Tables::none(), Due::Start, 0, &mut ram, &mut out, log);
-    let due = j.due;
-    let number = j.number;
-    let taken = j.taken;
-    let stop = j.stop;
-    match stop {
-        Stop::More => end(number, due, log.len() - taken),
-        Stop::Fault(word) => Verdict::Fault(number, word),
+    match j.stop {
+        Ok(()) => end(j.number, j.due, log.len() - j.taken),
+        Err(word) => Err(Fault {
+            number: j.number,
+            word,
+        }),
     }
 }

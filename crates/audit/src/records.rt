@@ -1,28 +1,27 @@
-// One record of a maker's log, where it stands.
+// One record of a maker's log, where it stands. A start, 256, and a reply, 512, are told by number, as the definition tells them: a reply is no kind of event.
 ghost use Rattle.std.specs.Prelude.{◌≡◌, ◌≤◌, length};
 ghost use Rattle.listing.specs.Definition.NoneOrGood.{NoneOrGood};
 ghost use Rattle.audit.specs.Definition.Verdict.{started, next};
 ghost use Rattle.audit.specs.Definition.Pieces.{state_of, leaves};
 
 use super::replies::reply;
-use super::{After, Due, Found, Word};
+use super::{After, Due, Word};
 use kernel::{Answer, Tables};
 use listing::records::step;
 
 // What the first record is found to be, by its kind and the definition's answer.
-fn first(kind: u16, answer: Answer) -> Found
+fn first(kind: u16, answer: Answer) -> Result<(), Word>
     ensures { result ≡ started kind answer }
 {
-    if kind != 256 {
-        return Found::Wrong(Word::Start);
+    if kind == 256 && answer.number() == 0 {
+        Ok(())
+    } else {
+        Err(Word::Start)
     }
-    if answer.number() != 0 {
-        return Found::Wrong(Word::Start);
-    }
-    Found::Right
 }
 
 // What a record is found to be, where this is due, and what it leaves.
+#[tactic(auto, unfolding(crate::specs::Definition::Verdict::next))]
 pub fn record(
     t: Tables,
     due: Due,
@@ -37,12 +36,10 @@ pub fn record(
     match due {
         Due::Start => {
             let o = step(t, ram, kind, body, out);
-            let tables = o.tables;
-            let answer = o.answer;
             After {
-                tables,
-                due: Due::Reply(kind, answer),
-                found: first(kind, answer),
+                tables: o.tables,
+                due: Due::Reply(kind, o.answer),
+                found: first(kind, o.answer),
             }
         }
         Due::Event => {
@@ -50,16 +47,14 @@ pub fn record(
                 return After {
                     tables: t,
                     due,
-                    found: Found::Wrong(Word::Cut),
+                    found: Err(Word::Cut),
                 };
             }
             let o = step(t, ram, kind, body, out);
-            let tables = o.tables;
-            let answer = o.answer;
             After {
-                tables,
-                due: Due::Reply(kind, answer),
-                found: Found::Right,
+                tables: o.tables,
+                due: Due::Reply(kind, o.answer),
+                found: Ok(()),
             }
         }
         Due::Reply(asked, answer) => {
@@ -67,7 +62,7 @@ pub fn record(
                 return After {
                     tables: t,
                     due,
-                    found: Found::Wrong(Word::Cut),
+                    found: Err(Word::Cut),
                 };
             }
             After {

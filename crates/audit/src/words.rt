@@ -1,58 +1,45 @@
 // A verdict as a line of text.
 ghost use Rattle.std.specs.Prelude.{◌+◌, ◌≤◌, length};
-ghost use Rattle.text.specs.Definition.Put.{Put};
+ghost use Rattle.text.specs.Definition.Put.{Puts, Room};
 ghost use Rattle.audit.specs.Definition.Words.{letters_of, fault_line, line_of};
 
-use super::{Verdict, Word};
-use text::{decimal, put};
+use super::{Fault, Verdict, Word};
+use text::Cursor;
 
-// Letters, at a place of the text.
-fn put_letters(letters: &[u8], text: &mut [u8], at: usize) -> usize
-    requires { at + length letters.now ≤ length text.old }
-    ensures { Put text.old text.new at result letters.now }
-{
-    let mut to = at;
-    let mut i: usize = 0;
-    while i < letters.len() {
-        to = put(text, to, letters[i]);
-        i += 1;
-    }
-    to
-}
-
-// A word, at a place of the text.
-fn put_word(word: Word, text: &mut [u8], at: usize) -> usize
-    requires { at + 6 ≤ length text.old }
-    ensures { Put text.old text.new at result (letters_of word) × (result ≤ at + 6) }
+// A word.
+fn put_word(word: Word, to: &mut Cursor)
+    requires { Room to.old 6 }
+    ensures { Puts to.old to.new (letters_of word) × (to.new.at ≤ to.old.at + 6) }
 {
     match word {
-        Word::Start => put_letters(b"start", text, at),
-        Word::Cut => put_letters(b"cut", text, at),
-        Word::Answer => put_letters(b"answer", text, at),
-        Word::A => put_letters(b"a", text, at),
-        Word::B => put_letters(b"b", text, at),
-        Word::Bytes => put_letters(b"bytes", text, at),
+        Word::Start => to.put_run(b"start"),
+        Word::Cut => to.put_run(b"cut"),
+        Word::Answer => to.put_run(b"answer"),
+        Word::A => to.put_run(b"a"),
+        Word::B => to.put_run(b"b"),
+        Word::Bytes => to.put_run(b"bytes"),
     }
 }
 
-// The line of a fault, at the front of the text: at most twenty digits, a space, six letters and a newline.
-fn put_fault(number: usize, word: Word, text: &mut [u8]) -> usize
-    requires { 28 ≤ length text.old }
-    ensures { Put text.old text.new 0 result (fault_line number word) × (result ≤ length text.new) }
+// The line of a fault: at most twenty digits, a space, six letters and a newline.
+#[tactic(auto, using(text::proofs::Numerals::long))]
+fn put_fault(fault: Fault, to: &mut Cursor)
+    requires { Room to.old 28 }
+    ensures { Puts to.old to.new (fault_line fault.number fault.word) × (to.new.at ≤ length to.new.text.now) }
 {
-    let m = decimal(number, text, 0);
-    let m = put(text, m, b' ');
-    let m = put_word(word, text, m);
-    put(text, m, b'\n')
+    to.decimal(fault.number);
+    to.put(b' ');
+    put_word(fault.word, to);
+    to.put(b'\n');
 }
 
-// The line of a verdict, at the front of the text.
-pub fn put_verdict(verdict: Verdict, text: &mut [u8]) -> usize
-    requires { 28 ≤ length text.old }
-    ensures { Put text.old text.new 0 result (line_of verdict) × (result ≤ length text.new) }
+// The line of a verdict.
+pub fn put_verdict(verdict: Verdict, to: &mut Cursor)
+    requires { Room to.old 28 }
+    ensures { Puts to.old to.new (line_of verdict) × (to.new.at ≤ length to.new.text.now) }
 {
     match verdict {
-        Verdict::Accepted => put_letters(b"ok\n", text, 0),
-        Verdict::Fault(number, word) => put_fault(number, word, text),
+        Ok(()) => to.put_run(b"ok\n"),
+        Err(fault) => put_fault(fault, to),
     }
 }

@@ -8,34 +8,30 @@ use lib.Seq.{length-take-le}
 use Rattle.kernel.specs.Definition.Start.{no_tables}
 use Rattle.kernel.specs.declared.Tables.{Tables}
 use Rattle.text.specs.Definition.Put.{Put}
+use Rattle.text.specs.Laws.Text.{put-within}
 use Rattle.listing.specs.declared.Drained.{Drained}
 use Rattle.listing.specs.declared.Stop.{Stop}
 use Rattle.listing.specs.declared.Stop.TheVariants.{More, Full, Bad}
-use Rattle.events.specs.declared.Front.TheVariants.{Cut}
+use Rattle.events.specs.declared.NoRecord.TheVariants.{Cut}
+use Rattle.std.specs.Prelude.{Err, Some}
 use Rattle.events.specs.Definition.Records.{front_of}
 use Rattle.events.specs.Laws.Front.{bad-stays, record-stays, body-stays, rest-stays}
 use Rattle.listing.specs.Definition.Log.{ending, text_from, listing}
-use Rattle.listing.specs.Definition.Pieces.{longest, Mark, begin, Drains, full, more, ends, line, reached, Fills}
+use Rattle.listing.specs.Definition.Pieces.{longest, Mark, begin, Drains, full, more, ends, line, reached, Fills, Lists}
 use Rattle.listing.specs.Laws.Log.{text-record, text-bad, text-cut}
 use Rattle.listing.specs.Laws.One.{one-stop}
 use Rattle.listing.specs.Laws.Pieces.{Carry}
-
-number : Stop → ℕ
-number More = 0
-number Full = 1
-number Bad = 2
+use Rattle.listing.proofs.Carries.{put-behind}
 
 pub bad-first : {stop : Stop} → stop ≡ Bad → stop ≡ Full → ⊥
-unfolding number
-bad-first e f = omega (arith, ap number (sym e ∙ f))
+bad-first e f = cc (e, f)
 
 pub more-first : {stop : Stop} → stop ≡ More → stop ≡ Full → ⊥
-unfolding number
-more-first e f = omega (arith, ap number (sym e ∙ f))
+more-first e f = cc (e, f)
 
 -- where the lines stop
 abbrev pub Stopped : ℕ → Mark → Stop → Type 0
-Stopped size to More = (front_of to.left ≡ Cut) × (length to.text + longest ≤ size)
+Stopped size to More = (front_of to.left ≡ Err Cut) × (length to.text + longest ≤ size)
 Stopped size to Full = size < length to.text + longest
 Stopped size to Bad = Unit {0}
 
@@ -46,7 +42,7 @@ stopped (ends h e) = tt
 stopped (line h e d) = stopped d
 
 pub room-left : (m : Mark) (r : Drained) (ram out input text : List ℕ) → r.stop ≡ More → Drains (length text) m (reached r ram out input text) r.stop
-    → (front_of (drop r.taken input) ≡ Cut) × (length (take r.used text) + longest ≤ length text)
+    → (front_of (drop r.taken input) ≡ Err Cut) × (length (take r.used text) + longest ≤ length text)
 room-left m r ram out input text e d = rw e at (stopped d)
 
 -- the text of a log that is listed up to a mark, whatever follows
@@ -62,10 +58,10 @@ goes_on : {size : ℕ} {m to : Mark} {stop : Stop} → Drains size m to stop →
 goes_on (full h) ys = refl
 goes_on (more h e) ys = refl
 goes_on (ends {m} h e) ys = ap (λ (l : List ℕ). m.text ++ l) (text-bad m.tables m.ram m.output (m.left ++ ys) (bad-stays m.left ys e))
-goes_on (line {m} {to} {kind} {n} h e d) ys =
+goes_on (line {m} {to} {f} h e d) ys =
     ap (λ (l : List ℕ). m.text ++ l)
-    (rw (body-stays m.left ys kind n e, rest-stays m.left ys kind n e) at
-    (text-record m.tables m.ram m.output (m.left ++ ys) kind n (record-stays m.left ys kind n e)))
+    (rw (body-stays m.left ys f e, rest-stays m.left ys f e) at
+    (text-record m.tables m.ram m.output (m.left ++ ys) f (record-stays m.left ys f e)))
     ∙ sym (append_assoc m.text _ _)
     ∙ goes_on d ys
 
@@ -114,3 +110,11 @@ module _ (t : Tables) (e : t ≡ no_tables) (log : List ℕ) (r : Drained) (ram 
   listed-text q text₂ end p =
       let f = rw q at d in
       p.text ∙ rw (← length-drop r.taken log, ← text-cut r.tables ram out (drop r.taken log) (stopped f).0) (carried (carry-more f))
+
+  -- with the end of the log written behind the lines
+  pub over : r.stop ≡ More → {text₀ after : List ℕ} {end : ℕ} → drop r.used text ≡ drop r.used text₀ → r.used ≤ length text → end ≤ length text
+      → Put text after r.used end (ending (length log - r.taken)) → Lists log text₀ after (Some end)
+  over q {text₀} {after} {end} b u h p =
+      let k : end ≤ length after = put-within u p in
+      let same : length after ≡ length text = omega (arith, ap length p.behind, length-drop end after, length-drop end text) in
+      (put_first (listed-text q after end p) k (put-behind text₀ b p), never-full (more-first q) (length after) same)

@@ -6,11 +6,13 @@ ghost use Rattle.listing.specs.Definition.Pieces.{begin, reached, Drains};
 use super::lines::put_bad;
 use super::records::record;
 use super::{Drained, LONGEST, Stop};
-use events::Front;
+use events::NoRecord;
 use events::records::front;
 use kernel::Tables;
+use text::Cursor;
 
 // The lines of as many whole records as the input has and the text has room for.
+#[tactic(auto, using(events::proofs::Walks::record_fits))]
 pub fn drain(
     t: Tables,
     ram: &mut [u8; 65536],
@@ -22,42 +24,28 @@ pub fn drain(
     ensures { Drains (length text.new) (begin t ram.old out.old input.now) (reached result ram.new out.new input.now text.new) result.stop × NoneOrGood result.tables × (result.taken ≤ length input.now) × (result.used ≤ length text.new) × (drop result.used text.new ≡ drop result.used text.old) }
 {
     let mut tables = t;
-    let mut at: usize = 0;
-    let mut used: usize = 0;
-    while LONGEST <= text.len() - used {
-        let f = front(&input[at..]);
-        match f {
-            Front::Cut => {
-                return Drained {
-                    tables,
-                    taken: at,
-                    used,
-                    stop: Stop::More,
-                };
-            }
-            Front::Bad => {
-                let end = put_bad(text, used);
-                return Drained {
-                    tables,
-                    taken: at,
-                    used: end,
-                    stop: Stop::Bad,
-                };
-            }
-            Front::Record(kind, size) => {
-                let from = at + 4;
-                let next = from + size;
-                let r = record(tables, ram, out, kind, &input[from..next], text, used);
-                tables = r.tables;
-                used = r.used;
-                at = next;
-            }
+    let mut left = input;
+    let mut to = Cursor { text, at: 0 };
+    let stop = loop {
+        if to.text.len() - to.at < LONGEST {
+            break Stop::Full;
         }
-    }
+        let r = match front(left) {
+            Ok(r) => r,
+            Err(NoRecord::Cut) => break Stop::More,
+            Err(NoRecord::Bad) => {
+                put_bad(&mut to);
+                break Stop::Bad;
+            }
+        };
+        let end = 4 + r.size;
+        tables = record(tables, ram, out, r.kind, &left[4..end], &mut to);
+        left = &left[end..];
+    };
     Drained {
         tables,
-        taken: at,
-        used,
-        stop: Stop::Full,
+        taken: input.len() - left.len(),
+        used: to.at,
+        stop,
     }
 }

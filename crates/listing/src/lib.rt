@@ -12,13 +12,6 @@ pub mod ends; // how a listing ends, and the byte that tells it
 // The most bytes of a line: four numbers of at most five digits, four spaces and a newline, and two digits for each of the 4,096 bytes of output.
 const LONGEST: usize = 25 + 2 * 4096;
 
-// What one record leaves: the tables, and how much of the text is used.
-#[derive(Clone, Copy)]
-pub struct After {
-    pub tables: Tables,
-    pub used: usize,
-}
-
 // Why the lines of a buffer stop: more input is wanted, the text is full, or the log is bad.
 #[derive(Clone, Copy)]
 pub enum Stop {
@@ -36,17 +29,9 @@ pub struct Drained {
     pub stop: Stop,
 }
 
-// The text of a whole log: so many bytes; or less than a longest line was left of the text.
+// Why a listing ends before every record is listed: the log is bad, a read failed, a write failed, or the reader of the text has ended.
 #[derive(Clone, Copy)]
-pub enum Listed {
-    Text(usize),
-    Over,
-}
-
-// How a listing ends: every record is listed, the log is bad, a read failed, a write failed, or the reader of the text has ended.
-#[derive(Clone, Copy)]
-pub enum End {
-    Listed,
+pub enum Failure {
     BadLog,
     ReadFailed,
     WriteFailed,

@@ -1,63 +1,38 @@
 // One record's line, and the line `bad`.
 ghost use Rattle.std.specs.Prelude.{◌≡◌, List, ℕ, ◌+◌, ◌*◌, ◌≤◌, length, take};
-ghost use Rattle.text.specs.Definition.Put.{Put};
+ghost use Rattle.text.specs.Definition.Put.{Puts, Room};
 ghost use Rattle.listing.specs.Definition.Log.{shows_of, line_of, bad_text};
 
-use text::{fields, hex, put};
+use text::Cursor;
 
-// Whether there is a fifth field.
+// Whether there is a fifth field. The kinds stand by number, as in the definition: a `Kind` made for one test would be one match more.
+#[tactic(auto, unfolding(crate::specs::Definition::Log::shows_of))]
 pub fn shows(kind: u16, answer: u16, b: u16) -> bool
     ensures { result ≡ shows_of kind answer b }
 {
-    if answer != 0 {
-        return false;
-    }
-    match kind {
-        6 => 0 < b,
-        20 => 0 < b,
-        258 => 0 < b,
-        _ => false,
-    }
+    answer == 0 && 0 < b && matches!(kind, 6 | 20 | 258)
 }
 
-// The first b of n bytes, or all.
-fn least(b: u16, n: usize) -> usize
-    ensures { (result ≤ n) × ((xs : List ℕ) → length xs ≡ n → take result xs ≡ take b xs) }
+// A record's line.
+pub fn put_line(kind: u16, answer: u16, a: u16, b: u16, out: &[u8], to: &mut Cursor)
+    requires { Room to.old (25 + 2 * length out.now) }
+    ensures { Puts to.old to.new (line_of kind answer a b out.now) × (to.new.at ≤ length to.new.text.now) }
 {
-    let k = b as usize;
-    if k < n { k } else { n }
-}
-
-// A record's line, at a place of the text.
-pub fn put_line(
-    kind: u16,
-    answer: u16,
-    a: u16,
-    b: u16,
-    out: &[u8],
-    text: &mut [u8],
-    at: usize,
-) -> usize
-    requires { at + 25 + 2 * length out.now ≤ length text.old }
-    ensures { Put text.old text.new at result (line_of kind answer a b out.now) × (result ≤ length text.new) }
-{
-    let m = fields(kind, answer, a, b, text, at);
+    to.fields(kind, answer, a, b);
     if !shows(kind, answer, b) {
-        return put(text, m, b'\n');
+        to.put(b'\n');
+        return;
     }
-    let m = put(text, m, b' ');
-    let k = least(b, out.len());
-    let m = hex(&out[..k], text, m);
-    put(text, m, b'\n')
+    to.put(b' ');
+    let k = usize::from(b).min(out.len());
+    to.hex(&out[..k]);
+    to.put(b'\n');
 }
 
-// The line `bad`, at a place of the text.
-pub fn put_bad(text: &mut [u8], at: usize) -> usize
-    requires { at + 4 ≤ length text.old }
-    ensures { Put text.old text.new at result bad_text × (result ≤ length text.new) }
+// The line `bad`.
+pub fn put_bad(to: &mut Cursor)
+    requires { Room to.old 4 }
+    ensures { Puts to.old to.new bad_text × (to.new.at ≤ length to.new.text.now) }
 {
-    let m = put(text, at, b'b');
-    let m = put(text, m, b'a');
-    let m = put(text, m, b'd');
-    put(text, m, b'\n')
+    to.put_run(b"bad\n");
 }

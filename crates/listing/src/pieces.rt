@@ -1,38 +1,39 @@
 // What the end of the input leaves to write, and a whole log in one piece.
-ghost use Rattle.std.specs.Prelude.{◌+◌, ◌≤◌, length};
-ghost use Rattle.text.specs.Definition.Put.{Put};
+ghost use Rattle.std.specs.Prelude.{◌≤◌, length};
+ghost use Rattle.text.specs.Definition.Put.{Puts, Room};
 ghost use Rattle.listing.specs.Definition.Log.{ending};
 ghost use Rattle.listing.specs.Definition.Pieces.{Lists};
 
+use super::Stop;
 use super::buffers::drain;
 use super::lines::put_bad;
-use super::{Listed, Stop};
 use kernel::Tables;
+use text::Cursor;
 
 // Where the input ends and so many bytes of it are left: `bad`, unless there are none.
-pub fn finish(left: usize, text: &mut [u8], at: usize) -> usize
-    requires { at + 4 ≤ length text.old }
-    ensures { Put text.old text.new at result (ending left) × (result ≤ length text.new) }
+pub fn finish(left: usize, to: &mut Cursor)
+    requires { Room to.old 4 }
+    ensures { Puts to.old to.new (ending left) × (to.new.at ≤ length to.new.text.now) }
 {
-    if left == 0 {
-        return at;
+    if left != 0 {
+        put_bad(to);
     }
-    put_bad(text, at)
 }
 
-// The text of a whole log.
-pub fn list(log: &[u8], text: &mut [u8]) -> Listed
+// The text of a whole log: so many bytes; or less than a longest line was left of the text.
+pub fn list(log: &[u8], text: &mut [u8]) -> Option<usize>
     ensures { Lists log.now text.old text.new result }
 {
     let mut ram = [0u8; 65536];
     let mut out = [0u8; 4096];
     let d = drain(Tables::none(), &mut ram, &mut out, log, text);
-    let used = d.used;
-    let taken = d.taken;
-    let stop = d.stop;
-    match stop {
-        Stop::Bad => Listed::Text(used),
-        Stop::Full => Listed::Over,
-        Stop::More => Listed::Text(finish(log.len() - taken, text, used)),
+    match d.stop {
+        Stop::Bad => Some(d.used),
+        Stop::Full => None,
+        Stop::More => {
+            let mut to = Cursor { text, at: d.used };
+            finish(log.len() - d.taken, &mut to);
+            Some(to.at)
+        }
     }
 }

@@ -2,45 +2,28 @@
 ghost use Rattle.std.specs.Prelude.{◌≡◌, ◌+◌, ◌≤◌, ◌<◌, min, length};
 ghost use Rattle.kernel.specs.Definition.Step.{result_of};
 ghost use Rattle.events.specs.Definition.Records.{step_of};
+ghost use Rattle.text.specs.Definition.Put.{Room};
 ghost use Rattle.listing.specs.Definition.Log.{lent_to, log_step};
 ghost use Rattle.listing.specs.Definition.NoneOrGood.{NoneOrGood};
 ghost use Rattle.listing.specs.Definition.Pieces.{longest, Stepped};
 
-use super::After;
 use super::lines::put_line;
 use events::call_good;
 use events::system::start_event;
 use kernel::{Answer, Outcome, Tables};
+use text::Cursor;
 
-fn wide(x: u8) -> usize
-    ensures { (result ≡ x) × (result < 256) }
-{
-    x as usize
-}
-
-pub fn wider(x: u8) -> u16
-    ensures { result ≡ x }
-{
-    x as u16
-}
-
-fn at_most_four(n: usize) -> usize
-    ensures { (result ≡ min 4 n) × (result ≤ 4) }
-{
-    if n < 4 { n } else { 4 }
-}
-
-// How many bytes of RAM a record's call is lent.
+// How many bytes of RAM a record's call is lent. Here and in `call` a start is told by its number, as the definition tells it.
+#[tactic(auto, unfolding(crate::specs::Definition::Log::lent_to))]
 fn lent(segments: u8, kind: u16, size: usize) -> usize
     ensures { (result ≡ lent_to segments kind size) × (result ≤ 65536) }
 {
-    if kind != 256 {
-        return 16384 * at_most_four(wide(segments));
-    }
-    if size < 2 {
-        return 0;
-    }
-    16384 * at_most_four(size - 2)
+    let held = if kind == 256 {
+        size.saturating_sub(2)
+    } else {
+        usize::from(segments)
+    };
+    16384 * held.min(4)
 }
 
 // A record's call. After an accepted start the tables are good by theorem, and before it there are none: they are not tested.
@@ -66,30 +49,27 @@ pub fn step(t: Tables, ram: &mut [u8], kind: u16, body: &[u8], out: &mut [u8]) -
     call(t, &mut ram[..n], kind, body, out)
 }
 
-// A record's call, and its line at a place of the text.
+// A record's call, and its line.
 pub fn record(
     t: Tables,
     ram: &mut [u8],
     out: &mut [u8; 4096],
     kind: u16,
     body: &[u8],
-    text: &mut [u8],
-    used: usize,
-) -> After
-    requires { NoneOrGood t × (length ram.old ≡ 65536) × (used + longest ≤ length text.old) }
-    ensures { Stepped t ram.old out.old kind body.now text.old used result.tables ram.new out.new text.new result.used × NoneOrGood result.tables }
+    to: &mut Cursor,
+) -> Tables
+    requires { NoneOrGood t × (length ram.old ≡ 65536) × Room to.old longest }
+    ensures { Stepped t ram.old out.old kind body.now to.old result ram.new out.new to.new × NoneOrGood result }
 {
     let o = step(t, ram, kind, body, out);
     let answer = o.answer;
-    let tables = o.tables;
-    let used = put_line(
+    put_line(
         kind,
-        wider(answer.number()),
-        wider(answer.a()),
+        u16::from(answer.number()),
+        u16::from(answer.a()),
         answer.b(),
         out,
-        text,
-        used,
+        to,
     );
-    After { tables, used }
+    o.tables
 }

@@ -8,8 +8,8 @@ ghost use Rattle.kernel.specs.Definition.Tables.{ram_size};
 ghost use Rattle.events.specs.Definition.Records.{step_of};
 ghost use Rattle.replay.specs.Definition.Replay.{records, bytes_of, replayed, before};
 
-use events::Front;
 use events::records::front;
+use events::{call, call_good};
 use kernel::{Answer, Outcome, Tables};
 
 #[derive(Clone, Copy)]
@@ -20,7 +20,7 @@ pub struct Replayed {
     pub taken: usize,
 }
 
-// What a record left, and whether the tables are known to be good, with RAM of their size.
+// What a record left, and whether the tables are known to be good, with RAM of their size: a flag, since that speaks of RAM too, which no type here holds.
 #[derive(Clone, Copy)]
 struct Turned {
     last: Outcome,
@@ -31,62 +31,56 @@ struct Turned {
 fn known(t: Tables, size: usize, hold: bool) -> bool
     ensures { (result ≡ true → Good t × (size ≡ ram_size t)) }
 {
-    if hold { t.is_ready(size) } else { false }
+    hold && t.is_ready(size)
 }
 
 // One record. Good tables stay good by theorem, so that only others are tested.
 fn turn(
-    good: bool,
-    t: Tables,
+    so_far: Turned,
     ram: &mut [u8],
     kind: u16,
     body: &[u8],
     out: &mut [u8],
     hold: bool,
 ) -> Turned
-    requires { good ≡ true → Good t × (length ram.old ≡ ram_size t) }
-    ensures { (result_of result.last ram.new out.new ≡ step_of t ram.old kind body.now out.old) × (result.good ≡ true → Good result.last.tables × (length ram.new ≡ ram_size result.last.tables)) }
+    requires { so_far.good ≡ true → Good so_far.last.tables × (length ram.old ≡ ram_size so_far.last.tables) }
+    ensures { (result_of result.last ram.new out.new ≡ step_of so_far.last.tables ram.old kind body.now out.old) × (result.good ≡ true → Good result.last.tables × (length ram.new ≡ ram_size result.last.tables)) }
 {
-    if good {
-        let last = events::call_good(t, ram, kind, body, out);
+    let tables = so_far.last.tables;
+    if so_far.good {
+        let last = call_good(tables, ram, kind, body, out);
         return Turned { last, good: true };
     }
-    let last = events::call(t, ram, kind, body, out);
-    let next = last.tables;
-    let found = known(next, ram.len(), hold);
-    Turned { last, good: found }
+    let last = call(tables, ram, kind, body, out);
+    Turned {
+        last,
+        good: known(last.tables, ram.len(), hold),
+    }
 }
 
 // Every whole record at the front of the input, up to its end, a cut record or a bad length. Good tables are tested once for all of them where
 // they are to be held, and else once a record.
+// `hold` stays a flag: a closure in its place would owe the same fact of good tables as `known` ensures.
+#[tactic(auto, using(events::proofs::Walks::record_fits))]
 pub fn replay(t: Tables, ram: &mut [u8], out: &mut [u8], input: &[u8], hold: bool) -> Replayed
     ensures { (result_of result.last ram.new out.new ≡ replayed (before t ram.old out.old) (records input.now)) × (result.taken ≡ bytes_of (records input.now)) }
 {
-    let mut good = known(t, ram.len(), hold);
-    let mut last = Outcome {
-        answer: Answer::Done(0, 0),
-        tables: t,
-        moved: 0,
+    let mut so_far = Turned {
+        last: Outcome {
+            answer: Answer::Done(0, 0),
+            tables: t,
+            moved: 0,
+        },
+        good: known(t, ram.len(), hold),
     };
-    let mut at: usize = 0;
-    loop {
-        let f = front(&input[at..]);
-        match f {
-            Front::Cut => {
-                return Replayed { last, taken: at };
-            }
-            Front::Bad => {
-                return Replayed { last, taken: at };
-            }
-            Front::Record(kind, size) => {
-                let from = at + 4;
-                let next = from + size;
-                let tables = last.tables;
-                let r = turn(good, tables, ram, kind, &input[from..next], out, hold);
-                last = r.last;
-                good = r.good;
-                at = next;
-            }
-        }
+    let mut left = input;
+    while let Ok(r) = front(left) {
+        let end = 4 + r.size;
+        so_far = turn(so_far, ram, r.kind, &left[4..end], out, hold);
+        left = &left[end..];
+    }
+    Replayed {
+        last: so_far.last,
+        taken: input.len() - left.len(),
     }
 }

@@ -1,10 +1,9 @@
 -- "A program prints `ok`, or number and word.", on one line.
-use Rattle.std.specs.Prelude.{List, [], ◌∷◌, ◌++◌, ℕ}
+use Rattle.std.specs.Prelude.{List, [], ◌∷◌, ◌++◌, ℕ, Ok, Err}
 use Rattle.text.specs.Definition.Text.{decimal_of, letters}
-use Rattle.audit.specs.declared.Verdict.{Verdict}
-use Rattle.audit.specs.declared.Verdict.TheVariants.{Accepted, Fault}
 use Rattle.audit.specs.declared.Word.{Word}
 use Rattle.audit.specs.declared.Word.TheVariants.{Start, Cut, Answer, A, B, Bytes}
+use Rattle.audit.specs.Definition.Verdict.{Verdict}
 
 abbrev pub letters_of : Word → List ℕ
 letters_of Start = letters "start"
@@ -18,5 +17,5 @@ abbrev pub fault_line : (number : ℕ) → Word → List ℕ
 fault_line number word = ((decimal_of number ++ (32 ∷ [])) ++ letters_of word) ++ (10 ∷ [])
 
 abbrev pub line_of : Verdict → List ℕ
-line_of Accepted = letters "ok" ++ (10 ∷ [])
-line_of (Fault number word) = fault_line number word
+line_of (Ok accepted) = letters "ok" ++ (10 ∷ [])
+line_of (Err fault) = fault_line fault.number fault.word

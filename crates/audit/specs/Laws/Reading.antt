@@ -2,10 +2,9 @@
 use Rattle.std.specs.Prelude.{◌≡◌, refl, List, [], ◌∷◌, ℕ}
 use Rattle.std.proofs.Common.{sym, ◌∙◌, append_assoc, append-nil, inl, inr}
 use Rattle.listing.specs.Laws.Reading.{joined}
-use Rattle.audit.specs.declared.Verdict.{Verdict}
 use Rattle.audit.specs.Definition.Log.{Mark, first}
 use Rattle.audit.specs.Definition.Pieces.{fed, Session, passes, fetched, failed, over}
-use Rattle.audit.specs.Definition.Verdict.{verdict_of}
+use Rattle.audit.specs.Definition.Verdict.{Verdict, verdict_of}
 use Rattle.audit.specs.Laws.Turns.{verdict-cut, verdict_at, walked, faulted}
 use Rattle.audit.specs.Laws.Verdicts.{stopped}
 

@@ -1,19 +1,17 @@
 -- "Without a whole accepted start, an empty log included, that is `0 start`.": then, and then only.
-use Rattle.std.specs.Prelude.{◌≡◌, refl, List, ◌⊎◌, ℕ, ◌+◌, ◌≤◌}
-use Rattle.std.proofs.Common.{sym, ap, ◌∙◌, inl, inr, arith}
-use Rattle.events.specs.declared.Front.{Front}
-use Rattle.events.specs.declared.Front.TheVariants.{Record, Cut, Bad}
-use Rattle.events.specs.Definition.Records.{front_of, body_of}
+use Rattle.std.specs.Prelude.{◌≡◌, refl, List, ◌⊎◌, ℕ, ◌+◌, ◌≤◌, Ok, Err}
+use Rattle.std.proofs.Common.{ap, ◌∙◌, inl, inr, arith}
+use Rattle.events.specs.declared.NoRecord.TheVariants.{Cut, Bad}
+use Rattle.events.specs.declared.Record.{Record}
+use Rattle.events.specs.Definition.Records.{Front, front_of, body_of}
 use Rattle.audit.specs.declared.Due.{Due}
 use Rattle.audit.specs.declared.Due.TheVariants.{Start, Event, Reply as ReplyTo}
-use Rattle.audit.specs.declared.Verdict.TheVariants.{Fault}
 use Rattle.audit.specs.declared.Word.{Word}
 use Rattle.audit.specs.declared.Word.TheVariants.{Start as StartWord, Cut as CutWord, Answer as AnswerWord, A as AWord, B as BWord, Bytes as BytesWord}
 use Rattle.audit.specs.Definition.Records.{State, begins, IsStart, Right, start, event, reply, Differs, in-answer, in-a, in_b, in_bytes, Wrong, no_start, no-event, no-reply, ill-sized, differs}
 use Rattle.audit.specs.Definition.Log.{Mark, first, Walks, stay, pass, Begins, lacking_of, bad, whole, AtFault, stands, ends, FirstFault}
-use Rattle.audit.specs.Definition.Verdict.{Next, right, wrong, verdict_of}
+use Rattle.audit.specs.Definition.Verdict.{Fault, verdict_of}
 use Rattle.audit.specs.Laws.Records.{right-next, wrong-next}
-use Rattle.audit.specs.Laws.Turns.{front_number}
 use Rattle.audit.specs.Laws.Verdicts.{names-exactly}
 
 -- whether the start is due, and whether a word is `start`
@@ -93,33 +91,27 @@ start-alone log number word v =
 
 -- a log that does not begin with a whole accepted start
 begun : (log : List ℕ) → (Begins log → ⊥) → (v : Front) → front_of log ≡ v → FirstFault (first log) 0 StartWord
-begun log h Cut e = record { at = first log; walks = stay; number_is = refl; fault = ends e (λ q. let z : ◌≡◌ {A = ℕ} 1 0 = ap start_due q.1 in absurd (omega arith)) }
-begun log h Bad e = record { at = first log; walks = stay; number_is = refl; fault = stands (bad e) }
-begun log h (Record kind n) e =
-    record { at = first log; walks = stay; number_is = refl; fault = stands (whole e (no_start refl (λ s. h (kind, n, e, s)))) }
+begun log h (Err Cut) e = record { at = first log; walks = stay; number_is = refl; fault = ends e (λ q. let z : ◌≡◌ {A = ℕ} 1 0 = ap start_due q.1 in absurd (omega arith)) }
+begun log h (Err Bad) e = record { at = first log; walks = stay; number_is = refl; fault = stands (bad e) }
+begun log h (Ok r) e =
+    record { at = first log; walks = stay; number_is = refl; fault = stands (whole e (no_start refl (λ s. h (r, e, s)))) }
 
 pub without-start : (log : List ℕ) → (Begins log → ⊥) → verdict_of log ≡ Fault 0 StartWord
 without-start log h = (names-exactly log 0 StartWord).1 (begun log h (front_of log) refl)
 
-abbrev is_right : Next → ℕ
-is_right (right s) = 1
-is_right (wrong word) = 0
-
-module _ (log : List ℕ) (kind n : ℕ) (e : front_of log ≡ Record kind n) (s : IsStart begins kind (body_of log n)) where
+module _ (log : List ℕ) (r : Record) (e : front_of log ≡ Ok r) (s : IsStart begins r.kind (body_of log r.size)) where
   no-fault : (m : Mark) (word : Word) → m ≡ first log → AtFault m word → ⊥
-  no-fault m word q (stands (bad c)) = omega (arith, ap front_number (sym e ∙ sym (ap (λ (x : Mark). front_of x.left) q) ∙ c))
-  no-fault m word q (ends c h) = omega (arith, ap front_number (sym e ∙ sym (ap (λ (x : Mark). front_of x.left) q) ∙ c))
-  no-fault m word q (stands (whole {kind = kind'} {n = n'} c w)) =
-      let d : Record kind n ≡ Record kind' n' = sym e ∙ sym (ap (λ (x : Mark). front_of x.left) q) ∙ c in
-      let u : kind ≡ kind' = cc in
-      let v : n ≡ n' = cc in
-      omega (arith, ap is_right (sym (right-next begins kind (body_of log n) (start refl s)) ∙ (rw (q, ← u, ← v) at (wrong-next m.state kind' (body_of m.left n') w))))
+  no-fault m word q (stands (bad c)) = cc (e, ap (λ (x : Mark). front_of x.left) q, c)
+  no-fault m word q (ends c h) = cc (e, ap (λ (x : Mark). front_of x.left) q, c)
+  no-fault m word q (stands (whole {r = r'} c w)) =
+      let u : r ≡ r' = cc (e, ap (λ (x : Mark). front_of x.left) q, c) in
+      cc (right-next begins r.kind (body_of log r.size) (start refl s), rw (q, ← u) at (wrong-next m.state r'.kind (body_of m.left r'.size) w))
 
 -- and one that does is not at fault there
 pub with-start : (log : List ℕ) → Begins log → (word : Word) → verdict_of log ≡ Fault 0 word → ⊥
-with-start log (kind, n, e, s) word v =
+with-start log (r, e, s) word v =
     let f = (names-exactly log 0 word).0 v in
     elim (gone f.walks) [
-      | inl q ↦ no-fault log kind n e s f.at word q f.fault
+      | inl q ↦ no-fault log r e s f.at word q f.fault
       | inr (l, d) ↦ omega (arith, l, f.number_is)
     ]

@@ -1,18 +1,16 @@
 -- The verdict: accepted exactly if every reply is the definition's, and otherwise the first fault, which is one; nothing after it matters.
-use Rattle.std.specs.Prelude.{◌≡◌, refl, Bool, true, false, cond, ◌&&◌, List, [], ◌∷◌, ◌++◌, ◌⊎◌, ℕ, zero, suc, ◌+◌, ◌≤◌, ◌<◌, eqb, length}
+use Rattle.std.specs.Prelude.{◌≡◌, refl, Bool, true, false, cond, ◌&&◌, List, [], ◌∷◌, ◌++◌, ◌⊎◌, ℕ, zero, suc, ◌+◌, ◌≤◌, ◌<◌, eqb, length, Ok, Err}
 use Rattle.std.proofs.Common.{sym, ap, ◌∙◌, append-nil, inl, inr, arith, eqb-true, ne_eqb}
 use Rattle.std.proofs.lemmas.Bool.{false≢true, eqb-false}
-use Rattle.events.specs.declared.Front.{Front}
-use Rattle.events.specs.declared.Front.TheVariants.{Record, Cut, Bad}
-use Rattle.events.specs.Definition.Records.{front_of, body_of, rest_of}
+use Rattle.events.specs.declared.NoRecord.TheVariants.{Cut, Bad}
+use Rattle.events.specs.declared.Record.{Record}
+use Rattle.events.specs.Definition.Records.{Front, front_of, body_of, rest_of}
 use Rattle.events.specs.Laws.Front.{front-none, shorter}
 use Rattle.audit.specs.declared.Due.{Due}
 use Rattle.audit.specs.declared.Due.TheVariants.{Start, Event, Reply as ReplyTo}
-use Rattle.audit.specs.declared.Verdict.{Verdict}
-use Rattle.audit.specs.declared.Verdict.TheVariants.{Accepted as Passed, Fault}
 use Rattle.audit.specs.declared.Word.{Word}
 use Rattle.audit.specs.Definition.Log.{Mark, mark, first, Walks, stay, pass, Accepted, lacking_of, Stands, bad, whole, AtFault, stands, ends, FirstFault}
-use Rattle.audit.specs.Definition.Verdict.{Next, right, wrong, next, may_end, at_end, verdict_of, Means}
+use Rattle.audit.specs.Definition.Verdict.{Verdict, Accepted as Passed, Fault, Next, next, may_end, at_end, verdict_of, Means}
 use Rattle.audit.specs.Laws.Records.{Says, says}
 use Rattle.audit.specs.Laws.Turns.{verdict-cut, verdict_at, walked, faulted}
 
@@ -20,21 +18,21 @@ use Rattle.audit.specs.Laws.Turns.{verdict-cut, verdict_at, walked, faulted}
 pub record Stopped (from : Mark) : Type 0 where
   pub at : Mark
   pub walks : Walks from at
-  pub stop : (front_of at.left ≡ Cut) ⊎ ((word : Word) × Stands at word)
+  pub stop : (front_of at.left ≡ Err Cut) ⊎ ((word : Word) × Stands at word)
 
 stopped_by : (m : Mark) → ((to : Mark) → length to.left < length m.left → Stopped to) → Stopped m
 stopped_by m later = go (front_of m.left) refl
   where
-    after : (kind n : ℕ) → front_of m.left ≡ Record kind n → (v : Next) → Says m.state kind (body_of m.left n) v → Stopped m
-    after kind n e (right s) r =
-        let d = later (mark (m.number + 1) s (rest_of m.left n)) (shorter m.left kind n e) in
-        record { at = d.at; walks = pass e r d.walks; stop = d.stop }
-    after kind n e (wrong word) w = record { at = m; walks = stay; stop = inr (word, whole e w) }
+    after : (r : Record) → front_of m.left ≡ Ok r → (v : Next) → Says m.state r.kind (body_of m.left r.size) v → Stopped m
+    after r e (Ok s) right =
+        let d = later (mark (m.number + 1) s (rest_of m.left r.size)) (shorter m.left r e) in
+        record { at = d.at; walks = pass e right d.walks; stop = d.stop }
+    after r e (Err word) w = record { at = m; walks = stay; stop = inr (word, whole e w) }
 
     go : (v : Front) → front_of m.left ≡ v → Stopped m
-    go Cut e = record { at = m; walks = stay; stop = inl e }
-    go Bad e = record { at = m; walks = stay; stop = inr (_, bad e) }
-    go (Record kind n) e = after kind n e (next m.state kind (body_of m.left n)) (says m.state kind (body_of m.left n))
+    go (Err Cut) e = record { at = m; walks = stay; stop = inl e }
+    go (Err Bad) e = record { at = m; walks = stay; stop = inr (_, bad e) }
+    go (Ok r) e = after r e (next m.state r.kind (body_of m.left r.size)) (says m.state r.kind (body_of m.left r.size))
 
 stopped-in : (k : ℕ) (m : Mark) → length m.left ≤ k → Stopped m
 stopped-in zero m h = record { at = m; walks = stay; stop = inl (sym (front-none m.left (omega arith))) }
@@ -54,7 +52,7 @@ is-event Event e = refl
 is-event (ReplyTo kind answer) e = absurd (false≢true e)
 
 -- the verdict where the log ends
-at-end : (log : List ℕ) (m : Mark) → Walks (first log) m → front_of m.left ≡ Cut → Means log (at_end m.number m.state.due (length m.left))
+at-end : (log : List ℕ) (m : Mark) → Walks (first log) m → front_of m.left ≡ Err Cut → Means log (at_end m.number m.state.due (length m.left))
 at-end log m w c = go _ _ refl refl
   where
     fault : ((m.left ≡ []) × (m.state.due ≡ Event) → ⊥) → FirstFault (first log) m.number (lacking_of m.state.due)
@@ -69,7 +67,7 @@ verdict-first : (log : List ℕ) → verdict_of log ≡ verdict_at (first log) [
 unfolding verdict_of
 verdict-first log = rw (append-nil log)
 
-verdict-left : (m : Mark) → front_of m.left ≡ Cut → verdict_at m [] ≡ at_end m.number m.state.due (length m.left)
+verdict-left : (m : Mark) → front_of m.left ≡ Err Cut → verdict_at m [] ≡ at_end m.number m.state.due (length m.left)
 verdict-left m c = rw (append-nil m.left) (verdict-cut m.number m.state m.left c)
 
 -- the verdict says what is so
@@ -94,7 +92,7 @@ fault-end number Event left h = rw (ne_eqb (length left) 0 (λ e. h (no_bytes le
 accepted-verdict : (log : List ℕ) → Accepted log → verdict_of log ≡ Passed
 accepted-verdict log p =
     let m = p.end in
-    let c : front_of m.left ≡ Cut = rw p.over (sym (front-none [] (omega arith))) in
+    let c : front_of m.left ≡ Err Cut = rw p.over (sym (front-none [] (omega arith))) in
     verdict-first log ∙ walked p.walks [] ∙ verdict-left m c ∙ accepted-end m.number m.state.due m.left p.over p.due
 
 fault-verdict : (m : Mark) (word : Word) → AtFault m word → verdict_at m [] ≡ Fault m.number word
@@ -107,8 +105,8 @@ first-verdict log number word f = rw f.number_is (verdict-first log ∙ walked f
 
 -- exactly one verdict says what is so, for any bytes
 pub one-verdict : (log : List ℕ) (v : Verdict) → Means log v → v ≡ verdict_of log
-one-verdict log Passed p = sym (accepted-verdict log p)
-one-verdict log (Fault number word) f = sym (first-verdict log number word f)
+one-verdict log (Ok accepted) p = sym (accepted-verdict log p)
+one-verdict log (Err fault) f = sym (first-verdict log fault.number fault.word f)
 
 -- "It accepts exactly the logs that begin with an accepted start and whose every reply is the definition's."
 pub accepts-exactly : (log : List ℕ) → (verdict_of log ≡ Passed → Accepted log) × (Accepted log → verdict_of log ≡ Passed)

@@ -1,13 +1,12 @@
 -- "The listing program": the text of a log of event records.
-use Rattle.std.specs.Prelude.{Bool, cond, ◌&&◌, ◌||◌, List, [], ◌∷◌, ◌++◌, ℕ, zero, suc, ◌-◌, ◌*◌, min, length, take, drop, replicate, ltb, eqb}
+use Rattle.std.specs.Prelude.{Bool, cond, ◌&&◌, ◌||◌, List, [], ◌∷◌, ◌++◌, ℕ, zero, suc, ◌-◌, ◌*◌, min, length, take, drop, replicate, ltb, eqb, Ok, Err}
 use Rattle.kernel.specs.Definition.Tables.{SEGMENT}
 use Rattle.kernel.specs.Definition.Start.{no_tables}
 use Rattle.kernel.specs.Definition.Answers.{number_of, a_of, b_of}
 use Rattle.kernel.specs.Definition.Step.{Result}
 use Rattle.kernel.specs.declared.Tables.{Tables}
-use Rattle.events.specs.declared.Front.{Front}
-use Rattle.events.specs.declared.Front.TheVariants.{Record, Cut, Bad}
-use Rattle.events.specs.Definition.Records.{front_of, body_of, rest_of, step_of}
+use Rattle.events.specs.declared.NoRecord.TheVariants.{Cut, Bad}
+use Rattle.events.specs.Definition.Records.{Front, front_of, body_of, rest_of, step_of}
 use Rattle.text.specs.Definition.Text.{fields_of, hex_of}
 
 -- "a fifth field .. where 6, 20 or 258 is done with b > 0"
@@ -44,10 +43,10 @@ ending left = cond (eqb left 0) [] bad_text
 
 -- "prints a line a record", and `more` for the rest of the log; "A bad length or cut record prints `bad` and ends."
 unfoldable pub turn : (more : Tables → (ram out xs : List ℕ) → List ℕ) → Tables → (ram out xs : List ℕ) → Front → List ℕ
-turn more t ram out xs Cut = ending (length xs)
-turn more t ram out xs Bad = bad_text
-turn more t ram out xs (Record kind n) =
-    let r = log_step t ram out kind (body_of xs n) in line_after kind r ++ more r.tables r.ram r.output (rest_of xs n)
+turn more t ram out xs (Err Cut) = ending (length xs)
+turn more t ram out xs (Err Bad) = bad_text
+turn more t ram out xs (Ok f) =
+    let r = log_step t ram out f.kind (body_of xs f.size) in line_after f.kind r ++ more r.tables r.ram r.output (rest_of xs f.size)
 
 -- at most k records
 unfoldable pub text_in : (k : ℕ) → Tables → (ram out xs : List ℕ) → List ℕ

@@ -1,6 +1,6 @@
 -- 01's example of a listing, to the letter, with the line that order 2 changes.
 -- It is shown a record at a time, whatever bytes the RAM has: one computation over all would write 65,536 bytes anew for each byte put.
-use Rattle.std.specs.Prelude.{◌≡◌, refl, List, [], ◌∷◌, ◌++◌, ℕ, zero, suc, ◌≤◌, length, get_or, drop, set, replicate}
+use Rattle.std.specs.Prelude.{◌≡◌, refl, List, [], ◌∷◌, ◌++◌, ℕ, zero, suc, ◌≤◌, length, get_or, drop, set, replicate, Ok}
 use Rattle.std.proofs.Common.{ap, ◌∙◌, arith, length-append, length-set, length-drop, get_or-set_same, get_or-set_other}
 use Prim.Native.String.{String}
 use Rattle.std.proofs.lemmas.List.{length-replicate}
@@ -13,7 +13,6 @@ use Rattle.kernel.specs.Definition.Line.{grown, shrunk}
 use Rattle.kernel.specs.Definition.Calls.{Call}
 use Rattle.kernel.specs.Definition.Step.{Result, decided, completed}
 use Rattle.kernel.specs.declared.Tables.{Tables}
-use Rattle.events.specs.declared.Front.TheVariants.{Record}
 use Rattle.events.specs.Definition.Records.{u16_at, front_of, body_of, rest_of, start_in, open_in, close_in, read_in, write_in, boundary_in, call_in}
 use Rattle.text.specs.Definition.Text.{letters, decimal_in, decimal_of, fields_of}
 use Rattle.kernel.specs.Definition.Start.{no_tables}
@@ -95,7 +94,7 @@ abbrev Stands : ℕ → Type 0
 Stands k =
     let xs = joined (drop k input) in
     let n = length (body_at k) in
-    (front_of xs ≡ Record (kind_at k) n) × (body_of xs n ≡ body_at k) × (rest_of xs n ≡ joined (drop (suc k) input))
+    (front_of xs ≡ Ok (record { kind = kind_at k; size = n })) × (body_of xs n ≡ body_at k) × (rest_of xs n ≡ joined (drop (suc k) input))
 
 says : (Such Next : List ℕ → Type 0) (k : ℕ) → Stands k → lent_to (before k).segments (kind_at k) (length (body_at k)) ≡ 65536 → lines_of (drop k output) ≡ line_with (get_or output k "") ++ lines_of (drop (suc k) output)
     → ((ram out : List ℕ) → length ram ≡ 65536 → length out ≡ 4096 → Such ram → Leaves Next (kind_at k) (line_with (get_or output k "")) (left k ram out))
@@ -105,7 +104,7 @@ says Such Next k n l t does more ram out h g p =
     let r = left k ram out in
     let d = does ram out h g p in
     let e : log_step (before k) ram out (kind_at k) (body_at k) ≡ r = rw (← g) (log-full (before k) ram out (kind_at k) (body_at k) l h) in
-    text-record (before k) ram out (joined (drop k input)) (kind_at k) (length (body_at k)) n.0
+    text-record (before k) ram out (joined (drop k input)) (record { kind = kind_at k; size = length (body_at k) }) n.0
     ∙ rw (n.1, n.2, e, d.line-is, t) (ap (λ (l : List ℕ). line_with (get_or output k "") ++ l) (more r.ram r.output d.ram-length d.output-length d.such))
 
 abbrev Any : List ℕ → Type 0

@@ -1,23 +1,23 @@
 -- The listing record by record: its text is the first record's line and then the text of what follows.
-use Rattle.std.specs.Prelude.{◌≡◌, refl, List, [], ◌∷◌, ◌++◌, ℕ, zero, suc, ◌≤◌, length, drop}
+use Rattle.std.specs.Prelude.{◌≡◌, refl, List, [], ◌∷◌, ◌++◌, ℕ, zero, suc, ◌≤◌, length, drop, Ok, Err}
 use Rattle.std.proofs.Common.{sym, ap, ◌∙◌, append-nil, arith, eq-eqb, take_all}
 use Rattle.kernel.specs.Definition.Step.{Result, decided, completed, step}
 use Rattle.kernel.specs.declared.Tables.{Tables}
-use Rattle.events.specs.declared.Front.{Front}
-use Rattle.events.specs.declared.Front.TheVariants.{Record, Cut, Bad}
-use Rattle.events.specs.Definition.Records.{front_of, body_of, rest_of, call_in}
+use Rattle.events.specs.declared.NoRecord.TheVariants.{Cut, Bad}
+use Rattle.events.specs.declared.Record.{Record}
+use Rattle.events.specs.Definition.Records.{Front, front_of, body_of, rest_of, call_in}
 use Rattle.events.specs.Laws.Front.{front-none, shorter}
 use Rattle.listing.specs.Definition.Log.{log_step, line_after, lent_to, ending, turn, text_in, text_from, bad_text}
 
 same-on : (f g : Tables → List ℕ → List ℕ → List ℕ → List ℕ) (t : Tables) (ram out xs : List ℕ) (v : Front)
-    → ((t' : Tables) (ram' out' : List ℕ) (kind n : ℕ) → v ≡ Record kind n → f t' ram' out' (rest_of xs n) ≡ g t' ram' out' (rest_of xs n))
+    → ((t' : Tables) (ram' out' : List ℕ) (r : Record) → v ≡ Ok r → f t' ram' out' (rest_of xs r.size) ≡ g t' ram' out' (rest_of xs r.size))
     → turn f t ram out xs v ≡ turn g t ram out xs v
 unfolding turn
-same-on f g t ram out xs Cut h = refl
-same-on f g t ram out xs Bad h = refl
-same-on f g t ram out xs (Record kind n) h =
-    let r = log_step t ram out kind (body_of xs n) in
-    ap (λ (l : List ℕ). line_after kind r ++ l) (h r.tables r.ram r.output kind n refl)
+same-on f g t ram out xs (Err Cut) h = refl
+same-on f g t ram out xs (Err Bad) h = refl
+same-on f g t ram out xs (Ok f') h =
+    let r = log_step t ram out f'.kind (body_of xs f'.size) in
+    ap (λ (l : List ℕ). line_after f'.kind r ++ l) (h r.tables r.ram r.output f' refl)
 
 -- no byte, no text
 none : (f : Tables → List ℕ → List ℕ → List ℕ → List ℕ) (t : Tables) (ram out xs : List ℕ) → length xs ≤ 0 → [] ≡ turn f t ram out xs (front_of xs)
@@ -32,7 +32,7 @@ enough zero (suc m) t ram out xs h g = none (text_in m) t ram out xs h
 enough (suc k) zero t ram out xs h g = sym (none (text_in k) t ram out xs g)
 enough (suc k) (suc m) t ram out xs h g =
     same-on (text_in k) (text_in m) t ram out xs (front_of xs)
-    (λ t' ram' out' kind n e. enough k m t' ram' out' (rest_of xs n) (omega (arith, shorter xs kind n e)) (omega (arith, shorter xs kind n e)))
+    (λ t' ram' out' f e. enough k m t' ram' out' (rest_of xs f.size) (omega (arith, shorter xs f e)) (omega (arith, shorter xs f e)))
 
 -- the whole log is one turn on its front, and the text of the rest: no record is left out
 pub text-turn : (t : Tables) (ram out xs : List ℕ) → text_from t ram out xs ≡ turn text_from t ram out xs (front_of xs)
@@ -40,19 +40,19 @@ unfolding text_from text_in
 text-turn t ram out [] = none text_from t ram out [] (omega arith)
 text-turn t ram out (x ∷ xs) =
     same-on (text_in (length xs)) text_from t ram out (x ∷ xs) (front_of (x ∷ xs))
-    (λ t' ram' out' kind n e. let rest = rest_of (x ∷ xs) n in enough (length xs) (length rest) t' ram' out' rest (omega (arith, shorter (x ∷ xs) kind n e)) (omega arith))
+    (λ t' ram' out' f e. let rest = rest_of (x ∷ xs) f.size in enough (length xs) (length rest) t' ram' out' rest (omega (arith, shorter (x ∷ xs) f e)) (omega arith))
 
-pub text-record : (t : Tables) (ram out xs : List ℕ) (kind n : ℕ) → front_of xs ≡ Record kind n
-    → let r = log_step t ram out kind (body_of xs n) in text_from t ram out xs ≡ line_after kind r ++ text_from r.tables r.ram r.output (rest_of xs n)
+pub text-record : (t : Tables) (ram out xs : List ℕ) (f : Record) → front_of xs ≡ Ok f
+    → let r = log_step t ram out f.kind (body_of xs f.size) in text_from t ram out xs ≡ line_after f.kind r ++ text_from r.tables r.ram r.output (rest_of xs f.size)
 unfolding turn
-text-record t ram out xs kind n e = text-turn t ram out xs ∙ rw e
+text-record t ram out xs f e = text-turn t ram out xs ∙ rw e
 
-pub text-bad : (t : Tables) (ram out xs : List ℕ) → front_of xs ≡ Bad → text_from t ram out xs ≡ bad_text
+pub text-bad : (t : Tables) (ram out xs : List ℕ) → front_of xs ≡ Err Bad → text_from t ram out xs ≡ bad_text
 unfolding turn
 text-bad t ram out xs e = text-turn t ram out xs ∙ rw e
 
 -- the input ends with less than a record
-pub text-cut : (t : Tables) (ram out xs : List ℕ) → front_of xs ≡ Cut → text_from t ram out xs ≡ ending (length xs)
+pub text-cut : (t : Tables) (ram out xs : List ℕ) → front_of xs ≡ Err Cut → text_from t ram out xs ≡ ending (length xs)
 unfolding turn
 text-cut t ram out xs e = text-turn t ram out xs ∙ rw e
 

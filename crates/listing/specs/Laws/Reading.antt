@@ -1,9 +1,9 @@
 -- Reading the log in pieces changes nothing.
-use Rattle.std.specs.Prelude.{◌≡◌, List, [], ◌∷◌, ◌++◌, ℕ, length, replicate}
+use Rattle.std.specs.Prelude.{◌≡◌, List, [], ◌∷◌, ◌++◌, ℕ, length, replicate, Err}
 use Rattle.std.proofs.Common.{ap, ◌∙◌, append_assoc, append-nil}
 use Rattle.kernel.specs.Definition.Start.{no_tables}
 use Rattle.kernel.specs.declared.Tables.{Tables}
-use Rattle.events.specs.declared.Front.TheVariants.{Cut}
+use Rattle.events.specs.declared.NoRecord.TheVariants.{Cut}
 use Rattle.events.specs.Definition.Records.{front_of}
 use Rattle.listing.specs.Definition.Log.{ending, text_from, listing}
 use Rattle.listing.specs.Laws.Log.{text-cut}
@@ -23,7 +23,7 @@ pub data Session : Tables → (ram out xs : List ℕ) → (pieces : List (List �
   -- the log is bad: nothing more is read
   failed : {t : Tables} {ram out xs text : List ℕ} {pieces : List (List ℕ)} → ((ys : List ℕ) → text_from t ram out (xs ++ ys) ≡ text) → Session t ram out xs pieces text
   -- the input ends
-  over : {t : Tables} {ram out xs : List ℕ} → front_of xs ≡ Cut → Session t ram out xs [] (ending (length xs))
+  over : {t : Tables} {ram out xs : List ℕ} → front_of xs ≡ Err Cut → Session t ram out xs [] (ending (length xs))
 
 session-text : {t : Tables} {ram out xs text : List ℕ} {pieces : List (List ℕ)} → Session t ram out xs pieces text → text_from t ram out (xs ++ joined pieces) ≡ text
 session-text {pieces = pieces} (drained {text = text} c s) = c.holds (joined pieces) ∙ ap (λ (l : List ℕ). text ++ l) (session-text s)

@@ -1,12 +1,10 @@
 -- The run of the definition over a buffer of event records: every whole record at its front, one after the other.
-use Rattle.std.specs.Prelude.{List, [], ◌∷◌, ℕ, zero, suc, ◌+◌, length}
+use Rattle.std.specs.Prelude.{List, [], ◌∷◌, ℕ, zero, suc, ◌+◌, length, Ok, Err}
 use Rattle.kernel.specs.Definition.Answers.{gives}
 use Rattle.kernel.specs.Definition.Step.{Result, result_of}
 use Rattle.kernel.specs.declared.Tables.{Tables}
 use Rattle.kernel.specs.declared.Answer.TheVariants.{Done}
-use Rattle.events.specs.declared.Front.{Front}
-use Rattle.events.specs.declared.Front.TheVariants.{Record, Cut, Bad}
-use Rattle.events.specs.Definition.Records.{front_of, body_of, rest_of, step_of}
+use Rattle.events.specs.Definition.Records.{Front, front_of, body_of, rest_of, step_of}
 
 pub record EventRecord : Type 0 where
   pub kind : ℕ
@@ -14,9 +12,8 @@ pub record EventRecord : Type 0 where
 
 -- the record at the front, and `more` for the rest; none where the buffer ends, the record is cut or its length is bad
 unfoldable pub records_to : (more : List ℕ → List EventRecord) (xs : List ℕ) → Front → List EventRecord
-records_to more xs Cut = []
-records_to more xs Bad = []
-records_to more xs (Record kind n) = record { kind = kind; body = body_of xs n } ∷ more (rest_of xs n)
+records_to more xs (Err why) = []
+records_to more xs (Ok r) = record { kind = r.kind; body = body_of xs r.size } ∷ more (rest_of xs r.size)
 
 -- at most k records
 unfoldable pub records_in : ℕ → List ℕ → List EventRecord

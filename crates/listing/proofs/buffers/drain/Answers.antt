@@ -1,54 +1,39 @@
-use Rattle.std.proofs.Common.{◌≡◌, ◌∙◌, ◌+◌, ◌≤◌, arith, length, drop}
-use Rattle.events.specs.declared.Front.TheVariants.{Record}
-use Rattle.events.specs.Definition.Records.{front_of}
-use Rattle.events.specs.Laws.Front.{front_at, within}
-use Rattle.listing.proofs.Carries.{put-behind, drain-full, drain-more, drain-bad, drain-at}
+use Rattle.std.proofs.Common.{◌∙◌, sym, rules, arith}
+use Rattle.events.proofs.Walks.{body_taken, rest_taken, rest_left}
+use Rattle.listing.proofs.Carries.{named, leaves, put-behind, drain-full, drain-more, drain-bad, drain-line}
 use Rattle.listing.proofs.buffers.drain.Goals as goal
+use Rattle.listing.proofs.buffers.drain.Goals.{then-to-lt-LONGEST, else-to-lt-LONGEST+in-Err-Cut, else-to-lt-LONGEST+in-Err-Bad}
 
-pub returns-in-Cut : goal.returns-in-Cut
-returns-in-Cut c =
-    let l = c.loop-text in
-    let f = front_at c.args.input.now l.at _ _ c.front-f.ensures c.in-Cut.is in
-    (drain-more _ _ _ _ _ _ l.text l.used l.invariant.0 l.invariant.3 l.invariant.4 (omega arith) f, l.invariant.1, l.invariant.2, l.invariant.3, l.invariant.5)
-
-pub returns-in-Bad : goal.returns-in-Bad
-returns-in-Bad c =
-    let l = c.loop-text in
-    let p = c.put_bad-end in
-    let f = front_at c.args.input.now l.at _ _ c.front-f.ensures c.in-Bad.is in
-    (drain-bad _ _ _ _ _ _ l.text l.used l.invariant.0 l.invariant.3 l.invariant.4 (omega arith) f _ _ p.ensures.0 (p.auto.text ∙ l.invariant.4), l.invariant.1, l.invariant.2, p.ensures.1, put-behind c.args.text.now l.invariant.5 p.ensures.0)
-
-pub overflow_add-next : goal.overflow_add-next
-overflow_add-next c =
-    let front : front_of (drop c.loop-text.at c.args.input.now) ≡ Record c.in-Record.kind c.in-Record.size = front_at c.args.input.now c.loop-text.at _ _ c.front-f.ensures c.in-Record.is in
-    let fits : c.loop-text.at + 4 + c.in-Record.size ≤ length c.args.input.now = within c.args.input.now c.loop-text.at c.in-Record.kind c.in-Record.size front in
-    omega (arith, fits)
-
-pub slice_bounds-record-end-in-Record : goal.slice_bounds-record-end-in-Record
-slice_bounds-record-end-in-Record c =
-    let front : front_of (drop c.loop-text.at c.args.input.now) ≡ Record c.in-Record.kind c.in-Record.size = front_at c.args.input.now c.loop-text.at _ _ c.front-f.ensures c.in-Record.is in
-    let fits : c.loop-text.at + 4 + c.in-Record.size ≤ length c.args.input.now = within c.args.input.now c.loop-text.at c.in-Record.kind c.in-Record.size front in
-    omega (arith, fits)
-
-pub loop-text-smaller : goal.loop-text-smaller
-loop-text-smaller c =
-    let front : front_of (drop c.loop-text.at c.args.input.now) ≡ Record c.in-Record.kind c.in-Record.size = front_at c.args.input.now c.loop-text.at _ _ c.front-f.ensures c.in-Record.is in
-    let fits : c.loop-text.at + 4 + c.in-Record.size ≤ length c.args.input.now = within c.args.input.now c.loop-text.at c.in-Record.kind c.in-Record.size front in
-    omega (arith, fits)
-
-pub loop-text-preserved : goal.loop-text-preserved
-loop-text-preserved c =
-    let front : front_of (drop c.loop-text.at c.args.input.now) ≡ Record c.in-Record.kind c.in-Record.size = front_at c.args.input.now c.loop-text.at _ _ c.front-f.ensures c.in-Record.is in
-    let fits : c.loop-text.at + 4 + c.in-Record.size ≤ length c.args.input.now = within c.args.input.now c.loop-text.at c.in-Record.kind c.in-Record.size front in
-    let l = c.loop-text in
-    let r = c.record-r in (
-      drain-at _ _ l.tables _ _ c.args.input.now l.at l.text l.used _ _ l.invariant.0 l.invariant.3 l.invariant.4 (omega arith) front _ _ _ _ _ r.ensures.0,
-      r.ensures.1,
-      omega (arith, fits),
-      r.ensures.0.room,
-      r.auto.text ∙ l.invariant.4,
-      put-behind c.args.text.now l.invariant.5 r.ensures.0.put,
-    )
+pub loop-to-preserved : goal.loop-to-preserved
+loop-to-preserved c =
+    let i = c.loop-to.invariant in
+    let left = c.loop-to.left.now in
+    let r = c.in-Ok.r in
+    let s = rw (body_taken left r) at c.record-tables.ensures in record {
+      goes =
+          rw (rest_taken left r) (drain-line _ _ _ _ _ left _ _ i.goes i.used i.size (omega arith) r (sym c.in-Ok.ensures) _ _ _ _ _ s.0.tables-are s.0.ram-is s.0.output-is s.0.put.put);
+      carried = s.1;
+      left = rw (rest_taken left r) (rest_left r i.left c.in-Ok.ensures);
+      used = s.0.room;
+      size = s.0.put.long ∙ i.size;
+      same = s.0.put.same ∙ i.same;
+      behind = put-behind c.args.text.now i.behind s.0.put.put;
+    }
 
 pub returns : goal.returns
-returns c = let l = c.loop-text in (drain-full _ _ _ _ _ _ l.text l.used l.invariant.0 l.invariant.3 l.invariant.4 (omega arith), l.invariant.1, l.invariant.2, l.invariant.3, l.invariant.5)
+returns c =
+    let i = c.loop-to.invariant in
+    let text = c.args.text.now in
+    let to = c.if-to-lt-LONGEST.to in
+    elim c.if-to-lt-LONGEST.branch [
+      | then-to-lt-LONGEST w ↦
+          leaves {there = to.text.now} text (named w.to-is i.same) (search rules)
+          (rw (w.stop-is, w.to-is, i.left.is) (drain-full _ _ _ _ _ _ _ _ i.goes i.used i.size (omega arith), i.carried, omega arith, i.used, i.behind))
+      | else-to-lt-LONGEST+in-Err-Cut w ↦
+          leaves {there = to.text.now} text (named w.to-is i.same) (search rules)
+          (rw (w.stop-is, w.to-is, i.left.is) (drain-more _ _ _ _ _ _ _ _ i.goes i.used i.size (omega arith) (cc), i.carried, omega arith, i.used, i.behind))
+      | else-to-lt-LONGEST+in-Err-Bad w ↦
+          let p = w.put_bad.ensures in
+          leaves {there = to.text.now} text (named w.to-is (p.0.same ∙ i.same)) (search rules)
+          (rw (w.stop-is, w.to-is, i.left.is) (drain-bad _ _ _ _ _ _ _ _ i.goes i.used i.size (omega arith) (cc) _ _ p.0.put (p.0.long ∙ i.size), i.carried, omega arith, p.1, put-behind text i.behind p.0.put))
+    ]

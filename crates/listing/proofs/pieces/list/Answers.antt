@@ -1,7 +1,7 @@
 -- `listing::list` meets its contract.
-use Rattle.std.proofs.Common.{refl, arith, length-take-le}
-use Rattle.listing.proofs.Carries.{put-behind}
-use Rattle.listing.proofs.Wholes.{bad-first, more-first, room-left, put_first, never-full, fills, listed-bad, listed-over, listed-text}
+use Rattle.std.proofs.Common.{refl, rules, arith, length-take-le}
+use Rattle.text.specs.Laws.Text.{handed}
+use Rattle.listing.proofs.Wholes.{bad-first, room-left, put_first, never-full, fills, listed-bad, listed-over, over}
 use Rattle.listing.proofs.pieces.list.Goals as goal
 
 pub finish-requires : goal.finish-requires
@@ -31,12 +31,5 @@ returns-in-Full c =
 pub returns-in-More : goal.returns-in-More
 returns-in-More c =
     let d = c.drain-d in
-    let log = c.args.log.now in
-    let n = c.«none».ensures in
-    let text = c.args.text.now in
-    let stop = c.in-More.is in
-    let f = c.finish in
-    let p = f.ensures.0 in (
-      put_first (listed-text _ n log d.result d.new.ram d.new.out d.new.text d.ensures.0 stop _ _ p) f.ensures.1 (put-behind text d.ensures.4 p),
-      never-full _ n log d.result d.new.ram d.new.out d.new.text d.ensures.0 (more-first stop) _ f.auto.text,
-    )
+    let f = c.finish.ensures in
+    over _ c.«none».ensures c.args.log.now d.result d.new.ram d.new.out d.new.text d.ensures.0 c.in-More.is d.ensures.4 d.ensures.3 (omega (arith, f.1, f.0.long)) (handed f.0 (search rules))

@@ -1,14 +1,13 @@
 -- `listing::call` meets its contract.
-use Rattle.std.proofs.Common.{refl, ◌∙◌}
-use Rattle.events.specs.Definition.Records.{call_in}
+use Rattle.std.proofs.Common.{refl, sym, ◌∙◌}
+use Rattle.events.specs.declared.kinds.Kind.TheVariants.{Start}
 use Rattle.events.proofs.ByKind.{by_kind}
 use Rattle.listing.specs.Laws.NoneOrGood.{is_none, is-good, lent-theirs}
 use Rattle.listing.proofs.Calls.{unstarted}
 use Rattle.listing.proofs.records.call.Goals as goal
 
 pub returns-then-kind-eq256 : goal.returns-then-kind-eq256
-unfolding call_in
-returns-then-kind-eq256 c = by_kind _ _ _ _ _ 256 _ _ c.if-kind-eq256.true refl (c.start_event.ensures _)
+returns-then-kind-eq256 c = by_kind _ _ _ _ _ Start _ (sym c.if-kind-eq256.true) refl (c.start_event.ensures _)
 
 pub returns-then-t-eq0 : goal.returns-then-t-eq0
 returns-then-t-eq0 c = unstarted _ _ _ _ _ _ (is_none _ c.requires.0 c.if-t-eq0.true) c.if-kind-eq256.false c.refuse.ensures
