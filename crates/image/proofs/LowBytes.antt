@@ -1,30 +1,23 @@
--- Laws of the loop that puts a number's lowest bytes.
-use mathlib.Core.Path.{◌≡◌, refl, sym, ap, ◌∙◌}
-use mathlib.Core.List.{List, [], ◌∷◌}
-use Prim.Native.Nat.{ℕ, zero, suc, ◌+◌, ◌-◌, ◌/◌, ◌%◌, ◌<◌}
-use native.Mathlib.Omega.{arith}
-use native.Mathlib.Numerals.{add-one}
-use lib.ListN.{length, get_or, take, drop}
-use lib.Seq.{drop-cons, take-suc}
-use Rattle.text.specs.Definition.Put.{Put}
-use Rattle.text.specs.Laws.Text.{put_then}
-use Rattle.image.specs.Definition.Image.{low_bytes}
+-- What std's `to_le_bytes` gives is a number's lowest bytes.
+use Rattle.std.proofs.Common.{◌≡◌, ap, sym, refl, ◌∙◌, ℕ, zero, suc, ◌/◌, ◌%◌, ◌^◌, arith}
+use Rattle.std.proofs.Math.Nat.{div-div-eq-div-mul, pow-suc}
+use Rattle.std.specs.Int.{byte_at, bytes_low_first, to_le_bytes, w32, w64}
+use Rattle.image.specs.Definition.Image.{low_bytes, u32_bytes, u64_bytes}
 
-pub length-low : (n x : ℕ) → length (low_bytes n x) ≡ n
-length-low zero x = refl
-length-low (suc n) x = ap suc (length-low n (x / 256))
+byte-is : (i n : ℕ) → byte_at i n ≡ n / 256 ^ i % 256
+byte-is zero n = omega arith
+byte-is (suc i) n = refl
 
--- the n bytes L of a number, of which i are put
-module _ (n : ℕ) (L : List ℕ) (i rest : ℕ) (l : length L ≡ n) (h : i < n) (e : drop i L ≡ low_bytes (n - i) rest) where
-  split : get_or L i 0 ∷ drop (suc i) L ≡ rest % 256 ∷ low_bytes (n - (i + 1)) (rest / 256)
-  split =
-      let one : n - i ≡ suc (n - (i + 1)) = omega arith in
-      sym (drop-cons L i 0 (omega arith)) ∙ e ∙ rw one
+from-byte : (i k n : ℕ) → bytes_low_first i k n ≡ low_bytes k (n / 256 ^ i)
+from-byte i zero n = refl
+from-byte i (suc k) n =
+    let next : n / 256 ^ suc i ≡ n / 256 ^ i / 256 = ap (λ m. n / m) (pow-suc 256 i) ∙ sym (div-div-eq-div-mul n (256 ^ i) 256) in
+    rw (byte-is i n, from-byte (suc i) k n, next)
 
-  pub low-put : {d u v : List ℕ} {at m r : ℕ} → Put d u at m (take i L) → Put u v m r (rest % 256 ∷ []) → Put d v at r (take (i + 1) L)
-  low-put p q =
-      let b : rest % 256 ≡ get_or L i 0 = ap (λ (xs : List ℕ). get_or xs 0 0) (sym split) in
-      rw (add-one, take-suc L i 0 (omega arith), ← b) (put_then p q)
+pub four_low : (x : ℕ) → to_le_bytes w32 x ≡ u32_bytes x
+unfolding u32_bytes
+four_low x = let z : x / 256 ^ 0 ≡ x = omega arith in from-byte 0 4 x ∙ ap (low_bytes 4) z
 
-  pub low-rest : drop (i + 1) L ≡ low_bytes (n - (i + 1)) (rest / 256)
-  low-rest = ap (λ (k : ℕ). drop k L) (add-one i) ∙ ap (drop 1) split
+pub eight_low : (x : ℕ) → to_le_bytes w64 x ≡ u64_bytes x
+unfolding u64_bytes
+eight_low x = let z : x / 256 ^ 0 ≡ x = omega arith in from-byte 0 8 x ∙ ap (low_bytes 8) z

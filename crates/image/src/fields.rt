@@ -1,71 +1,98 @@
-// Numbers of two, four and eight bytes, and runs of bytes. A function that puts hands back the place after what it put.
-ghost use Rattle.std.specs.Prelude.{◌≡◌, ◌+◌, ◌≤◌, length, take, drop};
-ghost use Rattle.text.specs.Definition.Put.{Put};
-ghost use Rattle.image.specs.Definition.Image.{u16_bytes, low_bytes, u32_bytes, u64_bytes};
+// Fields as bytes, at their place: numbers, rows, and runs of bytes.
+ghost use Rattle.std.specs.Prelude.{◌≡◌, List, ℕ, ◌+◌, ◌*◌, ◌≤◌, length, drop};
+ghost use Rattle.text.specs.Definition.Put.{Puts, Room};
+ghost use Rattle.image.specs.Definition.Image.{u16_bytes, u32_bytes, u64_bytes, run_at, rows_bytes, rows_of};
+ghost use Rattle.image.specs.Within.{Told};
 
-use text::put;
+use text::Cursor;
 
-pub fn put_u16(x: u16, to: &mut [u8], at: usize) -> usize
-    requires { at + 2 ≤ length to.old }
-    ensures { Put to.old to.new at result (u16_bytes x) }
-{
-    let m = put(to, at, (x % 256) as u8);
-    put(to, m, (x / 256) as u8)
+// What has as many bytes at each value.
+pub trait Field: Copy {
+    const SIZE: usize;
+
+    ghost SIZE: { ℕ };
+
+    ghost bytes: { Self → List ℕ };
+
+    fn put(self, to: &mut Cursor)
+        requires { Room to.old SIZE }
+        ensures { Puts to.old to.new (bytes self) × (to.new.at ≡ to.old.at + SIZE) };
 }
 
-// The `count` lowest bytes of x, the lowest first.
-fn put_low(count: usize, x: u64, to: &mut [u8], at: usize) -> usize
-    requires { at + count ≤ length to.old }
-    ensures { Put to.old to.new at result (low_bytes count x) × (result ≡ at + count) }
-{
-    let mut rest = x;
-    let mut m = at;
-    let mut i: usize = 0;
-    while i < count {
-        m = put(to, m, (rest % 256) as u8);
-        rest = rest / 256;
-        i += 1;
+// What its bytes tell. `Full` says that a row's arrays have their types' lengths, which a law does not know.
+pub trait Row: Field {
+    ghost from: { List ℕ → Self };
+
+    ghost Full: { Self → Type 0 } = { λ _. Unit {0} };
+
+    fn read(image: &[u8], at: usize) -> Self
+        requires { at + Self.SIZE ≤ length image.now }
+        ensures { result ≡ from (drop at image.now) };
+
+    ghost told: { Told Self.SIZE Self.bytes from Full };
+}
+
+// The three numbers have an impl each: `to_le_bytes` gives an array of another length at each.
+impl Field for u16 {
+    const SIZE: usize = 2;
+
+    ghost SIZE = { 2 };
+
+    ghost bytes = { u16_bytes };
+
+    fn put(self, to: &mut Cursor) {
+        to.put_run(&self.to_le_bytes());
     }
-    m
 }
 
-pub fn put_u32(x: u32, to: &mut [u8], at: usize) -> usize
-    requires { at + 4 ≤ length to.old }
-    ensures { Put to.old to.new at result (u32_bytes x) × (result ≡ at + 4) }
-{
-    put_low(4, x as u64, to, at)
-}
+impl Field for u32 {
+    const SIZE: usize = 4;
 
-pub fn put_u64(x: u64, to: &mut [u8], at: usize) -> usize
-    requires { at + 8 ≤ length to.old }
-    ensures { Put to.old to.new at result (u64_bytes x) × (result ≡ at + 8) }
-{
-    put_low(8, x, to, at)
-}
+    ghost SIZE = { 4 };
 
-pub fn put_run(xs: &[u8], to: &mut [u8], at: usize) -> usize
-    requires { at + length xs.now ≤ length to.old }
-    ensures { Put to.old to.new at result xs.now }
-{
-    let mut m = at;
-    let mut i = 0;
-    while i < xs.len() {
-        m = put(to, m, xs[i]);
-        i += 1;
+    ghost bytes = { u32_bytes };
+
+    fn put(self, to: &mut Cursor) {
+        to.put_run(&self.to_le_bytes());
     }
-    m
 }
 
-// A name.
-pub fn name_at(image: &[u8], at: usize) -> [u8; 28]
-    requires { at + 28 ≤ length image.now }
-    ensures { result ≡ take 28 (drop at image.now) }
-{
-    let mut name = [0u8; 28];
-    let mut i = 0;
-    while i < 28 {
-        name[i] = image[at + i];
-        i += 1;
+impl Field for u64 {
+    const SIZE: usize = 8;
+
+    ghost SIZE = { 8 };
+
+    ghost bytes = { u64_bytes };
+
+    fn put(self, to: &mut Cursor) {
+        to.put_run(&self.to_le_bytes());
     }
-    name
+}
+
+// Fields of one type, one after the other.
+pub fn put_all<F: Field>(rows: &[F], to: &mut Cursor)
+    requires { Room to.old (F.SIZE * length rows.now) }
+    ensures { Puts to.old to.new (rows_bytes F.bytes rows.now) × (to.new.at ≡ to.old.at + F.SIZE * length rows.now) }
+{
+    for row in rows {
+        row.put(to);
+    }
+}
+
+// Rows from a place on, as many as there is room for.
+pub fn read_all<R: Row>(image: &[u8], at: usize, rows: &mut [R])
+    requires { at + R.SIZE * length rows.old ≤ length image.now }
+    ensures { rows.new ≡ rows_of R.from R.SIZE (length rows.old) (drop at image.now) }
+{
+    for (i, row) in rows.iter_mut().enumerate() {
+        *row = R::read(image, at + R::SIZE * i);
+    }
+}
+
+// A run of bytes.
+pub fn run_at<const N: usize>(image: &[u8], at: usize) -> [u8; N]
+    requires { at + N ≤ length image.now }
+    ensures { result ≡ run_at image.now at N }
+{
+    *image[at..].first_chunk().unwrap()
 }

@@ -1,40 +1,35 @@
 // The tables and an outcome as bytes.
 #![tactic(auto)]
 
-ghost use Rattle.std.specs.Prelude.{◌≡◌, ◌+◌, ◌≤◌, length};
-ghost use Rattle.text.specs.Definition.Put.{Put};
+ghost use Rattle.std.specs.Prelude.{◌≡◌, ◌+◌};
+ghost use Rattle.text.specs.Definition.Put.{Puts, Room};
 ghost use Rattle.image.specs.Definition.Image.{answer_bytes, outcome_bytes};
 
-use fields::{put_u16, put_u32};
+use fields::Field;
 use kernel::Answer;
+use text::Cursor;
 
 pub mod offsets; // where each field stands
-pub mod fields; // numbers of two, four and eight bytes, a run of bytes
-pub mod channels; // the rows of channels
-pub mod devices; // the rows of devices
+pub mod fields; // numbers, rows, and runs of bytes
+pub mod channels; // a row of channels
+pub mod devices; // a row of devices
 pub mod tables; // encode and decode
 
-fn wide(x: u8) -> u16
-    ensures { result ≡ x }
-{
-    x as u16
-}
-
 // An answer's number and values, two bytes each.
-fn put_answer(answer: Answer, to: &mut [u8], at: usize) -> usize
-    requires { at + 6 ≤ length to.old }
-    ensures { Put to.old to.new at result (answer_bytes answer) × (result ≡ at + 6) }
+fn put_answer(answer: Answer, to: &mut Cursor)
+    requires { Room to.old 6 }
+    ensures { Puts to.old to.new (answer_bytes answer) }
 {
-    let m = put_u16(wide(answer.number()), to, at);
-    let m = put_u16(wide(answer.a()), to, m);
-    put_u16(answer.b(), to, m)
+    u16::from(answer.number()).put(to);
+    u16::from(answer.a()).put(to);
+    answer.b().put(to);
 }
 
 // An answer, and in four bytes how many bytes the call moved.
-pub fn put_outcome(answer: Answer, moved: u32, to: &mut [u8], at: usize) -> usize
-    requires { at + 10 ≤ length to.old }
-    ensures { Put to.old to.new at result (outcome_bytes answer moved) × (result ≡ at + 10) }
+pub fn put_outcome(answer: Answer, moved: u32, to: &mut Cursor)
+    requires { Room to.old 10 }
+    ensures { Puts to.old to.new (outcome_bytes answer moved) × (to.new.at ≡ to.old.at + 10) }
 {
-    let m = put_answer(answer, to, at);
-    put_u32(moved, to, m)
+    put_answer(answer, to);
+    moved.put(to);
 }

@@ -1,72 +1,68 @@
 // The tables to their image and back.
 ghost use Rattle.std.specs.Prelude.{◌≡◌, length};
-ghost use Rattle.text.specs.Definition.Put.{Put};
 ghost use Rattle.image.specs.Definition.Offsets.{SEGMENTS, USER, OPENED, NAME, SIZE};
+ghost use Rattle.image.specs.Within.{Stands, Lays};
 ghost use Rattle.image.specs.Definition.Image.{segment_bytes, boundary_bytes, row_bytes, default_bytes, image_of, tables_of};
 
-use super::channels::{channels_at, put_channels};
-use super::devices::{devices_at, put_devices};
-use super::fields::{name_at, put_run, put_u16};
+use super::fields::{Field, put_all, read_all, run_at};
 use super::offsets;
 use events::fields::u16_at;
 use kernel::Tables;
-use rows::segments::lay;
-use text::put;
+use rows::channels::NO_CHANNEL;
+use rows::devices::NO_DEVICE;
+use text::Cursor;
 
-fn put_segments(t: Tables, image: &mut [u8])
-    requires { length image.old ≡ SIZE }
-    ensures { Put image.old image.new SEGMENTS USER (segment_bytes t) }
+fn put_segments(t: &Tables, to: &mut Cursor)
+    requires { Stands to.old SEGMENTS }
+    ensures { Lays to.old to.new (segment_bytes t.now) USER }
 {
-    let list = t.list;
-    let classes = t.classes;
-    let chain = t.chain;
-    let m = put(image, offsets::SEGMENTS, t.segments);
-    let m = put_run(&list, image, m);
-    let m = put_run(&classes, image, m);
-    let m = put(image, m, t.held);
-    put_run(&chain, image, m);
+    to.put(t.segments);
+    to.put_run(&t.list);
+    to.put_run(&t.classes);
+    to.put(t.held);
+    to.put_run(&t.chain);
 }
 
-fn put_boundaries(t: Tables, image: &mut [u8])
-    requires { length image.old ≡ SIZE }
-    ensures { Put image.old image.new USER OPENED (boundary_bytes t) }
+fn put_boundaries(t: &Tables, to: &mut Cursor)
+    requires { Stands to.old USER }
+    ensures { Lays to.old to.new (boundary_bytes t.now) OPENED }
 {
-    let m = put_u16(t.user, image, offsets::USER);
-    let m = put_u16(t.room, image, m);
-    put_u16(t.cold, image, m);
+    t.user.put(to);
+    t.room.put(to);
+    t.cold.put(to);
 }
 
-fn put_rows(t: Tables, image: &mut [u8])
-    requires { length image.old ≡ SIZE }
-    ensures { Put image.old image.new OPENED NAME (row_bytes t) }
+fn put_rows(t: &Tables, to: &mut Cursor)
+    requires { Stands to.old OPENED }
+    ensures { Lays to.old to.new (row_bytes t.now) NAME }
 {
-    let channels = t.channels;
-    let devices = t.devices;
-    let m = put(image, offsets::OPENED, t.opened);
-    let m = put_channels(channels, image, m);
-    let m = put(image, m, t.known);
-    put_devices(devices, image, m);
+    to.put(t.opened);
+    put_all(&t.channels, to);
+    to.put(t.known);
+    put_all(&t.devices, to);
 }
 
-fn put_default(t: Tables, image: &mut [u8])
-    requires { length image.old ≡ SIZE }
-    ensures { Put image.old image.new NAME SIZE (default_bytes t) }
+fn put_default(t: &Tables, to: &mut Cursor)
+    requires { Stands to.old NAME }
+    ensures { Lays to.old to.new (default_bytes t.now) SIZE }
 {
-    let name = t.name;
-    let m = put_run(&name, image, offsets::NAME);
-    let m = put(image, m, t.length);
-    put(image, m, t.unit);
+    to.put_run(&t.name);
+    to.put_run(&[t.length, t.unit]);
 }
 
 // The image of the tables.
-pub fn encode(t: Tables, image: &mut [u8])
+pub fn encode(t: &Tables, image: &mut [u8])
     requires { length image.old ≡ SIZE }
-    ensures { image.new ≡ image_of t }
+    ensures { image.new ≡ image_of t.now }
 {
-    put_segments(t, image);
-    put_boundaries(t, image);
-    put_rows(t, image);
-    put_default(t, image);
+    let mut to = Cursor {
+        text: image,
+        at: offsets::SEGMENTS,
+    };
+    put_segments(t, &mut to);
+    put_boundaries(t, &mut to);
+    put_rows(t, &mut to);
+    put_default(t, &mut to);
 }
 
 // The tables that an image holds.
@@ -74,18 +70,16 @@ pub fn decode(image: &[u8]) -> Tables
     requires { length image.now ≡ SIZE }
     ensures { result ≡ tables_of image.now }
 {
-    let list = lay(&image[offsets::LIST..offsets::CLASSES]);
-    let classes = lay(&image[offsets::CLASSES..offsets::HELD]);
-    let chain = lay(&image[offsets::CHAIN..offsets::USER]);
-    let channels = channels_at(image, offsets::CHANNELS);
-    let devices = devices_at(image, offsets::DEVICES);
-    let name = name_at(image, offsets::NAME);
+    let mut channels = [NO_CHANNEL; 32];
+    read_all(image, offsets::CHANNELS, &mut channels);
+    let mut devices = [NO_DEVICE; 16];
+    read_all(image, offsets::DEVICES, &mut devices);
     Tables {
         segments: image[offsets::SEGMENTS],
-        list,
-        classes,
+        list: run_at(image, offsets::LIST),
+        classes: run_at(image, offsets::CLASSES),
         held: image[offsets::HELD],
-        chain,
+        chain: run_at(image, offsets::CHAIN),
         user: u16_at(image, offsets::USER),
         room: u16_at(image, offsets::ROOM),
         cold: u16_at(image, offsets::COLD),
@@ -93,7 +87,7 @@ pub fn decode(image: &[u8]) -> Tables
         channels,
         known: image[offsets::KNOWN],
         devices,
-        name,
+        name: run_at(image, offsets::NAME),
         length: image[offsets::LENGTH],
         unit: image[offsets::UNIT],
     }

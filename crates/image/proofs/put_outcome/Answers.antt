@@ -1,10 +1,10 @@
 -- `put_outcome` puts ten bytes.
 use Rattle.std.proofs.Common.{arith}
-use Rattle.text.specs.Laws.Text.{put_then}
+use Rattle.text.specs.Laws.Text.{puts_then}
 use Rattle.image.proofs.put_outcome.Goals as goal
 
 pub returns : goal.returns
 returns c =
-    let answer = c.put_answer-m.ensures in
-    let moved = c.put_u32.ensures in
-    (put_then answer.0 moved.0, omega (arith, answer.1, moved.1))
+    let p = c.put_answer.ensures in
+    let q = c.put.ensures in
+    (puts_then p q.0, omega (arith, p.put.stop, q.1))

@@ -1,0 +1,9 @@
+use Rattle.std.proofs.Common.{arith}
+use Rattle.text.specs.Laws.Text.{puts_then}
+use Rattle.image.proofs.channels.ChannelField.put.Goals as goal
+
+pub returns : goal.returns
+returns c =
+    let p = c.put_run.ensures in
+    let q = c.put.ensures in
+    (puts_then p q.0, omega (arith, p.put.stop, q.1))
