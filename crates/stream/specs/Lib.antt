@@ -1,4 +1,3 @@
--- The stream that is compared: the definition, words for functions within, and laws.
+-- The stream that is compared: the definition, and the laws about it.
 pub mod Definition
-pub mod Within
 pub mod Laws

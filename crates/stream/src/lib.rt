@@ -5,7 +5,7 @@ use kernel::Tables;
 
 pub mod bytes; // numbers of four bytes
 pub mod digest; // the digest of bytes
-pub mod fill; // bytes by a seed, and bytes that are all the same
+pub mod fill; // bytes by a seed
 pub mod requests; // where a request ends
 pub mod asked; // what comes of a request's record
 pub mod replies; // a request's call, and the reply to it
@@ -25,10 +25,9 @@ pub struct Request {
     pub end: usize,
 }
 
-// What bytes begin with.
+// Why bytes begin with no whole request: some of it is still to come, or it is none.
 #[derive(Clone, Copy)]
-pub enum Found {
-    Whole(Request),
+pub enum NoRequest {
     Part,
     Bad,
 }

@@ -1,31 +1,30 @@
 // What a request brings, and the reply to it.
 ghost use Rattle.std.specs.Prelude.{◌≡◌, ◌+◌, ◌≤◌, ◌<◌, length};
 ghost use Rattle.kernel.specs.Definition.Step.{result_of};
-ghost use Rattle.kernel.specs.Definition.Lend.{part_on};
-ghost use Rattle.text.specs.Definition.Put.{Put};
+ghost use Rattle.text.specs.Definition.Put.{Puts, Room};
 ghost use Rattle.image.specs.Definition.Image.{image_of};
 ghost use Rattle.stream.specs.Definition.Digest.{digest_of};
 ghost use Rattle.stream.specs.Definition.Numbers.{u32_at};
 ghost use Rattle.stream.specs.Definition.Requests.{RAM, CALL};
-ghost use Rattle.stream.specs.Definition.Replies.{Replied, Brought, channel_in, start_of, lent_bytes, reply_bytes};
+ghost use Rattle.stream.specs.Definition.Replies.{Replied, Brought, channel_in, lent_bytes, reply_bytes};
 
 use super::Machine;
 use super::asked::ask;
 use super::bytes::u32_at;
 use super::digest::digest;
-use super::fill::{blank, fill};
+use super::fill::fill;
 use super::requests::{IMAGE, RAM, SEED};
-use image::fields::put_u64;
+use image::fields::Field;
 use image::offsets::SIZE;
 use image::put_outcome;
 use image::tables::{decode, encode};
 use kernel::{Outcome, Tables};
-use line::Lent;
+use text::Cursor;
 
-fn image_digest(t: Tables) -> u64
-    ensures { result ≡ digest_of (image_of t) }
+fn image_digest(t: &Tables) -> u64
+    ensures { result ≡ digest_of (image_of t.now) }
 {
-    let mut image = [0u8; SIZE];
+    let mut image = [0; SIZE];
     encode(t, &mut image);
     digest(&image)
 }
@@ -34,51 +33,29 @@ fn image_digest(t: Tables) -> u64
 fn channel_in(record: &[u8]) -> u8
     ensures { result ≡ channel_in «record».now }
 {
-    if record.len() < 3 {
-        return 0;
-    }
-    record[2]
-}
-
-// Where the part that is lent starts.
-fn start_of(lent: Lent) -> u64
-    ensures { result ≡ start_of lent }
-{
-    match lent {
-        Lent::Part { at } => at as u64,
-        Lent::Nothing => 0,
-    }
-}
-
-// The digest of the buffer lent on.
-fn lent_digest(t: Tables, ram: &[u8], channel: u8) -> u64
-    ensures { result ≡ digest_of (part_on t ram.now channel) }
-{
-    let part = t.lend(ram, channel);
-    digest(part)
+    record.get(2).copied().unwrap_or(0)
 }
 
 // Where a channel's buffer is lent on, and its digest.
-fn put_lent(t: Tables, ram: &[u8], channel: u8, text: &mut [u8], at: usize) -> usize
-    requires { at + 16 ≤ length text.old }
-    ensures { Put text.old text.new at result (lent_bytes t ram.now channel) × (result ≡ at + 16) }
+fn put_lent(t: &Tables, ram: &[u8], channel: u8, to: &mut Cursor)
+    requires { Room to.old 16 }
+    ensures { Puts to.old to.new (lent_bytes t.now ram.now channel) × (to.new.at ≡ to.old.at + 16) }
 {
-    let m = put_u64(start_of(t.lent(ram, channel)), text, at);
-    put_u64(lent_digest(t, ram, channel), text, m)
+    let start = t.lent(ram, channel).unwrap_or(0) as u64;
+    start.put(to);
+    digest(t.lend(ram, channel)).put(to);
 }
 
 // The answer and the bytes moved, the digests of the image, of the RAM and of the output, and a channel's buffer lent on.
-fn put_reply(o: Outcome, ram: &[u8], out: &[u8], channel: u8, text: &mut [u8], at: usize) -> usize
-    requires { at + 50 ≤ length text.old }
-    ensures { Put text.old text.new at result (reply_bytes (result_of o ram.now out.now) channel) × (result ≡ at + 50) }
+fn put_reply(o: &Outcome, ram: &[u8], out: &[u8], channel: u8, to: &mut Cursor)
+    requires { Room to.old 50 }
+    ensures { Puts to.old to.new (reply_bytes (result_of o.now ram.now out.now) channel) × (to.new.at ≡ to.old.at + 50) }
 {
-    let answer = o.answer;
-    let next = o.tables;
-    let m = put_outcome(answer, o.moved, text, at);
-    let m = put_u64(image_digest(next), text, m);
-    let m = put_u64(digest(ram), text, m);
-    let m = put_u64(digest(out), text, m);
-    put_lent(next, ram, channel, text, m)
+    put_outcome(o.answer, o.moved, to);
+    image_digest(&o.tables).put(to);
+    digest(ram).put(to);
+    digest(out).put(to);
+    put_lent(&o.tables, ram, channel, to);
 }
 
 // What comes of a record on an output that is all 165: the next tables, and 50 bytes of reply.
@@ -88,15 +65,14 @@ pub fn reply(
     ram: &mut [u8],
     record: &[u8],
     out: &mut [u8],
-    text: &mut [u8],
-    at: usize,
+    to: &mut Cursor,
 ) -> Tables
-    requires { (2 ≤ length «record».now) × (length out.old < 65536) × (at + 50 ≤ length text.old) }
-    ensures { Replied first t ram.old «record».now out.old text.old at result ram.new out.new text.new }
+    requires { (2 ≤ length «record».now) × (length out.old < 65536) × Room to.old 50 }
+    ensures { Replied first t ram.old «record».now out.old to.old result ram.new out.new to.new }
 {
-    blank(out, 165);
+    out.fill(165);
     let o = ask(first, t, ram, record, out);
-    put_reply(o, ram, out, channel_in(record), text, at);
+    put_reply(&o, ram, out, channel_in(record), to);
     o.tables
 }
 

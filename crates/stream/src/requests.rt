@@ -2,8 +2,8 @@
 ghost use Rattle.std.specs.Prelude.{◌≡◌, ◌≤◌};
 ghost use Rattle.stream.specs.Definition.Requests.{CALL, call_at, request_in, CallLiesIn, LiesIn};
 
-use super::bytes::{u32_at, wide};
-use super::{Found, Request};
+use super::bytes::u32_at;
+use super::{NoRequest, Request};
 use events::fields::u16_at;
 use image::offsets::SIZE;
 
@@ -17,46 +17,42 @@ pub const SEED: usize = RAM + 4;
 pub const CALL: usize = SEED + 4;
 
 // The output's length, the record's length and the record.
-fn call_at(bytes: &[u8], at: usize) -> Found
+#[tactic(auto, unfolding(crate::specs::Definition::Requests::call_at))]
+fn call_at(bytes: &[u8], at: usize) -> Result<Request, NoRequest>
     requires { at ≤ CALL }
     ensures { (result ≡ call_at bytes.now at) × CallLiesIn bytes.now result }
 {
     let start = at + 4;
     if bytes.len() < start {
-        return Found::Part;
+        return Err(NoRequest::Part);
     }
-    let out = wide(u16_at(bytes, at));
-    let end = start + wide(u16_at(bytes, at + 2));
+    let out = usize::from(u16_at(bytes, at));
+    let end = start + usize::from(u16_at(bytes, at + 2));
     if end < start + 2 {
-        return Found::Bad;
+        return Err(NoRequest::Bad);
     }
     if bytes.len() < end {
-        return Found::Part;
+        return Err(NoRequest::Part);
     }
-    Found::Whole(Request { out, start, end })
+    Ok(Request { out, start, end })
 }
 
-pub fn request(bytes: &[u8]) -> Found
+#[tactic(auto, unfolding(crate::specs::Definition::Requests::request_in))]
+pub fn request(bytes: &[u8]) -> Result<Request, NoRequest>
     ensures { (result ≡ request_in bytes.now) × LiesIn bytes.now result }
 {
-    if bytes.len() < 1 {
-        return Found::Part;
+    match bytes.first() {
+        None => Err(NoRequest::Part),
+        Some(0 | 2) => call_at(bytes, 1),
+        Some(1) => {
+            if bytes.len() < CALL {
+                return Err(NoRequest::Part);
+            }
+            if 524288 < u32_at(bytes, RAM) {
+                return Err(NoRequest::Bad);
+            }
+            call_at(bytes, CALL)
+        }
+        Some(_) => Err(NoRequest::Bad),
     }
-    let first = bytes[0];
-    if first == 0 {
-        return call_at(bytes, 1);
-    }
-    if first == 2 {
-        return call_at(bytes, 1);
-    }
-    if first != 1 {
-        return Found::Bad;
-    }
-    if bytes.len() < CALL {
-        return Found::Part;
-    }
-    if 524288 < u32_at(bytes, RAM) {
-        return Found::Bad;
-    }
-    call_at(bytes, CALL)
 }

@@ -1,11 +1,10 @@
 -- What a request brings, what comes of its record, and the reply to it.
-use Rattle.std.specs.Prelude.{◌≡◌, List, ◌++◌, ℕ, ◌+◌, length, take, drop, replicate}
+use Rattle.std.specs.Prelude.{◌≡◌, List, ◌++◌, ℕ, ◌+◌, length, take, drop, replicate, Option, unwrap_or}
 use Rattle.kernel.specs.Definition.Step.{Result}
 use Rattle.kernel.specs.declared.Tables.{Tables}
 use Rattle.kernel.specs.Definition.Lend.{lent_on, part_on}
-use Rattle.line.specs.declared.Lent.{Lent}
-use Rattle.line.specs.declared.Lent.TheVariants.{Part, Nothing}
-use Rattle.text.specs.Definition.Put.{Put}
+use Rattle.text.specs.Definition.Put.{Puts}
+use Rattle.text.specs.declared.Cursor.{Cursor}
 use Rattle.events.specs.Definition.Records.{u8_at}
 use Rattle.image.specs.Definition.Offsets.{SIZE}
 use Rattle.image.specs.Definition.Image.{run_at, u64_bytes, image_of, tables_of, outcome_bytes}
@@ -32,9 +31,8 @@ abbrev pub channel_in : (event : List ℕ) → ℕ
 channel_in event = u8_at event 2
 
 -- where the part that is lent starts, 0 where nothing is lent: no part starts there, in the page zero segment
-abbrev pub start_of : Lent → ℕ
-start_of (Part at) = at
-start_of Nothing = 0
+abbrev pub start_of : Option ℕ → ℕ
+start_of lent = unwrap_or lent 0
 
 -- of a channel's buffer lent on: where its part of the RAM starts, and its digest
 abbrev pub lent_bytes : Tables → (ram : List ℕ) (channel : ℕ) → List ℕ
@@ -45,9 +43,10 @@ abbrev pub reply_bytes : Result → (channel : ℕ) → List ℕ
 reply_bytes s channel =
     outcome_bytes s.answer s.moved ++ u64_bytes (digest_of (image_of s.tables)) ++ u64_bytes (digest_of s.ram) ++ u64_bytes (digest_of s.output) ++ lent_bytes s.tables s.ram channel
 
--- what a request leaves, with the accents, and its reply in a text
-pub record Replied (first : ℕ) (t : Tables) (ram event out text : List ℕ) (at : ℕ) (t' : Tables) (ram' out' text' : List ℕ) : Type 0 where
+-- what a request leaves, with the accents, and its reply at a cursor
+pub record Replied (first : ℕ) (t : Tables) (ram event out : List ℕ) (to : Cursor) (t' : Tables) (ram' out' : List ℕ) (to' : Cursor) : Type 0 where
   pub tables-is : t' ≡ (asked_blank first t ram event (length out)).tables
   pub ram-is : ram' ≡ (asked_blank first t ram event (length out)).ram
   pub out-is : out' ≡ (asked_blank first t ram event (length out)).output
-  pub reply-is : Put text text' at (at + 50) (reply_bytes (asked_blank first t ram event (length out)) (channel_in event))
+  pub reply-is : Puts to to' (reply_bytes (asked_blank first t ram event (length out)) (channel_in event))
+  pub fifty : to'.at ≡ to.at + 50

@@ -2,6 +2,7 @@
 use Rattle.std.specs.Prelude.{◌≡◌, List, ℕ}
 use Rattle.std.proofs.Common.{sym, ap, ◌∙◌}
 use Rattle.kernel.specs.declared.Tables.{Tables}
+use Rattle.text.specs.declared.Cursor.{Cursor}
 use Rattle.text.specs.Laws.One.{one-buffer, one-put}
 use Rattle.stream.specs.Definition.Replies.{Brought, Replied}
 use Rattle.stream.specs.declared.Machine.{Machine}
@@ -14,8 +15,8 @@ one-brought {ram} {bytes} {ram'} {ram''} {m} {n} p q =
       one-buffer m.size (p.ram-is ∙ sym (rw (← e) at q.ram-is)) (p.behind ∙ sym (rw (← e) at q.behind)),
     )
 
-pub one-replied : {first : ℕ} {t t' t'' : Tables} {ram event out text ram' out' text' ram'' out'' text'' : List ℕ} {at : ℕ}
-    → Replied first t ram event out text at t' ram' out' text' → Replied first t ram event out text at t'' ram'' out'' text''
-    → (t' ≡ t'') × (ram' ≡ ram'') × (out' ≡ out'') × (text' ≡ text'')
+pub one-replied : {first : ℕ} {t t' t'' : Tables} {ram event out ram' out' ram'' out'' : List ℕ} {to to' to'' : Cursor}
+    → Replied first t ram event out to t' ram' out' to' → Replied first t ram event out to t'' ram'' out'' to''
+    → (t' ≡ t'') × (ram' ≡ ram'') × (out' ≡ out'') × (to'.text.now ≡ to''.text.now) × (to'.at ≡ to''.at)
 one-replied p q =
-    (p.tables-is ∙ sym q.tables-is, p.ram-is ∙ sym q.ram-is, p.out-is ∙ sym q.out-is, (one-put p.reply-is q.reply-is).0)
+    (p.tables-is ∙ sym q.tables-is, p.ram-is ∙ sym q.ram-is, p.out-is ∙ sym q.out-is, (one-put p.reply-is.put q.reply-is.put).0, (one-put p.reply-is.put q.reply-is.put).1)

@@ -10,7 +10,7 @@ returns c =
     let f = c.fill in
     record {
       tables-is = c.decode.ensures;
-      size_is = size.ensures.0;
-      ram-is = filled c.args.ram.now f.new.ram (drop size.result c.args.ram.now) size.result seed.result _ _ (omega (arith, c.requires.1, size.ensures.0)) f.ensures size.ensures.0 seed.ensures.0;
-      behind = behind c.args.ram.now f.new.ram (drop size.result c.args.ram.now) size.result seed.result (omega (arith, c.requires.1, size.ensures.0)) f.ensures;
+      size_is = size.ensures;
+      ram-is = filled c.args.ram.now f.new.ram (drop size.result c.args.ram.now) size.result seed.result _ _ (omega (arith, c.requires.1, size.ensures)) f.ensures size.ensures seed.ensures;
+      behind = behind c.args.ram.now f.new.ram (drop size.result c.args.ram.now) size.result seed.result (omega (arith, c.requires.1, size.ensures)) f.ensures;
     }
