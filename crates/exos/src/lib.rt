@@ -4,42 +4,53 @@
 ghost use Rattle.std.specs.Prelude.{◌≡◌, length};
 ghost use Rattle.kernel.specs.Definition.Answers as answers;
 ghost use Rattle.image.specs.Definition.Offsets.{SIZE};
+ghost use Rattle.image.specs.Definition.Image.{outcome_bytes};
 ghost use Rattle.exos.specs.Definition.Call.{image_after, Called};
 ghost use Rattle.exos.specs.Definition.Replays.{Replays};
 ghost use Rattle.exos.specs.Definition.Modules.{written_bytes, WritesModule};
-ghost use Rattle.writer.specs.Definition.Writing.{answer_number, written_of};
+ghost use Rattle.writer.specs.Definition.Writing.{answer_number};
 
 use events::call;
 use events::fields::u16_at;
-use image::fields::{put_u16, put_u64};
+use image::fields::Field;
 use image::offsets::SIZE;
 use image::put_outcome;
 use image::tables::{decode, encode};
-use kernel::{Answer, Tables};
+use kernel::{Answer, Outcome, Tables};
 use replay::replay;
+use text::Cursor;
+use writer::Refusal;
 use writer::write::write_module;
-use writer::{Reply, Written};
 
 // "0 is done. 17 SHARED is a grant".
 fn granted(answer: Answer) -> bool
     ensures { result ≡ answers.granted answer }
 {
-    let n = answer.number();
-    (n == 0) | (n == 17)
+    matches!(answer, Answer::Done(_, _) | Answer::Shared(_, _))
 }
 
 // The image of the next tables where the call was done; a refused call leaves every byte.
-fn write_back(answer: Answer, next: Tables, image: &mut [u8])
+fn write_back(o: &Outcome, image: &mut [u8])
     requires { length image.old ≡ SIZE }
-    ensures { image.new ≡ image_after answer next image.old }
+    ensures { image.new ≡ image_after o.now.answer o.now.tables image.old }
 {
-    if !granted(answer) {
-        return;
+    if granted(o.answer) {
+        encode(&o.tables, image);
     }
-    encode(next, image);
+}
+
+// An outcome as ten bytes.
+#[tactic(auto, using(text::specs::Laws::Text::handed, image::specs::Laws::Bytes::whole))]
+fn put_reply(answer: Answer, moved: u32, reply: &mut [u8])
+    requires { length reply.old ≡ 10 }
+    ensures { reply.new ≡ outcome_bytes answer moved }
+{
+    let mut to = Cursor { text: reply, at: 0 };
+    put_outcome(answer, moved, &mut to);
 }
 
 // One call, on the image of the tables. False, and nothing changed, where a length is wrong.
+#[tactic(auto, using(image::specs::Laws::Bytes::body_is), unfolding(crate::specs::Definition::Call::fits))]
 #[unsafe(no_mangle)]
 pub extern "C" fn exos_call(
     image: &mut [u8],
@@ -50,24 +61,12 @@ pub extern "C" fn exos_call(
 ) -> bool
     ensures { Called image.old ram.old «record».now out.old reply.old image.new ram.new out.new reply.new result }
 {
-    if image.len() != SIZE {
+    if image.len() != SIZE || record.len() < 2 || 4096 < record.len() || reply.len() != 10 {
         return false;
     }
-    if record.len() < 2 {
-        return false;
-    }
-    if 4096 < record.len() {
-        return false;
-    }
-    if reply.len() != 10 {
-        return false;
-    }
-    let kind = u16_at(record, 0);
-    let o = call(decode(image), ram, kind, &record[2..], out);
-    let answer = o.answer;
-    let next = o.tables;
-    write_back(answer, next, image);
-    put_outcome(answer, o.moved, reply, 0);
+    let o = call(decode(image), ram, u16_at(record, 0), &record[2..], out);
+    write_back(&o, image);
+    put_reply(o.answer, o.moved, reply);
     true
 }
 
@@ -80,9 +79,7 @@ fn replay_log(ram: &mut [u8], out: &mut [u8], log: &[u8], reply: &mut [u8], hold
         return 0;
     }
     let r = replay(Tables::none(), ram, out, log, hold);
-    let o = r.last;
-    let answer = o.answer;
-    put_outcome(answer, o.moved, reply, 0);
+    put_reply(r.last.answer, r.last.moved, reply);
     r.taken
 }
 
@@ -107,39 +104,33 @@ pub extern "C" fn exos_replay_tested(
     replay_log(ram, out, log, reply, false)
 }
 
-// An answer of the writer: its number.
-fn number_of(written: Written) -> u16
+// The number of an answer of the writer.
+fn number_of(written: Result<usize, Refusal>) -> u16
     ensures { result ≡ answer_number written }
 {
     match written {
-        Written::Done(_) => 0,
-        Written::Page => 20,
-        Written::Range => 13,
-    }
-}
-
-// The bytes written.
-fn bytes_of(written: Written) -> u64
-    ensures { result ≡ written_of written }
-{
-    match written {
-        Written::Done(n) => n as u64,
-        Written::Page => 0,
-        Written::Range => 0,
+        Ok(_) => 0,
+        Err(Refusal::Page) => 20,
+        Err(Refusal::Range) => 13,
+        // answered with false before: nothing asks for it
+        Err(Refusal::NoStart | Refusal::NoList(_)) => 2,
     }
 }
 
 // The answer as ten bytes.
-fn put_written(written: Written, reply: &mut [u8])
+#[tactic(auto, using(text::specs::Laws::Text::puts_then, text::specs::Laws::Text::handed, image::specs::Laws::Bytes::whole))]
+fn put_written(written: Result<usize, Refusal>, reply: &mut [u8])
     requires { length reply.old ≡ 10 }
     ensures { reply.new ≡ written_bytes written }
 {
-    let m = put_u16(number_of(written), reply, 0);
-    put_u64(bytes_of(written), reply, m);
+    let mut to = Cursor { text: reply, at: 0 };
+    number_of(written).put(&mut to);
+    (written.unwrap_or(0) as u64).put(&mut to);
 }
 
 // The module of a list of items, from a start page and offset, into a buffer of any length. False, and nothing changed, where the bytes are no list of items or the reply's
 // length is wrong.
+#[tactic(auto, unfolding(writer::specs::Definition::Writing::answer_to))]
 #[unsafe(no_mangle)]
 pub extern "C" fn exos_write_module(
     page: u8,
@@ -153,11 +144,9 @@ pub extern "C" fn exos_write_module(
     if reply.len() != 10 {
         return false;
     }
-    let heard = write_module(page, offset, items, buffer);
-    match heard {
-        Reply::NoStart => false,
-        Reply::NoList(_) => false,
-        Reply::Answered(written) => {
+    match write_module(page, offset, items, buffer) {
+        Err(Refusal::NoStart | Refusal::NoList(_)) => false,
+        written => {
             put_written(written, reply);
             true
         }

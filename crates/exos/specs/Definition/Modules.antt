@@ -1,17 +1,17 @@
 -- The writer of modules over bytes: items of three bytes each, a buffer, and ten bytes of reply.
-use Rattle.std.specs.Prelude.{◌≡◌, Bool, true, false, List, ◌++◌, ℕ, eqb, length}
+use Rattle.std.specs.Prelude.{◌≡◌, Bool, true, false, List, ◌++◌, ℕ, eqb, length, Result}
 use Rattle.modules.specs.declared.Item.{Item}
 use Rattle.image.specs.Definition.Image.{u16_bytes, u64_bytes}
 use Rattle.writer.specs.Definition.Entries.{Listed, all, flawed, listed}
 use Rattle.writer.specs.Definition.Writing.{answer_to, put_by, answer_number, written_of}
-use Rattle.writer.specs.declared.Written.{Written}
+use Rattle.writer.specs.declared.Refusal.{Refusal}
 
 -- the answer's number in two bytes, and the bytes written in eight
-abbrev pub written_bytes : Written → List ℕ
+abbrev pub written_bytes : Result ℕ Refusal → List ℕ
 written_bytes w = u16_bytes (answer_number w) ++ u64_bytes (written_of w)
 
 -- what an answer leaves, with the accents
-pub record Answers (w : Written) (items : List Item) (buffer buffer' reply' : List ℕ) : Type 0 where
+pub record Answers (w : Result ℕ Refusal) (items : List Item) (buffer buffer' reply' : List ℕ) : Type 0 where
   pub buffer-is : buffer' ≡ put_by w items buffer
   pub reply-is : reply' ≡ written_bytes w
 
