@@ -1,25 +1,22 @@
 // The auditing program: reads a maker's log from standard input, prints the verdict, and tells on descriptor 3 how it ended.
 #![tactic(auto)]
 
-ghost use Rattle.std.specs.Prelude.{◌≡◌, ◌+◌, ◌-◌, ◌≤◌, ◌<◌, ◌^◌, length, take, drop};
-ghost use Rattle.files.specs.declared.Wrote.{Wrote};
-ghost use Rattle.listing.specs.Definition.NoneOrGood.{NoneOrGood};
+ghost use Rattle.std.specs.Prelude.{◌≡◌, ◌+◌, ◌≤◌, ◌<◌, ◌^◌};
+ghost use Rattle.files.specs.Definition.Outcomes.{Got, Wrote};
 ghost use Rattle.audit.specs.Definition.Words.{line_of};
-ghost use Rattle.exos_audit.specs.Definition.Turns.{Held, course_of, is_going, Fetched, Turned};
-ghost use Rattle.exos_audit.specs.Definition.Ends.{end_of, told, byte_for, byte_of};
+ghost use Rattle.exos_audit.specs.Definition.Turns.{Held, in_hand, course_of, Fetched, Turned};
+ghost use Rattle.exos_audit.specs.Definition.Ends.{failure_of, end_of, told, byte_of};
 
 use audit::buffers::judge;
 use audit::logs::end;
 use audit::words::put_verdict;
-use audit::{Due, Stop, Verdict, Word};
-use files::{Got, Wrote, count_of, read_on, write_named, write_to};
+use audit::{Due, Fault, Verdict, Word};
+use files::{ReadFailed, TOLD, Unwritten, read_on, write_named, write_to};
 use kernel::Tables;
-
-// The descriptor on which the end is told, by one byte.
-const TOLD: &str = "/proc/self/fd/3";
+use text::Cursor;
 
 // The most turns, 2^47: so few that the number of a record fits 64 bits (docs/DECISIONS.md, 76).
-const TURNS: u64 = 140737488355328;
+const TURNS: u64 = 1 << 47;
 
 // How the run goes on: with a turn, or the input is over, or a read failed, or a record is at fault.
 #[derive(Clone, Copy)]
@@ -41,87 +38,55 @@ pub struct State {
     pub course: Course,
 }
 
-// How a run ends: this verdict is printed, or a read or a write failed, or the reader of the verdict has ended.
+// Why no verdict is printed: a read or a write failed, or the reader of the verdict has ended.
 #[derive(Clone, Copy)]
-pub enum End {
-    Told(Verdict),
+pub enum Failure {
     ReadFailed,
     WriteFailed,
     ReaderEnded,
 }
 
+// exos_answer and exos_module have the like: one type of these three ends is no plainer, since those programs have more ends and would wrap it.
+impl From<Unwritten> for Failure {
+    ghost from_gives = { λ why failure. failure ≡ failure_of why };
+
+    fn from(why: Unwritten) -> Failure {
+        match why {
+            Unwritten::Failed(_) => Failure::WriteFailed,
+            Unwritten::Closed(_) => Failure::ReaderEnded,
+        }
+    }
+}
+
 // How the run goes on after a read.
-fn course_of(got: Got) -> Course
+fn course_of(got: Result<usize, ReadFailed>) -> Course
     ensures { result ≡ course_of got }
 {
     match got {
-        Got::Bytes(_) => Course::Going,
-        Got::Over => Course::Over,
-        Got::Failed => Course::Broken,
+        Ok(0) => Course::Over,
+        Ok(_) => Course::Going,
+        Err(_) => Course::Broken,
     }
 }
 
 // Keeps what is left of the buffer, and reads on.
-fn fetch(
-    rt: &HostRuntime,
-    tables: Tables,
-    due: Due,
-    number: usize,
-    buf: &mut [u8],
-    start: usize,
-    filled: usize,
-) -> State
-    requires { NoneOrGood tables × (start ≤ filled) × (filled ≤ length buf.old) × (filled < start + length buf.old) }
-    ensures { ((got : Got) × Fetched (take (filled - start) (drop start buf.old)) result buf.new got) × (result.tables ≡ tables) × (result.due ≡ due) × (result.number ≡ number) × Held result (length buf.new) }
+// exos_list has its like: one for both is no plainer, since what they share is `read_on`, and the State and the Course are each program's own.
+fn fetch(rt: &HostRuntime, s: State, buf: &mut [u8; 69634]) -> State
+    requires { Held s 69634 × (s.filled < s.from + 69634) }
+    ensures { ((got : Got) × Fetched (in_hand s buf.old) result buf.new got) × (result.tables ≡ s.tables) × (result.due ≡ s.due) × (result.number ≡ s.number) × Held result 69634 }
 {
-    let left = filled - start;
-    let got = read_on(&mut rt.stdin(), buf, start, filled);
+    let left = s.filled - s.from;
+    let got = read_on(&mut rt.stdin(), buf, s.from, s.filled);
     State {
-        tables,
-        due,
-        number,
         from: 0,
-        filled: left + count_of(got),
+        filled: left + got.unwrap_or(0),
         course: course_of(got),
+        ..s
     }
 }
 
-// Judges the records of what is in the buffer, and reads on where one is not whole.
+// Judges the records of what is in the buffer, which has room for 64 KiB behind the longest record, and reads on where one is not whole.
 fn turn(
-    rt: &HostRuntime,
-    s: State,
-    ram: &mut [u8; 65536],
-    out: &mut [u8; 4090],
-    buf: &mut [u8],
-) -> State
-    requires { Held s (length buf.old) × (4098 ≤ length buf.old) × (s.number + length buf.old < 2 ^ 64) }
-    ensures { Turned s ram.old out.old buf.old result ram.new out.new buf.new × Held result (length buf.new) × (result.number ≤ s.number + length buf.old) }
-{
-    let from = s.from;
-    let filled = s.filled;
-    let due = s.due;
-    let j = judge(s.tables, due, s.number, ram, out, &buf[from..filled]);
-    let tables = j.tables;
-    let due = j.due;
-    let number = j.number;
-    let taken = j.taken;
-    let stop = j.stop;
-    let start = from + taken;
-    match stop {
-        Stop::More => fetch(rt, tables, due, number, buf, start, filled),
-        Stop::Fault(word) => State {
-            tables,
-            due,
-            number,
-            from: start,
-            filled,
-            course: Course::Faulted(word),
-        },
-    }
-}
-
-// A turn on the program's own buffers: that for the input has room for 64 KiB behind the longest record.
-fn whole_turn(
     rt: &HostRuntime,
     s: State,
     ram: &mut [u8; 65536],
@@ -131,84 +96,75 @@ fn whole_turn(
     requires { Held s 69634 × (s.number + 69634 < 2 ^ 64) }
     ensures { Turned s ram.old out.old buf.old result ram.new out.new buf.new × Held result 69634 × (result.number ≤ s.number + 69634) }
 {
-    turn(rt, s, ram, out, buf)
-}
-
-// Whether there is a turn to make.
-fn is_going(s: State) -> bool
-    ensures { result ≡ is_going s.course }
-{
-    let course = s.course;
-    match course {
-        Course::Going => true,
-        Course::Over => false,
-        Course::Broken => false,
-        Course::Faulted(_) => false,
+    let j = judge(s.tables, s.due, s.number, ram, out, &buf[s.from..s.filled]);
+    let start = s.from + j.taken;
+    let next = State {
+        tables: j.tables,
+        due: j.due,
+        number: j.number,
+        from: start,
+        ..s
+    };
+    match j.stop {
+        Ok(()) => fetch(rt, next, buf),
+        Err(word) => State {
+            course: Course::Faulted(word),
+            ..next
+        },
     }
 }
 
-// The end after a write of a verdict.
-fn end_of(verdict: Verdict, wrote: Wrote) -> End
-    ensures { result ≡ end_of verdict wrote }
-{
-    match wrote {
-        Wrote::All => End::Told(verdict),
-        Wrote::Failed(_) => End::WriteFailed,
-        Wrote::Closed(_) => End::ReaderEnded,
-    }
-}
-
-// Writes the line that is a verdict's, and hands back how that ended.
-fn hand(rt: &HostRuntime, line: &[u8], verdict: Verdict) -> End
+// Writes the line that is a verdict's. The verdict is given for the contract alone.
+fn hand(rt: &HostRuntime, line: &[u8], verdict: Verdict) -> Result<(), Unwritten>
     requires { line.now ≡ line_of verdict }
-    ensures { (wrote : Wrote) × (result ≡ end_of verdict wrote) }
 {
-    end_of(verdict, write_to(&mut rt.stdout(), line))
+    write_to(&mut rt.stdout(), line)
 }
 
 // Prints a verdict.
-fn print(rt: &HostRuntime, verdict: Verdict) -> End
+#[tactic(auto, using(text::specs::Laws::Text::handed))]
+fn print(rt: &HostRuntime, verdict: Verdict) -> Result<Verdict, Failure>
     ensures { (wrote : Wrote) × (result ≡ end_of verdict wrote) }
 {
     let mut text = [0u8; 28];
-    let n = put_verdict(verdict, &mut text);
-    hand(rt, &text[..n], verdict)
+    let mut to = Cursor {
+        text: &mut text,
+        at: 0,
+    };
+    put_verdict(verdict, &mut to);
+    let n = to.at;
+    hand(rt, &text[..n], verdict)?;
+    Ok(verdict)
 }
 
 // How the run ends, once its verdict, if it has one, is printed.
-fn last(rt: &HostRuntime, s: State) -> End
+fn last(rt: &HostRuntime, s: State) -> Result<Verdict, Failure>
     requires { s.from ≤ s.filled }
     ensures { (wrote : Wrote) × (result ≡ told s wrote) }
 {
-    let course = s.course;
-    let due = s.due;
-    match course {
-        Course::Going => End::ReadFailed,
-        Course::Broken => End::ReadFailed,
-        Course::Over => print(rt, end(s.number, due, s.filled - s.from)),
-        Course::Faulted(word) => print(rt, Verdict::Fault(s.number, word)),
-    }
-}
-
-// The byte that tells a verdict that is printed.
-fn byte_for(verdict: Verdict) -> u8
-    ensures { result ≡ byte_for verdict }
-{
-    match verdict {
-        Verdict::Accepted => b'0',
-        Verdict::Fault(_, _) => b'f',
+    match s.course {
+        Course::Going | Course::Broken => Err(Failure::ReadFailed),
+        Course::Over => print(rt, end(s.number, s.due, s.filled - s.from)),
+        Course::Faulted(word) => print(
+            rt,
+            Err(Fault {
+                number: s.number,
+                word,
+            }),
+        ),
     }
 }
 
 // The byte that tells an end.
-fn byte_of(end: End) -> u8
+fn byte_of(end: Result<Verdict, Failure>) -> u8
     ensures { result ≡ byte_of end }
 {
     match end {
-        End::Told(verdict) => byte_for(verdict),
-        End::ReadFailed => b'r',
-        End::WriteFailed => b'w',
-        End::ReaderEnded => b'p',
+        Ok(Ok(())) => b'0',
+        Ok(Err(_)) => b'f',
+        Err(Failure::ReadFailed) => b'r',
+        Err(Failure::WriteFailed) => b'w',
+        Err(Failure::ReaderEnded) => b'p',
     }
 }
 
@@ -226,11 +182,12 @@ fn main(rt: HostRuntime) {
         filled: 0,
         course: Course::Going,
     };
-    let mut turns = TURNS;
-    while turns > 0 && is_going(s) {
-        s = whole_turn(&rt, s, &mut ram, &mut out, &mut buf);
-        turns -= 1;
+    for _ in 0..TURNS {
+        if !matches!(s.course, Course::Going) {
+            break;
+        }
+        s = turn(&rt, s, &mut ram, &mut out, &mut buf);
     }
-    let byte = [byte_of(last(&rt, s))];
-    write_named(&rt, TOLD, &byte);
+    let byte = byte_of(last(&rt, s));
+    let _ = write_named(&rt, TOLD, &[byte]);
 }

@@ -2,116 +2,139 @@
 #![tactic(auto)]
 
 use kernel::{Outcome, Tables};
-use text::fields;
 
-fn wide(x: u8) -> u16 {
-    x as u16
+// The calls' kinds. One enum with events' is no plainer: that one is read from a number, and has none to print.
+#[derive(Clone, Copy)]
+enum Kind {
+    Open = 1,
+    Close = 3,
+    Boundary = 22,
+    SetBoundary = 23,
+    Allocate = 24,
+    Start = 256,
+    Load = 258,
 }
 
-// Writes a call's line, and hands its tables on.
-fn show(rt: &HostRuntime, kind: u16, o: Outcome) -> Tables {
-    let answer = o.answer;
-    let mut line = [0u8; 24];
-    let n = fields(
-        kind,
-        wide(answer.number()),
-        wide(answer.a()),
-        answer.b(),
-        &mut line,
-        0,
-    );
-    line[n] = b'\n';
-    let _ = rt.write_all(&line[..n + 1]);
-    o.tables
+// The tables, with the RAM and where the lines go.
+#[derive(Drop)]
+struct Machine<'a> {
+    rt: &'a HostRuntime,
+    tables: Tables,
+    ram: &'a mut [u8],
 }
 
-// "R = 11,074, list 252 to 255, each from a fresh start."
-fn fresh(rt: &HostRuntime, ram: &mut [u8]) -> Tables {
-    let list = [252u8, 253, 254, 255];
-    show(rt, 256, Tables::none().start(ram, 11074, &list))
-}
+impl Machine<'_> {
+    // Takes a call's tables on, and writes its line.
+    fn took(&mut self, kind: Kind, o: Outcome) {
+        self.tables = o.tables;
+        let answer = o.answer;
+        let number = kind as u16;
+        let _ = println!(self.rt;
+            "{number} {} {} {}",
+            answer.number(),
+            answer.a(),
+            answer.b()
+        );
+    }
 
-fn opens(rt: &HostRuntime, t: Tables, ram: &mut [u8], channel: u8, n: u16) -> Tables {
-    let name = b"VIDEO:";
-    show(rt, 1, t.open(ram, channel, 0, n, name))
-}
+    // "R = 11,074, list 252 to 255, each from a fresh start."
+    fn start(&mut self) {
+        let list = [252u8, 253, 254, 255];
+        let o = Tables::none().start(self.ram, 11074, &list);
+        self.took(Kind::Start, o);
+    }
 
-fn reads_as(rt: &HostRuntime, t: Tables, ram: &mut [u8], name: &[u8]) -> Tables {
-    show(rt, 1, t.open(ram, 1, 0, 0, name))
-}
+    fn open(&mut self, channel: u8, n: u16, name: &[u8]) {
+        let o = self.tables.open(self.ram, channel, 0, n, name);
+        self.took(Kind::Open, o);
+    }
 
-fn allocates(rt: &HostRuntime, t: Tables, ram: &[u8]) -> Tables {
-    show(rt, 24, t.allocate(ram, 0))
-}
+    fn open_video(&mut self, channel: u8, n: u16) {
+        self.open(channel, n, b"VIDEO:");
+    }
 
-fn three(rt: &HostRuntime, ram: &mut [u8]) -> Tables {
-    let t = fresh(rt, ram);
-    let t = allocates(rt, t, ram);
-    let t = allocates(rt, t, ram);
-    allocates(rt, t, ram)
-}
+    fn close(&mut self, channel: u8) {
+        let o = self.tables.close(self.ram, channel);
+        self.took(Kind::Close, o);
+    }
 
-fn boundary_after(rt: &HostRuntime, ram: &mut [u8], n: u16) {
-    let t = fresh(rt, ram);
-    let t = opens(rt, t, ram, 1, n);
-    show(rt, 22, t.boundary(ram));
-}
+    fn boundary(&mut self) {
+        let o = self.tables.boundary(self.ram);
+        self.took(Kind::Boundary, o);
+    }
 
-fn opens_after_bound(rt: &HostRuntime, ram: &mut [u8], n: u16) {
-    let t = three(rt, ram);
-    let t = show(rt, 23, t.set_user_boundary(ram, 11058));
-    opens(rt, t, ram, 1, n);
-}
+    fn set_boundary(&mut self, boundary: u16) {
+        let o = self.tables.set_user_boundary(self.ram, boundary);
+        self.took(Kind::SetBoundary, o);
+    }
 
-// A channel that fills 255, and a second one in 254.
-fn two(rt: &HostRuntime, ram: &mut [u8]) -> Tables {
-    let t = fresh(rt, ram);
-    let t = opens(rt, t, ram, 1, 11058);
-    opens(rt, t, ram, 2, 0)
-}
+    fn allocate(&mut self) {
+        let o = self.tables.allocate(self.ram, 0);
+        self.took(Kind::Allocate, o);
+    }
 
-fn loads_last(rt: &HostRuntime, t: Tables, ram: &[u8]) -> Tables {
-    let mut out = [0u8; 1];
-    show(rt, 258, t.load(ram, 254, 16383, 1, &mut out))
-}
+    // Loads the last byte of 254.
+    fn load_last(&mut self) {
+        let mut out = [0u8; 1];
+        let o = self.tables.load(self.ram, 254, 16383, 1, &mut out);
+        self.took(Kind::Load, o);
+    }
 
-fn closes(rt: &HostRuntime, t: Tables, ram: &mut [u8]) -> Tables {
-    show(rt, 3, t.close(ram, 2))
-}
+    fn allocate_three(&mut self) {
+        self.start();
+        for _ in 0..3 {
+            self.allocate();
+        }
+    }
 
-// "254 is user": its last byte is the user's to load.
-fn shared_then_user(rt: &HostRuntime, ram: &mut [u8]) {
-    let t = two(rt, ram);
-    let t = allocates(rt, t, ram);
-    let t = allocates(rt, t, ram);
-    let t = loads_last(rt, t, ram);
-    let t = closes(rt, t, ram);
-    loads_last(rt, t, ram);
-}
+    fn boundary_after(&mut self, n: u16) {
+        self.start();
+        self.open_video(1, n);
+        self.boundary();
+    }
 
-fn unknown_names(rt: &HostRuntime, ram: &mut [u8]) -> Tables {
-    let t = fresh(rt, ram);
-    let t = reads_as(rt, t, ram, b"-3:");
-    reads_as(rt, t, ram, b"NET-:")
-}
+    fn open_after_bound(&mut self, n: u16) {
+        self.allocate_three();
+        self.set_boundary(11058);
+        self.open_video(1, n);
+    }
 
-fn names(rt: &HostRuntime, ram: &mut [u8]) {
-    let t = unknown_names(rt, ram);
-    reads_as(rt, t, ram, b"net07:");
+    // A channel that fills 255, and a second one in 254. Then "254 is user": its last byte is the user's to load.
+    fn shared_then_user(&mut self) {
+        self.start();
+        self.open_video(1, 11058);
+        self.open_video(2, 0);
+        self.allocate();
+        self.allocate();
+        self.load_last();
+        self.close(2);
+        self.load_last();
+    }
+
+    fn names(&mut self) {
+        self.start();
+        for name in [b"-3:".as_slice(), b"NET-:".as_slice(), b"net07:".as_slice()] {
+            self.open(1, 0, name);
+        }
+    }
 }
 
 fn main(rt: HostRuntime) {
     let mut ram = [0u8; 65536];
-    boundary_after(&rt, &mut ram, 11058);
-    boundary_after(&rt, &mut ram, 11059);
-    boundary_after(&rt, &mut ram, 43826);
-    boundary_after(&rt, &mut ram, 43827);
-    let t = three(&rt, &mut ram);
-    allocates(&rt, t, &ram);
-    let t = three(&rt, &mut ram);
-    show(&rt, 23, t.set_user_boundary(&ram, 11075));
-    opens_after_bound(&rt, &mut ram, 0);
-    opens_after_bound(&rt, &mut ram, 1);
-    shared_then_user(&rt, &mut ram);
-    names(&rt, &mut ram);
+    let mut machine = Machine {
+        rt: &rt,
+        tables: Tables::none(),
+        ram: &mut ram,
+    };
+    for n in [11058, 11059, 43826, 43827] {
+        machine.boundary_after(n);
+    }
+    machine.allocate_three();
+    machine.allocate();
+    machine.allocate_three();
+    machine.set_boundary(11075);
+    machine.open_after_bound(0);
+    machine.open_after_bound(1);
+    machine.shared_then_user();
+    machine.names();
 }

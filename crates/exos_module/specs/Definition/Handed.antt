@@ -1,16 +1,14 @@
 -- What is handed to the write: the module of an input, or nothing.
-use Rattle.std.specs.Prelude.{List, [], ◌∷◌, ℕ, ◌+◌, ◌*◌}
+use Rattle.std.specs.Prelude.{List, [], ◌∷◌, ℕ, ◌+◌, ◌*◌, Result, Ok, Err}
 use Rattle.modules.specs.declared.Item.{Item}
-use Rattle.writer.specs.declared.Written.{Written}
-use Rattle.writer.specs.declared.Written.TheVariants.{Done, Page, Range}
+use Rattle.writer.specs.declared.Refusal.{Refusal}
 use Rattle.writer.specs.Definition.Entries.{Listed, all, flawed, listed}
 use Rattle.writer.specs.Definition.Bytes.{module_of}
 use Rattle.writer.specs.Definition.Writing.{answer_to}
 
-abbrev pub module_by : Written → List Item → List ℕ
-module_by (Done n) items = module_of items
-module_by Page items = []
-module_by Range items = []
+abbrev pub module_by : Result ℕ Refusal → List Item → List ℕ
+module_by (Ok n) items = module_of items
+module_by (Err refusal) items = []
 
 abbrev pub module_to : (page offset : ℕ) → Listed → (room : ℕ) → List ℕ
 module_to page offset (all items) room = module_by (answer_to page offset items room) items

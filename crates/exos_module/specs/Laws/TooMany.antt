@@ -1,12 +1,11 @@
 -- An input of more than the most items has no module that the buffer has room for: where it is told that there are too many, no module is lost.
-use Rattle.std.specs.Prelude.{◌≡◌, refl, Bool, true, false, cond, List, [], ◌∷◌, ℕ, ◌+◌, ◌*◌, ◌<◌, ◌≤◌, length}
+use Rattle.std.specs.Prelude.{◌≡◌, refl, Bool, true, false, cond, List, [], ◌∷◌, ℕ, ◌+◌, ◌*◌, ◌<◌, ◌≤◌, length, Result, Ok, Err}
 use Rattle.std.proofs.Common.{arith, lt-ltb, length-append}
 use Rattle.modules.specs.Definition.Items.{item_bits, all_bits}
 use Rattle.modules.specs.declared.Item.{Item}
 use Rattle.modules.specs.declared.Item.TheVariants.{Byte, Word, SetPage, Restore, Move}
-use Rattle.writer.specs.declared.Entry.{Entry}
-use Rattle.writer.specs.declared.Entry.TheVariants.{Is, No}
-use Rattle.writer.specs.declared.Written.TheVariants.{Page, Range}
+use Rattle.writer.specs.declared.Why.{Why}
+use Rattle.writer.specs.declared.Refusal.TheVariants.{Page, Range}
 use Rattle.writer.specs.Definition.Bytes.{module_of}
 use Rattle.writer.specs.Definition.Entries.{entry_of, Listed, all, flawed, before, listed}
 use Rattle.writer.specs.Definition.Writing.{refuses_page, answer_to}
@@ -36,10 +35,10 @@ abbrev Counted : Listed → (n : ℕ) → Type 0
 Counted (all items) n = n ≡ 3 * length items
 Counted (flawed f) n = Unit {0}
 
-one_more : (entry : Entry) (l : Listed) (n : ℕ) → Counted l n → Counted (before entry l) (n + 3)
-one_more (Is i) (all items) n c = omega (arith, c)
-one_more (Is i) (flawed f) n c = tt
-one_more (No why) l n c = tt
+one_more : (entry : Result Item Why) (l : Listed) (n : ℕ) → Counted l n → Counted (before entry l) (n + 3)
+one_more (Ok i) (all items) n c = omega (arith, c)
+one_more (Ok i) (flawed f) n c = tt
+one_more (Err why) l n c = tt
 
 counted : (bytes : List ℕ) → Counted (listed bytes) (length bytes)
 unfolding listed
@@ -56,7 +55,7 @@ none page offset (all items) n c h =
     let s = lt-ltb room (length (module_of items)) (too_many items (omega (arith, c))) in
     rw s (go (refuses_page page offset items))
   where
-    go : (p : Bool) → module_by (cond p Page Range) items ≡ []
+    go : (p : Bool) → module_by (cond p (Err Page) (Err Range)) items ≡ []
     go true = refl
     go false = refl
 none page offset (flawed f) n c h = refl
