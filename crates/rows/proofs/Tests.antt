@@ -1,5 +1,5 @@
 -- A test over a list, and the same test asked of each row.
-use Rattle.std.proofs.Common.{◌≡◌, sym, ap, ◌∙◌, Bool, true, ◌||◌, List, ℕ, ◌+◌, ◌-◌, ◌≤◌, ◌<◌, length, get_or, zero-add, take, drop, ltb, eqb, eq-eqb, eqb-true, arith, ext_get_or, lt-ltb, le-ltb, length-take, length-drop, take_all, get_or-take, get_or-drop}
+use Rattle.std.proofs.Common.{◌≡◌, sym, ap, ◌∙◌, Bool, true, ◌||◌, List, ℕ, ◌&&◌, ◌+◌, ◌-◌, ◌≤◌, ◌<◌, length, get_or, zero-add, add-one, take, drop, ltb, eqb, eq-eqb, eqb-true, arith, ext_get_or, lt-ltb, le-ltb, length-take, length-drop, take_all, get_or-take, get_or-drop}
 use Rattle.std.proofs.lemmas.List.{get_or_default}
 use Rattle.std.specs.Cmp.Lexicographic.{pointwise}
 use Rattle.std.proofs.lemmas.Slice.Eq.{bytes_eq-Decides}
@@ -57,3 +57,8 @@ same_name_bytes a b l m =
     same_when (pointwise eqb a b) (up_to 28 (same_bytes a b))
     (λ t. all→up_to 28 (same_bytes a b) (λ k h. eq-eqb (at a k) (at b k) (ap (λ (xs : List ℕ). at xs k) (e.0 t))))
     (λ t. e.1 (ext_get_or 0 a b (omega arith) (λ k h. eqb-true (at a k) (at b k) (up_to→all 28 (same_bytes a b) t k (omega arith)))))
+
+-- a loop's test of one row more
+pub all_more : (p : ℕ → Bool) (i : ℕ) (ok : Bool) → ok ≡ up_to i p → ok && p i ≡ up_to (i + 1) p
+unfolding up_to
+all_more p i ok e = rw (add-one, e)

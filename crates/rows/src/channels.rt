@@ -1,9 +1,9 @@
 // The rows of channels, in line order.
-ghost use Rattle.std.specs.Prelude.{◌≡◌, ◌≤◌, ◌<◌, ◌&&◌, drop, length};
+ghost use Rattle.std.specs.Prelude.{◌≡◌, ℕ, ◌≤◌, ◌<◌, ◌&&◌, drop, get_or, length, replicate};
 ghost use Rattle.std.specs.List.{list_all, enumerate_from};
 ghost use Rattle.rows.specs.Definition.Lists.{without};
 ghost use Rattle.rows.specs.Definition.Channels.{zero_channel, sum_of, row_in, found_at};
-ghost use Rattle.rows.specs.Definition.Tests.{empty_channel, lacks_number, channel_fits, channel_test};
+ghost use Rattle.rows.specs.Definition.Tests.{empty_channel, channel_fits, channel_test};
 
 use super::Channel;
 
@@ -39,25 +39,34 @@ pub fn remove_row(channels: &mut [Channel; 32], i: usize)
     channels[31] = NO_CHANNEL;
 }
 
+// The first `opened` rows become empty, those behind them being empty already.
+pub fn empty_rows(channels: &mut [Channel; 32], opened: usize)
+    requires { (opened ≤ 32) × ((i : ℕ) → opened ≤ i → i < 32 → get_or channels.old i zero_channel ≡ zero_channel) }
+    ensures { channels.new ≡ replicate 32 zero_channel }
+{
+    channels[..opened].fill(NO_CHANNEL);
+}
+
 fn empty(channels: &[Channel]) -> bool
     ensures { result ≡ list_all empty_channel channels.now }
 {
     channels.iter().all(|c| *c == NO_CHANNEL)
 }
 
-fn lacks_number(channels: &[Channel], number: u8) -> bool
-    ensures { result ≡ lacks_number channels.now number }
-{
-    channels.iter().all(|c| c.number != number)
-}
-
 // Each of these is a channel with a number of its own and a device in the table.
 fn channels_fine(channels: &[Channel], known: usize) -> bool
     ensures { result ≡ list_all (λ x. channel_fits channels.now known x.0 x.1) (enumerate_from 0 channels.now) }
 {
-    channels.iter().enumerate().all(|(i, c)| {
-        c.number < 255 && usize::from(c.device) < known && lacks_number(&channels[..i], c.number)
-    })
+    let mut seen = [false; 256];
+    for c in channels {
+        let number = usize::from(c.number);
+        let fits = (number < 255) & (usize::from(c.device) < known) & !seen[number];
+        if !fits {
+            return false;
+        }
+        seen[number] = true;
+    }
+    true
 }
 
 pub fn channel_test(channels: &[Channel; 32], opened: usize, known: usize) -> bool

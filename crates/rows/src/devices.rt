@@ -3,8 +3,8 @@ ghost use Rattle.std.specs.Prelude.{◌≡◌, map, ◌+◌, length, slice_range
 ghost use Rattle.std.specs.List.{list_all, enumerate_from};
 ghost use Rattle.rows.specs.Definition.Lists.{up_to};
 ghost use Rattle.rows.specs.Definition.Channels.{found_at};
-ghost use Rattle.rows.specs.Definition.Devices.{new_device, built_in, same_name, disabled_by, has_name, device_in};
-ghost use Rattle.rows.specs.Definition.Tests.{capital, name_test, default_test, empty_device, lacks_name, device_fits, built_test, device_test};
+ghost use Rattle.rows.specs.Definition.Devices.{new_device, built_in, same_bytes, same_name, disabled_by, has_name, device_in};
+ghost use Rattle.rows.specs.Definition.Tests.{letter_row, name_test, default_test, empty_device, lacks_name, device_fits, built_test, device_test};
 
 use super::Device;
 use super::segments::zeros;
@@ -44,11 +44,22 @@ pub fn built_in() -> [Device; 16]
     rows
 }
 
+// Each byte is asked, with no way out before the last, so that many are asked at once.
+fn same_bytes(a: &[u8; 28], b: &[u8; 28]) -> bool
+    ensures { result ≡ up_to 28 (same_bytes a.now b.now) }
+{
+    let mut same = true;
+    for k in 0..28 {
+        same &= a[k] == b[k];
+    }
+    same
+}
+
 impl Device {
     fn is_named(&self, name: &[u8; 28], n: u8) -> bool
         ensures { result ≡ same_name self.now.name self.now.length name.now n }
     {
-        self.length == n && self.name == *name
+        self.length == n && same_bytes(&self.name, name)
     }
 
     // Enabled and so named. The empty name is no device's.
@@ -86,25 +97,29 @@ pub fn disable(devices: &mut [Device; 16], name: &[u8; 28], n: u8)
     ensures { devices.new ≡ map (disabled_by name.now n) devices.old }
 {
     for d in devices {
-        d.enabled &= !d.is_named(name, n);
+        if d.is_named(name, n) {
+            d.enabled = false;
+        }
     }
 }
 
-fn capitals(letters: &[u8]) -> bool
-    ensures { result ≡ list_all capital letters.now }
+// Each byte is asked, as in `same_bytes`.
+fn letters(name: &[u8; 28], n: u8) -> bool
+    ensures { result ≡ up_to 28 (letter_row name.now n) }
 {
-    letters.iter().all(|c| c.is_ascii_uppercase())
+    let mut ok = true;
+    for i in 0..28 {
+        let c = name[usize::from(i)];
+        ok &= ((n <= i) & (c == 0)) | ((i < n) & (65 <= c) & (c <= 90));
+    }
+    ok
 }
 
 // A capital below the length, zero from it on.
 fn name_test(name: &[u8; 28], n: u8) -> bool
     ensures { result ≡ name_test name.now n }
 {
-    if 28 < n {
-        return false;
-    }
-    let n = usize::from(n);
-    capitals(&name[..n]) && zeros(&name[n..])
+    n <= 28 && letters(name, n)
 }
 
 pub fn default_test(name: &[u8; 28], n: u8, unit: u8) -> bool

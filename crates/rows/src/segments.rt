@@ -1,5 +1,5 @@
 // The list of segments, their classes, and the chain, whose entries are rows of the list.
-ghost use Rattle.std.specs.Prelude.{◌≡◌, ◌&&◌, ◌||◌, map, ◌≤◌, ◌-◌, ◌+◌, take, length, ltb, eqb};
+ghost use Rattle.std.specs.Prelude.{◌≡◌, ◌&&◌, ◌||◌, map, ℕ, ◌≤◌, ◌<◌, ◌-◌, ◌+◌, get_or, take, length, ltb, eqb};
 ghost use Rattle.std.specs.List.{list_all, enumerate_from};
 ghost use Rattle.rows.specs.Definition.Lists.{first_place, last_of, tally, at, padded, up_to};
 ghost use Rattle.rows.specs.Definition.Classes.{released, start_classes};
@@ -35,20 +35,23 @@ pub fn last_of(xs: &[u8], k: u8) -> Option<usize>
 pub fn count_of(xs: &[u8], k: u8) -> usize
     ensures { (result ≡ tally k xs.now) × (result ≤ length xs.now) }
 {
-    times(xs, usize::from(k))
-}
-
-#[tactic(auto, using(crate::specs::Laws::Counts::tally_is))]
-fn times(xs: &[u8], k: usize) -> usize
-    ensures { (result ≡ tally k xs.now) × (result ≤ length xs.now) }
-{
-    xs.iter().filter(|&&x| usize::from(x) == k).count()
+    let mut found = 0;
+    for &x in xs {
+        if x == k {
+            found += 1;
+        }
+    }
+    found
 }
 
 pub(crate) fn zeros(xs: &[u8]) -> bool
     ensures { result ≡ list_all (λ x. eqb x 0) xs.now }
 {
-    xs.iter().all(|&x| x == 0)
+    let mut ok = true;
+    for &x in xs {
+        ok &= x == 0;
+    }
+    ok
 }
 
 fn below(xs: &[u8], n: usize) -> bool
@@ -74,14 +77,42 @@ fn classed(classes: &[u8]) -> bool
     })
 }
 
-// The chain is exactly the system and shared segments without a repeat, and a shared one is `last`.
-fn exact(classes: &[u8], chain: &[u8], last: usize) -> bool
-    ensures { result ≡ list_all (λ x. stands x.1 (tally x.0 chain.now) last x.0) (enumerate_from 0 classes.now) }
+// How often each row stands in the chain.
+fn tallies(chain: &[u8]) -> [u8; 32]
+    requires { length chain.now ≤ 32 }
+    ensures { (i : ℕ) → i < 32 → get_or result i 0 ≡ tally i chain.now }
+{
+    let mut times = [0; 32];
+    for &row in chain {
+        if row < 32 {
+            times[usize::from(row)] += 1;
+        }
+    }
+    times
+}
+
+fn at(times: &[u8; 32], row: usize) -> u8
+    ensures { result ≡ at times.now row }
+{
+    times.get(row).copied().unwrap_or(0)
+}
+
+// Each system and shared segment stands once, no other does, and a shared one is `last`.
+fn stand(classes: &[u8], times: &[u8; 32], last: usize) -> bool
+    ensures { result ≡ list_all (λ x. stands x.1 (at times.now x.0) last x.0) (enumerate_from 0 classes.now) }
 {
     classes.iter().enumerate().all(|(i, &c)| {
         let held = c == SYSTEM || c == SHARED;
-        times(chain, i) == usize::from(held) && (c != SHARED || last == i)
+        at(times, i) == u8::from(held) && (c != SHARED || last == i)
     })
+}
+
+// The chain is exactly the system and shared segments without a repeat, and a shared one is `last`.
+fn exact(classes: &[u8], chain: &[u8], last: usize) -> bool
+    requires { (length classes.now ≤ 32) × (length chain.now ≤ 32) }
+    ensures { result ≡ list_all (λ x. stands x.1 (tally x.0 chain.now) last x.0) (enumerate_from 0 classes.now) }
+{
+    stand(classes, &tallies(chain), last)
 }
 
 // The tests take whole arrays with a length, since they ask for the unused rows too.
@@ -157,5 +188,7 @@ fn release_one(class: u8) -> u8
 pub fn release(classes: &mut [u8; 32])
     ensures { classes.new ≡ map released classes.old }
 {
-    *classes = classes.map(release_one);
+    for class in classes {
+        *class = release_one(*class);
+    }
 }

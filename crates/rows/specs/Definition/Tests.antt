@@ -82,9 +82,6 @@ channel_fits cs known i c = ltb c.number 255 && ltb c.device known && lacks_numb
 abbrev pub channel_test : List Channel → ℕ → ℕ → Bool
 channel_test cs opened known = leb opened 32 && up_to opened (channel_row cs known) && up_to 32 (rest_channel cs opened)
 
-abbrev pub capital : ℕ → Bool
-capital c = leb 65 c && leb c 90
-
 -- a capital below the length, zero from it on
 abbrev pub letter_row : List ℕ → ℕ → ℕ → Bool
 letter_row name n i = (leb n i && eqb (at name i) 0) || (ltb i n && leb 65 (at name i) && leb (at name i) 90)
