@@ -2,12 +2,13 @@
 use mathlib.Core.Path.{◌≡◌}
 use mathlib.Core.Bool.{true, false, cond}
 use mathlib.Core.List.{List, map}
-use Prim.Native.Nat.{ℕ, ◌-◌, ◌≤◌}
+use Prim.Native.Nat.{ℕ, ◌-◌, ◌≤◌, ◌<◌}
 use native.Mathlib.Omega.{arith}
-use lib.ListN.{replicate}
+use lib.ListN.{get_or, replicate}
 use Rattle.rows.specs.Definition.Classes.{released}
 use Rattle.rows.specs.Definition.Channels.{zero_channel}
 use Rattle.rows.specs.Definition.Devices.{built_in}
+use Rattle.rows.specs.declared.Channel.{Channel}
 use Rattle.rows.specs.declared.Device.{Device}
 use Rattle.line.specs.Within.Chains.{Chain}
 use Rattle.kernel.specs.Definition.Tables.{ram_size, with_segments, with_channels, with_devices}
@@ -26,9 +27,14 @@ use Rattle.kernel.specs.declared.Outcome.{Outcome}
 use Rattle.kernel.specs.declared.Answer.TheVariants.{Done, BadFlags}
 
 -- the tables with no channel open
-pub none_left : (t : Tables) (held : ℕ) → held ≡ t.held → (after : Tables) → after ≡ shrunk (held - 1) (with_channels t 0 (replicate 32 zero_channel)) → after ≡ emptying t
+pub none_left : (t : Tables) (held : ℕ) → held ≡ t.held → (channels : List Channel) → channels ≡ replicate 32 zero_channel → (after : Tables)
+    → after ≡ shrunk (held - 1) (with_channels t 0 channels) → after ≡ emptying t
 unfolding emptying
-none_left t held m after a = rw (a, m)
+none_left t held m channels e after a = rw (a, e, m)
+
+pub none-behind : (t : Tables) (opened : ℕ) → opened ≡ t.opened → Good t
+    → (opened ≤ 32) × ((i : ℕ) → opened ≤ i → i < 32 → get_or t.channels i zero_channel ≡ zero_channel)
+none-behind t opened e g = (omega (arith, g.channels.most), λ i a b. g.channels.rest i (omega arith) b)
 
 pub devices-restored : (t : Tables) (devices : List Device) → devices ≡ built_in → with_devices t t.cold 3 devices ≡ restoring t
 unfolding restoring

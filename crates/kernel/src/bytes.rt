@@ -28,7 +28,9 @@ impl Tables {
         ensures found { result ≡ buffer_of self.now channel }
         ensures small { IfSome result (λ buffer. (buffer.start ≤ 2097648) × (buffer.size < 65536)) }
     {
-        let i = self.channel_row(channel)?;
+        let Some(i) = self.channel_row(channel) else {
+            return None;
+        };
         Some(Buffer {
             start: self.record_at(i) + 16,
             size: self.size_at(i),
@@ -196,7 +198,9 @@ impl Tables {
         requires { Good self }
         ensures { result ≡ lent_on_good self channel }
     {
-        let buffer = self.buffer(channel)?;
+        let Some(buffer) = self.buffer(channel) else {
+            return None;
+        };
         self.line().lent_at(buffer.start, buffer.size)
     }
 

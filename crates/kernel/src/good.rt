@@ -8,7 +8,7 @@ use super::Tables;
 use rows::channels::channel_test;
 use rows::devices::{default_test, device_test};
 use rows::segments::{chain_test, class_test, list_test, room_test, user_test};
-use rows::sizes::chain_length;
+use rows::sizes::{boundary_at, chain_length};
 
 // The class of a row, 0 beyond the table.
 fn class_at(classes: &[u8; 32], row: usize) -> u8
@@ -39,14 +39,15 @@ impl Tables {
         let held = usize::from(self.held);
         let known = usize::from(self.known);
         let class = class_at(&self.classes, self.last_row());
+        let total = self.total();
         // with `&&` the proof would part at each test
         list_test(&self.list, segments)
             & class_test(&self.classes, segments)
             & room_test(self.room, self.cold)
             & chain_test(&self.classes, &self.chain, held, segments)
             & channel_test(&self.channels, usize::from(self.opened), known)
-            & (held == chain_length(self.room, self.total()))
-            & user_test(class, self.user, self.exos_boundary())
+            & (held == chain_length(self.room, total))
+            & user_test(class, self.user, boundary_at(self.room, total))
             & device_test(&self.devices, known)
             & default_test(&self.name, self.length, self.unit)
     }

@@ -11,58 +11,58 @@ ghost use Rattle.kernel.specs.Definition.Bytes.{ram_reset};
 ghost use Rattle.kernel.specs.Definition.Step.{step, completed, result_of};
 
 use super::{Answer, Outcome, Tables};
-use rows::channels::NO_CHANNEL;
+use rows::channels::empty_rows;
 use rows::devices::built_in;
 use rows::segments::release;
 
 impl Tables {
-    // The tables with no channel open, where the flags ask for it.
-    fn emptied(self, flags: u8) -> Tables
-        requires { Good self }
-        ensures { result ≡ cond (closes_all flags) (emptying self) self }
+    // No channel stays open, where the flags ask for it.
+    fn empty(&mut self, flags: u8)
+        requires { Good self.old }
+        ensures { self.new ≡ cond (closes_all flags) (emptying self.old) self.old }
     {
         if !closes_all(flags) {
-            return self;
+            return;
         }
-        let mut next = self;
-        next.opened = 0;
-        next.channels = [NO_CHANNEL; 32];
-        next.shrink(usize::from(self.held) - 1)
+        let gone = usize::from(self.held) - 1;
+        empty_rows(&mut self.channels, usize::from(self.opened));
+        self.opened = 0;
+        *self = self.shrink(gone);
     }
 
-    // The tables with the devices that are built in and the cold R, where the flags ask for it.
-    fn restored(self, flags: u8) -> Tables
-        ensures { result ≡ cond (bit5 flags) (restoring self) self }
+    // The devices that are built in and the cold R, where the flags ask for them.
+    fn restore(&mut self, flags: u8)
+        ensures { self.new ≡ cond (bit5 flags) (restoring self.old) self.old }
     {
         if !restores(flags) {
-            return self;
+            return;
         }
-        let mut next = self;
-        next.room = self.cold;
-        next.known = 3;
-        next.devices = built_in();
-        next
+        self.room = self.cold;
+        self.known = 3;
+        self.devices = built_in();
     }
 
-    // The tables with no user segment and no shared one, where the flags ask for it.
-    fn released(self, flags: u8) -> Tables
-        ensures { result ≡ cond (bit6 flags) (releasing self) self }
+    // No user segment stays and no shared one, where the flags ask for it.
+    fn release(&mut self, flags: u8)
+        ensures { self.new ≡ cond (bit6 flags) (releasing self.old) self.old }
     {
         if !releases(flags) {
-            return self;
+            return;
         }
-        let mut next = self;
-        release(&mut next.classes);
-        next.user = 0;
-        next
+        release(&mut self.classes);
+        self.user = 0;
     }
 
-    // The tables after a reset.
+    // The tables after a reset. One copy of them is changed in place.
     fn reset_tables(self, flags: u8) -> Tables
         requires { Good self }
         ensures { result ≡ resetting self flags }
     {
-        self.emptied(flags).restored(flags).released(flags)
+        let mut next = self;
+        next.empty(flags);
+        next.restore(flags);
+        next.release(flags);
+        next
     }
 
     // Every position of the line becomes zero.

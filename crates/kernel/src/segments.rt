@@ -74,8 +74,11 @@ impl Tables {
             next.classes[row] = class_for(caller);
             return next.done(self.list[row], 16384);
         }
+        if caller == 1 || self.shares() {
+            return self.refuse(Answer::NoSegment);
+        }
         let edge = self.exos_boundary();
-        if caller == 1 || self.shares() || edge == 0 {
+        if edge == 0 {
             return self.refuse(Answer::NoSegment);
         }
         let last = self.last_row();

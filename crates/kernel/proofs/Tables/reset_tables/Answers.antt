@@ -3,4 +3,4 @@ use Rattle.kernel.proofs.Resetting.{tables-reset}
 use Rattle.kernel.proofs.Tables.reset_tables.Goals as goal
 
 pub returns : goal.returns
-returns c = tables-reset c.args.self c.args.flags _ _ _ c.emptied.ensures c.restored.ensures c.released.ensures
+returns c = tables-reset c.args.self c.args.flags _ _ _ c.empty.ensures c.restore.ensures c.release.ensures
