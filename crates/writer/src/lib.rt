@@ -44,11 +44,9 @@ impl From<Flaw> for Refusal {
     }
 }
 
-// A lent buffer, where its next byte goes, and the bits behind it that are no whole byte yet: the lowest `count` of `held`.
-// The first two are no `text::Cursor`: tried, and the proof did not close, since a caller learns nothing of a reference in a struct of a struct.
-#[derive(Drop)]
-pub struct Pen<'a> {
-    pub text: &'a mut [u8],
+// Where the next byte goes, and the bits behind it that are no whole byte yet: the lowest `count` of `held`.
+#[derive(Clone, Copy)]
+pub struct Pen {
     pub at: usize,
     pub held: usize,
     pub count: usize,

@@ -24,27 +24,35 @@ fn code_of(item: Item) -> usize
     }
 }
 
-impl Pen<'_> {
+// A lent buffer, and the pen that puts bits into it.
+// Buffer and place are no `text::Cursor`: tried, and the proof did not close, since a caller learns nothing of a reference in a struct of a struct.
+#[derive(Drop)]
+pub struct Sheet<'a> {
+    pub text: &'a mut [u8],
+    pub pen: Pen,
+}
+
+impl Sheet<'_> {
     // Puts the lowest `width` bits of a code.
     pub fn put_bits(&mut self, code: usize, width: usize)
-        requires { Neat self.old × (width ≤ 20) × (code < 2 ^ width) × RoomFor self.old width }
+        requires { Neat self.old.pen × (width ≤ 20) × (code < 2 ^ width) × RoomFor self.old width }
         ensures { Adds self.old self.new (bits_of width code) }
     {
-        let held = (self.held << width) + code;
-        let mut count = self.count + width;
+        let held = (self.pen.held << width) + code;
+        let mut count = self.pen.count + width;
         // no index is counted: what is left of the bits ends it
         while 8 <= count {
             count -= 8;
-            self.text[self.at] = ((held >> count) % 256) as u8;
-            self.at += 1;
+            self.text[self.pen.at] = ((held >> count) % 256) as u8;
+            self.pen.at += 1;
         }
-        self.held = held % 128;
-        self.count = count;
+        self.pen.held = held % 128;
+        self.pen.count = count;
     }
 
     // Puts an item.
     fn put_item(&mut self, item: Item)
-        requires { Neat self.old × RoomFor self.old (length (item_bits item)) }
+        requires { Neat self.old.pen × RoomFor self.old (length (item_bits item)) }
         ensures { Adds self.old self.new (item_bits item) }
     {
         self.put_bits(code_of(item), width_of(item));
@@ -52,10 +60,10 @@ impl Pen<'_> {
 
     // Puts all items of a list.
     pub fn put_items(&mut self, items: &[u8])
-        requires { Neat self.old × RoomFor self.old (length (all_bits (items_of items.now))) }
+        requires { Neat self.old.pen × RoomFor self.old (length (all_bits (items_of items.now))) }
         ensures { Adds self.old self.new (all_bits (items_of items.now)) }
     {
-        for entry in items.chunks(3) {
+        for entry in items.chunks_exact(3) {
             self.put_item(item_of(entry));
         }
     }

@@ -46,7 +46,7 @@ fn refuses_from(items: &[u8], start: Counter) -> bool
     ensures { result ≡ refuses_from start.page start (items_of items.now) }
 {
     let mut c = start;
-    for entry in items.chunks(3) {
+    for entry in items.chunks_exact(3) {
         match act_of(item_of(entry), c, start.page) {
             Ok(next) => c = next,
             Err(_) => return true,

@@ -26,7 +26,7 @@ pub fn size_of(items: &[u8]) -> usize
 {
     let mut whole: usize = 0;
     let mut over: usize = 0;
-    for entry in items.chunks(3) {
+    for entry in items.chunks_exact(3) {
         let bits = over + width_of(item_of(entry));
         whole += bits / 8;
         over = bits % 8;

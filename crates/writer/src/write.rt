@@ -5,6 +5,7 @@ ghost use Rattle.writer.specs.Definition.Writing as writing;
 ghost use Rattle.writer.specs.Within.Entries.{items_of};
 
 use super::entries::list_in;
+use super::packing::Sheet;
 use super::pages::refuses_page;
 use super::sizes::size_of;
 use super::{Pen, Refusal};
@@ -15,16 +16,18 @@ fn put_module(items: &[u8], buffer: &mut [u8])
     requires { length (module_of (items_of items.now)) ≤ length buffer.old }
     ensures { buffer.new ≡ module_of (items_of items.now) ++ drop (length (module_of (items_of items.now))) buffer.old }
 {
-    let mut pen = Pen {
+    let mut sheet = Sheet {
         text: buffer,
-        at: 0,
-        held: 0,
-        count: 0,
+        pen: Pen {
+            at: 0,
+            held: 0,
+            count: 0,
+        },
     };
-    pen.put_items(items);
-    pen.put_bits(6, 3);
-    let padding = (8 - pen.count) % 8;
-    pen.put_bits(0, padding);
+    sheet.put_items(items);
+    sheet.put_bits(6, 3);
+    let padding = (8 - sheet.pen.count) % 8;
+    sheet.put_bits(0, padding);
 }
 
 // "Refusals: PAGE .., then RANGE for a short buffer"

@@ -31,6 +31,13 @@ found-items bytes e = go (listed bytes) refl e
     go (all items) q w = q ∙ ap all (sym (items-listed bytes items q))
     go (flawed f) q w = cc
 
+pub found-flaw : (bytes : List ℕ) (f : Flaw) → Err f ≡ found_in (listed bytes) → listed bytes ≡ flawed f
+found-flaw bytes f e = go (listed bytes) refl e
+  where
+    go : (l : Listed) → listed bytes ≡ l → Err f ≡ found_in l → listed bytes ≡ flawed f
+    go (all items) q w = cc
+    go (flawed g) q w = let s : g ≡ f = cc in q ∙ ap flawed s
+
 -- ---- three bytes, or what is left at the end, and those behind
 
 -- the first three bytes of some, or all that there are
@@ -43,10 +50,23 @@ pub record Cuts (bytes entry rest : List ℕ) : Type 0 where
 pub cuts : {n : ℕ} {bytes entry rest : List ℕ} → n ≡ 3 → (bytes ≡ entry ++ rest) × (length entry ≡ min n (length bytes)) × (0 < length bytes) → Cuts bytes entry rest
 cuts e (are, three, some) = record { are = are; three = rw (← e) three; some = some }
 
+-- the first three bytes of some
+pub record Takes (bytes entry rest : List ℕ) : Type 0 where
+  pub are : bytes ≡ entry ++ rest
+  pub three : length entry ≡ 3
+
+-- as a whole chunk comes off
+pub takes : {n : ℕ} {bytes entry rest : List ℕ} → n ≡ 3 → (bytes ≡ entry ++ rest) × (length entry ≡ n) → Takes bytes entry rest
+takes e (are, three) = record { are = are; three = three ∙ e }
+
 -- the first that is none, where so many items stand before
 abbrev pub behind : (k : ℕ) → Result Unit Flaw → Result Unit Flaw
 behind k (Ok x) = Ok x
 behind k (Err f) = Err (flaw_at (f.number + k) f.why)
+
+pub behind-none : (l : Result Unit Flaw) → l ≡ behind 0 l
+behind-none (Ok x) = refl
+behind-none (Err f) = let e : f.number + 0 ≡ f.number = omega arith in rw e
 
 module _ (P : List ℕ → List ℕ → List ℕ → Type 0) (one : (x : ℕ) → P (x ∷ []) (x ∷ []) []) (two : (x y : ℕ) → P (x ∷ y ∷ []) (x ∷ y ∷ []) [])
     (more : (x y z : ℕ) (rest : List ℕ) → P (x ∷ y ∷ z ∷ rest) (x ∷ y ∷ z ∷ []) rest) where
@@ -63,13 +83,23 @@ module _ (P : List ℕ → List ℕ → List ℕ → Type 0) (one : (x : ℕ) �
   cut : {bytes entry rest : List ℕ} → Cuts bytes entry rest → P bytes entry rest
   cut {bytes} {entry} {rest} c = rw c.are (cut_by entry rest (rw (← c.are) c.three) (rw (← c.are) c.some))
 
-pub items-next : {bytes entry rest : List ℕ} → Cuts bytes entry rest → items_of bytes ≡ item_in entry ∷ items_of rest
+items_first : (entry rest : List ℕ) → length entry ≡ 3 → items_of (entry ++ rest) ≡ item_in entry ∷ items_of rest
 unfolding items_of
-items-next c = cut (λ bytes entry rest. items_of bytes ≡ item_in entry ∷ items_of rest) (λ x. refl) (λ x y. refl) (λ x y z rest. refl) c
+items_first [] rest e = absurd (omega arith)
+items_first (x ∷ []) rest e = absurd (omega arith)
+items_first (x ∷ y ∷ []) rest e = absurd (omega arith)
+items_first (x ∷ y ∷ z ∷ []) rest e = refl
+items_first (x ∷ y ∷ z ∷ w ∷ entry) rest e = absurd (omega arith)
 
-pub items_none : (bytes : List ℕ) → length bytes ≡ 0 → items_of bytes ≡ []
+pub items-next : {bytes entry rest : List ℕ} → Takes bytes entry rest → items_of bytes ≡ item_in entry ∷ items_of rest
+items-next {bytes} {entry} {rest} t = ap items_of t.are ∙ items_first entry rest t.three
+
+pub items_none : (bytes : List ℕ) → length bytes < 3 → items_of bytes ≡ []
 unfolding items_of
-items_none bytes z = rw (nil_from_length bytes z)
+items_none [] h = refl
+items_none (x ∷ []) h = refl
+items_none (x ∷ y ∷ []) h = refl
+items_none (x ∷ y ∷ z ∷ bytes) h = absurd (omega arith)
 
 -- the first entry decides, or what is behind it
 abbrev pub found_first : Result Item Why → (rest : List ℕ) → Result Unit Flaw
@@ -98,8 +128,8 @@ module _ {found : Result Unit Flaw} where
         go (Ok x) = refl
         go (Err f) = let e : f.number + 1 + k ≡ f.number + (k + 1) = omega arith in rw e
 
-    pub found-flaw : {why : Why} → entry_in entry ≡ Err why → Err (flaw_at (k + 1) why) ≡ found
-    found-flaw q = let n : k + 1 ≡ 1 + k = omega arith in sym (e ∙ rw (found-next c, q, ← n))
+    pub found-no : {why : Why} → entry_in entry ≡ Err why → Err (flaw_at (k + 1) why) ≡ found
+    found-no q = let n : k + 1 ≡ 1 + k = omega arith in sym (e ∙ rw (found-next c, q, ← n))
 
   pub found_all : (k : ℕ) (bytes : List ℕ) → length bytes ≡ 0 → found ≡ behind k (found_in (listed bytes)) → Ok tt ≡ found
   unfolding listed

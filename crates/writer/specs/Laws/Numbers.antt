@@ -66,3 +66,18 @@ code_fits (Word x) = omega arith
 code_fits (SetPage page) = omega arith
 code_fits Restore = omega arith
 code_fits (Move x) = omega arith
+
+-- as the code finds it
+module _ (i : Item) (x r : ℕ) (e : r ≡ x) where
+  pub code-byte : i ≡ Byte x → r < 256 → r ≡ code_of i
+  code-byte q h = rw q (omega arith)
+
+  module _ (h : r < 65536) where
+    pub code-word : i ≡ Word x → 262144 + r ≡ code_of i
+    code-word q = rw q (omega arith)
+
+    pub code-page : i ≡ SetPage x → 80 + r % 4 ≡ code_of i
+    code-page q = rw q (omega arith)
+
+    pub code-move : i ≡ Move x → 720896 + r ≡ code_of i
+    code-move q = rw q (omega arith)

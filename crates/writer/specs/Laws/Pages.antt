@@ -1,5 +1,5 @@
 -- The page rule, as the code finds it.
-use Rattle.std.specs.Prelude.{◌≡◌, Bool, ◌&&◌, ◌||◌, List, ◌∷◌, ℕ, ◌+◌, ltb, length, Result, Ok, Err}
+use Rattle.std.specs.Prelude.{◌≡◌, Bool, ◌&&◌, ◌||◌, List, ◌∷◌, ℕ, ◌+◌, ◌<◌, ltb, length, Result, Ok, Err}
 use Rattle.std.proofs.Math.Path.{refl}
 use Rattle.std.proofs.Common.{sym, ap, ◌∙◌, ltb-false}
 use Rattle.std.proofs.Math.Bool.{true, false, cond}
@@ -14,7 +14,7 @@ use Rattle.modules.specs.declared.Refusal.TheVariants.{Page, Range}
 use Rattle.writer.specs.Definition.Writing.{page_above, refuses_from}
 use Rattle.writer.specs.Within.Entries.{item_in, items_of}
 use Rattle.writer.specs.Within.Pages.{page_act}
-use Rattle.writer.specs.Laws.Entries.{Cuts, items-next, items_none}
+use Rattle.writer.specs.Laws.Entries.{Takes, items-next, items_none}
 
 -- where the page rule passes an item, it sets a page
 pub below_paged : (i : Item) (above : Bool) → above ≡ page_above i → above ≡ false → Paged i
@@ -53,14 +53,14 @@ module _ (start : ℕ) (c : Counter) (i : Item) (items : List Item) (act : Resul
       go true w = refl
       go false w = cc
 
-pub refuses-none : (start : ℕ) (c : Counter) (bytes : List ℕ) → length bytes ≡ 0 → refuses_from start c (items_of bytes) ≡ false
+pub refuses-none : (start : ℕ) (c : Counter) (bytes : List ℕ) → length bytes < 3 → refuses_from start c (items_of bytes) ≡ false
 unfolding refuses_from
-refuses-none start c bytes z = rw (items_none bytes z)
+refuses-none start c bytes h = rw (items_none bytes h)
 
 -- the item that stands first, where the rest of a list is asked
-module _ {bytes entry rest : List ℕ} (k : Cuts bytes entry rest) (start : ℕ) (c : Counter) (i : Item) (act : Result Counter Refusal) (q : i ≡ item_in entry) (e : act ≡ page_act start c i) where
+module _ {bytes entry rest : List ℕ} (t : Takes bytes entry rest) (start : ℕ) (c : Counter) (i : Item) (act : Result Counter Refusal) (q : i ≡ item_in entry) (e : act ≡ page_act start c i) where
   stands : refuses_from start c (items_of bytes) ≡ refuses_from start c (i ∷ items_of rest)
-  stands = ap (refuses_from start c) (items-next k ∙ rw (← q))
+  stands = ap (refuses_from start c) (items-next t ∙ rw (← q))
 
   pub refuses-goes : (d : Counter) → act ≡ Ok d → refuses_from start c (items_of bytes) ≡ refuses_from start d (items_of rest)
   refuses-goes d w = stands ∙ refuses-next start c i (items_of rest) act e d w

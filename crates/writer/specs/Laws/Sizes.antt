@@ -6,12 +6,12 @@ use Rattle.modules.specs.Definition.Items.{item_bits, all_bits}
 use Rattle.modules.specs.declared.Item.{Item}
 use Rattle.writer.specs.Within.Entries.{item_in, items_of}
 use Rattle.writer.specs.Within.Codes.{width_of}
-use Rattle.writer.specs.Laws.Entries.{Cuts, items-next, items_none}
+use Rattle.writer.specs.Laws.Entries.{Takes, items-next, items_none}
 use Rattle.writer.specs.Laws.Numbers.{item-width}
 
-module _ {bytes entry rest : List ℕ} (c : Cuts bytes entry rest) (i : Item) (e : i ≡ item_in entry) where
-  bits-next : all_bits (items_of bytes) ≡ item_bits i ++ all_bits (items_of rest)
-  bits-next = ap all_bits (items-next c) ∙ rw (← e)
+module _ {bytes entry rest : List ℕ} (t : Takes bytes entry rest) (i : Item) (e : i ≡ item_in entry) where
+  pub bits-next : all_bits (items_of bytes) ≡ item_bits i ++ all_bits (items_of rest)
+  bits-next = ap all_bits (items-next t) ∙ rw (← e)
 
   pub size-next : (w : ℕ) → w ≡ width_of i → length (all_bits (items_of bytes)) ≡ w + length (all_bits (items_of rest))
   size-next w q = ap length bits-next ∙ length-append (item_bits i) (all_bits (items_of rest)) ∙ rw (item-width i, q)
@@ -24,11 +24,11 @@ module _ {bytes entry rest : List ℕ} (c : Cuts bytes entry rest) (i : Item) (e
     pub piece-fits : length bits + length (item_bits i) ≤ length all
     piece-fits = omega (arith, ap length bits-more, length-append (bits ++ item_bits i) (all_bits (items_of rest)), length-append bits (item_bits i))
 
-pub bits-last : (bytes : List ℕ) → length bytes ≡ 0 → all_bits (items_of bytes) ≡ []
-bits-last bytes z = ap all_bits (items_none bytes z)
+pub bits-last : (bytes : List ℕ) → length bytes < 3 → all_bits (items_of bytes) ≡ []
+bits-last bytes h = ap all_bits (items_none bytes h)
 
-pub bits-all : (bytes : List ℕ) (bits all : List Bit) → length bytes ≡ 0 → bits ++ all_bits (items_of bytes) ≡ all → bits ≡ all
-bits-all bytes bits all z q = sym (append-nil bits) ∙ ap (λ (l : List Bit). bits ++ l) (sym (bits-last bytes z)) ∙ q
+pub bits-all : (bytes : List ℕ) (bits all : List Bit) → length bytes < 3 → bits ++ all_bits (items_of bytes) ≡ all → bits ≡ all
+bits-all bytes bits all h q = sym (append-nil bits) ∙ ap (λ (l : List Bit). bits ++ l) (sym (bits-last bytes h)) ∙ q
 
 -- an item has at most 7 bits for each of its bytes
 pub width-few : (entry : List ℕ) (w : ℕ) → 0 < length entry → w ≤ 20 → w ≡ width_of (item_in entry) → w ≤ 7 * length entry

@@ -25,8 +25,8 @@ unfoldable pub items_of : (bytes : List ℕ) → List Item
 unfolding entry_of
 items_of [] = []
 items_of (tag ∷ low ∷ high ∷ bytes) = item_in (tag ∷ low ∷ high ∷ []) ∷ items_of bytes
-items_of (tag ∷ []) = Restore ∷ []
-items_of (tag ∷ low ∷ []) = Restore ∷ []
+items_of (tag ∷ []) = []
+items_of (tag ∷ low ∷ []) = []
 
 -- what is found of a list
 abbrev pub found_in : Listed → Result Unit Flaw

@@ -1,5 +1,5 @@
 use Rattle.std.proofs.Common.{rules, ◌∙◌, sym}
-use Rattle.writer.specs.Laws.Entries.{cuts, found-item, found-flaw, found_all}
+use Rattle.writer.specs.Laws.Entries.{cuts, found-item, found-no, found_all}
 use Rattle.writer.proofs.entries.list_in.Goals as goal
 
 pub loop-i-preserved : goal.loop-i-preserved
@@ -12,7 +12,7 @@ pub returns-in-Err : goal.returns-in-Err
 returns-in-Err c =
     let (can, ends, three, e) = c.loop-i.invariant in
     let step = c.in-Some.ensures.steps in
-    rw step.1 (found-flaw _ (cuts three step.0.1) e (sym c.entry_of.ensures ∙ c.in-Err.is))
+    rw step.1 (found-no _ (cuts three step.0.1) e (sym c.entry_of.ensures ∙ c.in-Err.is))
 
 pub returns : goal.returns
 returns c =

@@ -2,7 +2,7 @@
 use Rattle.std.proofs.Common.{arith}
 use Rattle.writer.specs.Laws.Numbers.{item-width, code_fits}
 use Rattle.writer.specs.Laws.Packing.{adds-item}
-use Rattle.writer.proofs.Pen.put_item.Goals as goal
+use Rattle.writer.proofs.packing.Sheet.put_item.Goals as goal
 
 pub put_bits-requires : goal.put_bits-requires
 put_bits-requires c =
