@@ -11,7 +11,7 @@ pub wants-left : (code left : ℕ) → 0 < left → left ≡ wants code left
 unfolding wants
 wants-left code left h = rw (lt-ltb 0 left h)
 
-wants-none : (code : ℕ) → 12 < code → (code ≢ 13) → (code ≢ 52) → (code ≢ 54) → (code ≢ 55) → 0 ≡ wants code 0
+pub wants-none : (code : ℕ) → 12 < code → (code ≢ 13) → (code ≢ 52) → (code ≢ 54) → (code ≢ 55) → 0 ≡ wants code 0
 unfolding wants
 wants-none code h a b d e =
     let l : 12 ≤ code = omega arith in
