@@ -4,7 +4,7 @@
 ghost use Rattle.std.specs.Prelude.{◌≡◌, ◌+◌, ◌≤◌, ◌<◌, ◌^◌};
 ghost use Rattle.files.specs.Definition.Outcomes.{Got, Wrote};
 ghost use Rattle.audit.specs.Definition.Words.{line_of};
-ghost use Rattle.exos_audit.specs.Definition.Turns.{Held, in_hand, course_of, Fetched, Turned};
+ghost use Rattle.exos_audit.specs.Definition.Turns.{Held, in_hand, course_of, is_going, Fetched, Turned};
 ghost use Rattle.exos_audit.specs.Definition.Ends.{failure_of, end_of, told, byte_of};
 
 use audit::buffers::judge;
@@ -114,11 +114,20 @@ fn turn(
     }
 }
 
-// Writes the line that is a verdict's. The verdict is given for the contract alone.
-fn hand(rt: &HostRuntime, line: &[u8], verdict: Verdict) -> Result<(), Unwritten>
-    requires { line.now ≡ line_of verdict }
+// Whether there is a turn to make.
+fn is_going(s: State) -> bool
+    ensures { result ≡ is_going s.course }
 {
-    write_to(&mut rt.stdout(), line)
+    matches!(s.course, Course::Going)
+}
+
+// Writes the line that is a verdict's, and hands back how that ended.
+fn hand(rt: &HostRuntime, line: &[u8], verdict: Verdict) -> Result<Verdict, Failure>
+    requires { line.now ≡ line_of verdict }
+    ensures { (wrote : Wrote) × (result ≡ end_of verdict wrote) }
+{
+    write_to(&mut rt.stdout(), line)?;
+    Ok(verdict)
 }
 
 // Prints a verdict.
@@ -133,8 +142,7 @@ fn print(rt: &HostRuntime, verdict: Verdict) -> Result<Verdict, Failure>
     };
     put_verdict(verdict, &mut to);
     let n = to.at;
-    hand(rt, &text[..n], verdict)?;
-    Ok(verdict)
+    hand(rt, &text[..n], verdict)
 }
 
 // How the run ends, once its verdict, if it has one, is printed.
@@ -183,7 +191,7 @@ fn main(rt: HostRuntime) {
         course: Course::Going,
     };
     for _ in 0..TURNS {
-        if !matches!(s.course, Course::Going) {
+        if !is_going(s) {
             break;
         }
         s = turn(&rt, s, &mut ram, &mut out, &mut buf);

@@ -1,5 +1,5 @@
 -- What a turn of the auditing program leaves, for any outcome of its read.
-use Rattle.std.specs.Prelude.{◌≡◌, cond, eqb, List, [], ◌∷◌, ◌++◌, ℕ, ◌-◌, ◌≤◌, length, take, drop, Ok, Err}
+use Rattle.std.specs.Prelude.{◌≡◌, Bool, true, false, cond, eqb, List, [], ◌∷◌, ◌++◌, ℕ, ◌-◌, ◌≤◌, length, take, drop, Ok, Err}
 use Rattle.files.specs.Definition.Outcomes.{Got, count_of}
 use Rattle.kernel.specs.Definition.Start.{no_tables}
 use Rattle.listing.specs.Definition.NoneOrGood.{NoneOrGood}
@@ -30,6 +30,12 @@ mark_of s ram output buf = mark s.number (state_of s.due s.tables ram output) (i
 abbrev pub course_of : Got → Course
 course_of (Ok n) = cond (eqb n 0) Over Going
 course_of (Err failed) = Broken
+
+abbrev pub is_going : Course → Bool
+is_going Going = true
+is_going Over = false
+is_going Broken = false
+is_going (Faulted word) = false
 
 -- after a read: the bytes xs that were in hand stay, in their order, and the piece that came stands behind them
 pub record Fetched (xs : List ℕ) (r : State) (buf : List ℕ) (got : Got) : Type 0 where
