@@ -2,6 +2,7 @@
 #![tactic(auto)]
 
 use kernel::{Outcome, Tables};
+use text::Cursor;
 
 // The calls' kinds. One enum with events' is no plainer: that one is read from a number, and has none to print.
 #[derive(Clone, Copy)]
@@ -25,16 +26,24 @@ struct Machine<'a> {
 
 impl Machine<'_> {
     // Takes a call's tables on, and writes its line.
+    #[tactic(auto, using(text::specs::Laws::Text::handed))]
     fn took(&mut self, kind: Kind, o: Outcome) {
         self.tables = o.tables;
         let answer = o.answer;
-        let number = kind as u16;
-        let _ = println!(self.rt;
-            "{number} {} {} {}",
-            answer.number(),
-            answer.a(),
-            answer.b()
+        let mut line = [0u8; 24];
+        let mut to = Cursor {
+            text: &mut line,
+            at: 0,
+        };
+        to.fields(
+            kind as u16,
+            u16::from(answer.number()),
+            u16::from(answer.a()),
+            answer.b(),
         );
+        to.put(b'\n');
+        let n = to.at;
+        let _ = self.rt.write_all(&line[..n]);
     }
 
     // "R = 11,074, list 252 to 255, each from a fresh start."
