@@ -11,6 +11,9 @@ ghost use Rattle.exos_module.specs.Definition.Ends.{room, input_room, unread, un
 ghost use Rattle.exos_module.specs.Definition.Handed.{module_from};
 ghost use Rattle.exos_module.specs.Definition.Told.{letter_of, told_of};
 
+#[cfg(test)]
+mod tests; // the writer's sheet
+
 use files::{TOLD, Unread, Unwritten, read_all, write_named, write_to};
 use text::Cursor;
 use writer::write::write_from;

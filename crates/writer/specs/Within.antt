@@ -1,4 +1,4 @@
--- Words for functions within the writer: no sentences of the order.
+-- Words for functions within the writer and for its sheet: no sentences of the order.
 pub mod Entries
 pub mod Pages
 pub mod Codes

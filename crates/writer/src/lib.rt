@@ -9,6 +9,8 @@ mod sizes; // how many bytes a module has
 mod packing; // bits put one behind the other, in whole bytes
 pub mod write; // the writer
 
+pub use packing::Sheet; // for a crate that puts bits or items and no whole module
+
 // Why three bytes are no item: there are not three, or the tag is none; or a byte is above 255, or a restore has a value.
 #[derive(Clone, Copy)]
 pub enum Why {

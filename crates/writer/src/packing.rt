@@ -2,7 +2,7 @@
 ghost use Rattle.std.specs.Prelude.{◌≡◌, ◌*◌, ◌^◌, ◌≤◌, ◌<◌, length};
 ghost use Rattle.modules.specs.Definition.Bits.{bits_of};
 ghost use Rattle.modules.specs.Definition.Items.{item_bits, all_bits};
-ghost use Rattle.writer.specs.Within.Entries.{items_of};
+ghost use Rattle.writer.specs.Within.Entries.{items_of, items_and_left_over};
 ghost use Rattle.writer.specs.Within.Codes.{code_of};
 ghost use Rattle.writer.specs.Within.Packing.{Neat, RoomFor, Adds};
 
@@ -24,7 +24,7 @@ fn code_of(item: Item) -> usize
     }
 }
 
-// A lent buffer, and the pen that puts bits into it.
+// A lent buffer, and the pen that puts bits into it. Each call asks for a pen that holds fewer than 8 bits, in a number below 128.
 // Buffer and place are no `text::Cursor`: tried, and the proof did not close, since a caller learns nothing of a reference in a struct of a struct.
 #[derive(Drop)]
 pub struct Sheet<'a> {
@@ -58,13 +58,24 @@ impl Sheet<'_> {
         self.put_bits(code_of(item), width_of(item));
     }
 
-    // Puts all items of a list.
-    pub fn put_items(&mut self, items: &[u8])
+    // Puts the items of a list, three bytes each: a restore for three that are no item, nothing for one byte or two that are left over.
+    pub fn put_list(&mut self, items: &[u8])
         requires { Neat self.old.pen × RoomFor self.old (length (all_bits (items_of items.now))) }
         ensures { Adds self.old self.new (all_bits (items_of items.now)) }
     {
         for entry in items.chunks_exact(3) {
             self.put_item(item_of(entry));
+        }
+    }
+
+    // The same, with a restore for one byte or two that are left over.
+    pub fn put_items(&mut self, items: &[u8])
+        requires { Neat self.old.pen × RoomFor self.old (length (all_bits (items_and_left_over items.now))) }
+        ensures { Adds self.old self.new (all_bits (items_and_left_over items.now)) }
+    {
+        self.put_list(items);
+        if items.len() % 3 != 0 {
+            self.put_item(Item::Restore);
         }
     }
 }

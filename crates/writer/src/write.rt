@@ -24,7 +24,7 @@ fn put_module(items: &[u8], buffer: &mut [u8])
             count: 0,
         },
     };
-    sheet.put_items(items);
+    sheet.put_list(items);
     sheet.put_bits(6, 3);
     let padding = (8 - sheet.pen.count) % 8;
     sheet.put_bits(0, padding);

@@ -29,7 +29,7 @@ bits_in_lem (suc n) bits e =
     ∙ take-append-drop 8 bits
 
 -- and bytes are those of their bits
-bytes_back : (bytes : List ℕ) → AllBytes bytes → bytes_of (length bytes) (bits_in bytes) ≡ bytes
+pub bytes_back : (bytes : List ℕ) → AllBytes bytes → bytes_of (length bytes) (bits_in bytes) ≡ bytes
 unfolding bytes_of
 bytes_back [] small = refl
 bytes_back (x ∷ bytes) small =

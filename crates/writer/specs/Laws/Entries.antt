@@ -1,27 +1,36 @@
 -- A list of items three bytes at a time.
-use Rattle.std.specs.Prelude.{◌≡◌, ℕ, ◌+◌, ◌*◌, ◌<◌, min, List, [], ◌∷◌, ◌++◌, length, Result, Ok, Err}
+use Rattle.std.specs.Prelude.{◌≡◌, ℕ, zero, suc, ◌+◌, ◌*◌, ◌%◌, ◌<◌, min, List, [], ◌∷◌, ◌++◌, length, Result, Ok, Err}
 use Rattle.std.proofs.Common.{refl, sym, ap, ◌∙◌, arith}
 use Rattle.std.proofs.lemmas.List.{nil_from_length}
 use Rattle.modules.specs.declared.Item.{Item}
+use Rattle.modules.specs.declared.Item.TheVariants.{Restore}
 use Rattle.writer.specs.Definition.Entries.{entry_of, flaw_at, Listed, all, flawed, before, listed}
-use Rattle.writer.specs.Within.Entries.{entry_in, item_or, item_in, items_of, found_in}
+use Rattle.writer.specs.Within.Entries.{entry_in, item_or, item_in, items_of, items_and_left_over, found_in}
 use Rattle.writer.specs.declared.Why.{Why}
 use Rattle.writer.specs.declared.Flaw.{Flaw}
 
 -- ---- of a list of items they are its items
 
-listed_by : (bytes : List ℕ) (items : List Item) → ((js : List Item) → listed bytes ≡ all js → items_of bytes ≡ js) → (entry : Result Item Why) (more : Listed) → listed bytes ≡ more
-    → before entry more ≡ all items → item_or entry ∷ items_of bytes ≡ items
-listed_by bytes items known (Ok i) (all js) q e = let s = known js q in cc
-listed_by bytes items known (Ok i) (flawed f) q e = cc
-listed_by bytes items known (Err why) more q e = cc
+-- in either way to read it
+listed_by : (bytes : List ℕ) (read items : List Item) → ((js : List Item) → listed bytes ≡ all js → read ≡ js) → (entry : Result Item Why) (more : Listed) → listed bytes ≡ more
+    → before entry more ≡ all items → item_or entry ∷ read ≡ items
+listed_by bytes read items known (Ok i) (all js) q e = let s = known js q in cc
+listed_by bytes read items known (Ok i) (flawed f) q e = cc
+listed_by bytes read items known (Err why) more q e = cc
 
 pub items-listed : (bytes : List ℕ) (items : List Item) → listed bytes ≡ all items → items_of bytes ≡ items
 unfolding listed items_of
 items-listed [] items e = cc
 items-listed (x ∷ []) items e = cc
 items-listed (x ∷ y ∷ []) items e = cc
-items-listed (x ∷ y ∷ z ∷ bytes) items e = listed_by bytes items (items-listed bytes) (entry_of x (y + 256 * z)) (listed bytes) refl e
+items-listed (x ∷ y ∷ z ∷ bytes) items e = listed_by bytes (items_of bytes) items (items-listed bytes) (entry_of x (y + 256 * z)) (listed bytes) refl e
+
+pub over-listed : (bytes : List ℕ) (items : List Item) → listed bytes ≡ all items → items_and_left_over bytes ≡ items
+unfolding listed items_and_left_over
+over-listed [] items e = cc
+over-listed (x ∷ []) items e = cc
+over-listed (x ∷ y ∷ []) items e = cc
+over-listed (x ∷ y ∷ z ∷ bytes) items e = listed_by bytes (items_and_left_over bytes) items (over-listed bytes) (entry_of x (y + 256 * z)) (listed bytes) refl e
 
 -- what is found to be a list has these items
 pub found-items : (bytes : List ℕ) → Ok tt ≡ found_in (listed bytes) → listed bytes ≡ all (items_of bytes)
@@ -100,6 +109,32 @@ items_none [] h = refl
 items_none (x ∷ []) h = refl
 items_none (x ∷ y ∷ []) h = refl
 items_none (x ∷ y ∷ z ∷ bytes) h = absurd (omega arith)
+
+-- ---- and with what is left over
+
+pub over-next : {bytes entry rest : List ℕ} → Cuts bytes entry rest → items_and_left_over bytes ≡ item_in entry ∷ items_and_left_over rest
+unfolding items_and_left_over
+over-next c = cut (λ bytes entry rest. items_and_left_over bytes ≡ item_in entry ∷ items_and_left_over rest) (λ x. refl) (λ x y. refl) (λ x y z rest. refl) c
+
+pub over_none : (bytes : List ℕ) → length bytes ≡ 0 → items_and_left_over bytes ≡ []
+unfolding items_and_left_over
+over_none bytes z = rw (nil_from_length bytes z)
+
+-- the items of so many bytes that are left over: none, or a restore
+abbrev pub left_over : ℕ → List Item
+left_over zero = []
+left_over (suc n) = Restore ∷ []
+
+pub over-is : (bytes : List ℕ) → items_and_left_over bytes ≡ items_of bytes ++ left_over (length bytes % 3)
+unfolding items_of items_and_left_over
+over-is [] = refl
+over-is (x ∷ []) = refl
+over-is (x ∷ y ∷ []) = refl
+over-is (x ∷ y ∷ z ∷ bytes) =
+    let e : length (x ∷ y ∷ z ∷ bytes) % 3 ≡ length bytes % 3 = omega arith in
+    rw e (ap (λ (l : List Item). item_in (x ∷ y ∷ z ∷ []) ∷ l) (over-is bytes))
+
+-- ---- what is found of a list
 
 -- the first entry decides, or what is behind it
 abbrev pub found_first : Result Item Why → (rest : List ℕ) → Result Unit Flaw

@@ -28,6 +28,14 @@ items_of (tag ∷ low ∷ high ∷ bytes) = item_in (tag ∷ low ∷ high ∷ []
 items_of (tag ∷ []) = []
 items_of (tag ∷ low ∷ []) = []
 
+-- the same, and a restore for one byte or two that are left over
+unfoldable pub items_and_left_over : (bytes : List ℕ) → List Item
+unfolding entry_of
+items_and_left_over [] = []
+items_and_left_over (tag ∷ low ∷ high ∷ bytes) = item_in (tag ∷ low ∷ high ∷ []) ∷ items_and_left_over bytes
+items_and_left_over (tag ∷ []) = Restore ∷ []
+items_and_left_over (tag ∷ low ∷ []) = Restore ∷ []
+
 -- what is found of a list
 abbrev pub found_in : Listed → Result Unit Flaw
 found_in (all items) = Ok tt

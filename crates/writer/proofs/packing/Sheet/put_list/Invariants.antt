@@ -1,11 +1,11 @@
--- `put_items` puts an item a turn. The invariant: bits are put, and with those of the rest of the list they are all.
+-- `put_list` puts an item a turn. The invariant: bits are put, and with those of the rest of the list they are all.
 use Rattle.std.proofs.Common.{◌≡◌, List, ◌++◌}
 use Rattle.std.specs.Slice.Iter.{chunks_exact_rest, chunks_exact_size}
 use Rattle.modules.specs.Definition.Bits.{Bit}
 use Rattle.modules.specs.Definition.Items.{all_bits}
 use Rattle.writer.specs.Within.Entries.{items_of}
 use Rattle.writer.specs.Within.Packing.{Adds}
-use Rattle.writer.proofs.packing.Sheet.put_items.Given as goal
+use Rattle.writer.proofs.packing.Sheet.put_list.Given as goal
 
 abbrev pub invariant-loop-entry : goal.invariant-loop-entry
 invariant-loop-entry l =
