@@ -11,26 +11,28 @@ use Rattle.writer.specs.declared.Flaw.{Flaw}
 
 -- ---- of a list of items they are its items
 
--- in either way to read it
-listed_by : (bytes : List ℕ) (read items : List Item) → ((js : List Item) → listed bytes ≡ all js → read ≡ js) → (entry : Result Item Why) (more : Listed) → listed bytes ≡ more
-    → before entry more ≡ all items → item_or entry ∷ read ≡ items
-listed_by bytes read items known (Ok i) (all js) q e = let s = known js q in cc
-listed_by bytes read items known (Ok i) (flawed f) q e = cc
-listed_by bytes read items known (Err why) more q e = cc
+-- in any way to read it that takes three bytes for an item
+module _ (read : List ℕ → List Item) (none : read [] ≡ []) (next : (x y z : ℕ) (bytes : List ℕ) → read (x ∷ y ∷ z ∷ bytes) ≡ item_in (x ∷ y ∷ z ∷ []) ∷ read bytes) where
+  listed_by : (bytes : List ℕ) (items : List Item) → ((js : List Item) → listed bytes ≡ all js → read bytes ≡ js) → (entry : Result Item Why) (more : Listed) → listed bytes ≡ more
+      → before entry more ≡ all items → item_or entry ∷ read bytes ≡ items
+  listed_by bytes items known (Ok i) (all js) q e = let s = known js q in cc
+  listed_by bytes items known (Ok i) (flawed f) q e = cc
+  listed_by bytes items known (Err why) more q e = cc
+
+  read-listed : (bytes : List ℕ) (items : List Item) → listed bytes ≡ all items → read bytes ≡ items
+  unfolding listed
+  read-listed [] items e = none ∙ (cc)
+  read-listed (x ∷ []) items e = cc
+  read-listed (x ∷ y ∷ []) items e = cc
+  read-listed (x ∷ y ∷ z ∷ bytes) items e = next x y z bytes ∙ listed_by bytes items (read-listed bytes) (entry_of x (y + 256 * z)) (listed bytes) refl e
 
 pub items-listed : (bytes : List ℕ) (items : List Item) → listed bytes ≡ all items → items_of bytes ≡ items
-unfolding listed items_of
-items-listed [] items e = cc
-items-listed (x ∷ []) items e = cc
-items-listed (x ∷ y ∷ []) items e = cc
-items-listed (x ∷ y ∷ z ∷ bytes) items e = listed_by bytes (items_of bytes) items (items-listed bytes) (entry_of x (y + 256 * z)) (listed bytes) refl e
+unfolding items_of
+items-listed = read-listed items_of refl (λ x y z bytes. refl)
 
 pub over-listed : (bytes : List ℕ) (items : List Item) → listed bytes ≡ all items → items_and_left_over bytes ≡ items
-unfolding listed items_and_left_over
-over-listed [] items e = cc
-over-listed (x ∷ []) items e = cc
-over-listed (x ∷ y ∷ []) items e = cc
-over-listed (x ∷ y ∷ z ∷ bytes) items e = listed_by bytes (items_and_left_over bytes) items (over-listed bytes) (entry_of x (y + 256 * z)) (listed bytes) refl e
+unfolding items_and_left_over
+over-listed = read-listed items_and_left_over refl (λ x y z bytes. refl)
 
 -- what is found to be a list has these items
 pub found-items : (bytes : List ℕ) → Ok tt ≡ found_in (listed bytes) → listed bytes ≡ all (items_of bytes)

@@ -41,11 +41,14 @@ module _ {bytes entry rest : List ℕ} (t : Takes bytes entry rest) (i : Item) (
     pub piece-fits : length bits + length (item_bits i) ≤ length all
     piece-fits = read-fits items_of i taken bits all q
 
+none-behind : (bits all : List Bit) {behind : List Bit} → behind ≡ [] → bits ++ behind ≡ all → bits ≡ all
+none-behind bits all e q = sym (append-nil bits) ∙ ap (λ (l : List Bit). bits ++ l) (sym e) ∙ q
+
 pub bits-last : (bytes : List ℕ) → length bytes < 3 → all_bits (items_of bytes) ≡ []
 bits-last bytes h = ap all_bits (items_none bytes h)
 
 pub bits-all : (bytes : List ℕ) (bits all : List Bit) → length bytes < 3 → bits ++ all_bits (items_of bytes) ≡ all → bits ≡ all
-bits-all bytes bits all h q = sym (append-nil bits) ∙ ap (λ (l : List Bit). bits ++ l) (sym (bits-last bytes h)) ∙ q
+bits-all bytes bits all h q = none-behind bits all (bits-last bytes h) q
 
 -- an item has at most 7 bits for each of its bytes
 pub width-few : (entry : List ℕ) (w : ℕ) → 0 < length entry → w ≤ 20 → w ≡ width_of (item_in entry) → w ≤ 7 * length entry
@@ -71,7 +74,7 @@ pub over-last : (bytes : List ℕ) → length bytes ≡ 0 → all_bits (items_an
 over-last bytes z = ap all_bits (over_none bytes z)
 
 pub over-all : (bytes : List ℕ) (bits all : List Bit) → length bytes ≡ 0 → bits ++ all_bits (items_and_left_over bytes) ≡ all → bits ≡ all
-over-all bytes bits all z q = sym (append-nil bits) ∙ ap (λ (l : List Bit). bits ++ l) (sym (over-last bytes z)) ∙ q
+over-all bytes bits all z q = none-behind bits all (over-last bytes z) q
 
 bits_append : (xs ys : List Item) → all_bits (xs ++ ys) ≡ all_bits xs ++ all_bits ys
 bits_append [] ys = refl
